@@ -1,0 +1,2 @@
+-- The laws about the definitions of document 01.
+pub mod Tests

@@ -1,0 +1,10 @@
+-- Document 01 as definitions, in its order.
+pub mod Bytes
+pub mod Code
+pub mod Package
+pub mod Store
+pub mod Classes
+pub mod Questions
+pub mod Operations
+pub mod Ledger
+pub mod Paths
