@@ -1,2 +1,3 @@
 -- The laws about the definitions of document 01.
 pub mod Tests
+pub mod Lists

@@ -1,13 +1,13 @@
--- Tests as facts: what a test that passed says of its parts.
-use Prim.Native.Nat.{ℕ, zero, suc, _+_, _≤_, _<_, max}
+-- Tests as facts: what a test that passed says of its parts. Assumes nothing.
+use Prim.Native.Nat.{ℕ, zero, suc, _+_}
 use native.Mathlib.Omega.{arith}
 use native.Mathlib.Nat.{zero-add}
-use mathlib.Core.Path.{_≡_, refl, sym, _∙_, ap, subst}
+use mathlib.Core.Path.{_≡_, refl, sym}
 use mathlib.Core.Bool.{Bool, true, false, _&&_, _||_, not}
-use mathlib.Core.List.{List, [], _∷_, _++_, List·Memᴰ, List·Memᴰ·head, List·Memᴰ·tail, List·Memᴰ·append-cases}
+use mathlib.Core.List.{List, _∷_, List·Memᴰ, List·Memᴰ·head, List·Memᴰ·tail, List·Memᴰ·append-cases}
 use mathlib.Core.Option.{Option, none, some}
-use lib.Dec.{T, leb, ltb, eqb, leb→le, le→leb, eqb→eq, eqb-refl}
-use Rattle.rules.specs.Bytes.{Bytes, Aid, any, all, allFrom, at, find, isSome, same, someAnd, noneOr, _andThen_, flat, listOf}
+use lib.Dec.{T, eqb, eqb→eq, eqb-refl}
+use Rattle.rules.specs.Bytes.{Bytes, any, all, allFrom, at, find, same, someAnd, noneOr, _andThen_, flat, listOf}
 use mathlib.Core.Logic.{_⊎_, inl, inr}
 
 pub and-l : (a b : Bool) → T (a && b) → T a
