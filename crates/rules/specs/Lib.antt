@@ -1,6 +1,7 @@
 -- Document 01 as definitions, in its order.
 pub mod Bytes
 pub mod Code
+pub mod Table
 pub mod Package
 pub mod Store
 pub mod Classes

@@ -7,10 +7,10 @@
 -- methodOf, ..       == the part that fields make; method, .. == its reader
 -- fileMark           == mark and version
 -- readFile l f       == the package that a file behind its mark and version reads as, to its end
-use Prim.Native.Nat.{ℕ, _+_, _/_, _%_}
+use Prim.Native.Nat.{ℕ, _/_, _%_}
 use mathlib.Core.Bool.{Bool, true, false}
 use mathlib.Core.List.{List, [], _∷_}
-use mathlib.Core.Option.{Option, none, some}
+use mathlib.Core.Option.{Option}
 use lib.Dec.{leb, ltb, eqb}
 use lib.ListN.{length, drop, getD}
 use Rattle.rules.specs.Bytes.{Bytes, Aid, pick, within, Reader, _>>=_, ret, when, u1, u2, span, many, aid, counted, exactly}

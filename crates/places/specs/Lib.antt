@@ -1,0 +1,3 @@
+-- Readers at places of a slice, and the parts of a package file there.
+pub mod Reads
+pub mod Parts

@@ -1,0 +1,1 @@
+// No code: specs/ holds readers at places, proofs/ the laws about them.
