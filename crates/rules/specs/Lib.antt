@@ -9,3 +9,8 @@ pub mod Questions
 pub mod Operations
 pub mod Ledger
 pub mod Paths
+pub mod CasesForm
+pub mod CasesFiles
+pub mod CasesNumbers
+pub mod CasesLoads
+pub mod Cases

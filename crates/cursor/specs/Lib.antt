@@ -1,0 +1,3 @@
+pub mod Says
+pub mod Aids
+pub mod Limits

@@ -1,0 +1,4 @@
+-- The laws about walking one package file.
+pub mod Steps
+pub mod Walks
+pub mod Loops

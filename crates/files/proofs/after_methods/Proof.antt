@@ -1,0 +1,58 @@
+-- `files::after_methods` meets its contract: the loop passes one method a turn. Assumes nothing.
+use native.Mathlib.Omega.{arith}
+use borrow.Author.Needs.{needs}
+use Rattle.rules.specs.Bytes.{at}
+use Rattle.places.specs.Reads.{nil}
+use Rattle.files.proofs.Loops as loops
+use Rattle.files.proofs.Steps as steps
+use Rattle.files.proofs.after_methods.Statement.{statement}
+use Rattle.files.proofs.after_methods.Tie as tie
+
+abbrev Inv-loop : tie.InvT-loop
+Inv-loop s at left₀ c₀ left c = loops.MethodLoop nil nil s at left c
+
+abbrev μ-loop : tie.MeasureT-loop
+μ-loop s at left₀ c₀ left c = left
+
+shared-slice-read-wide : tie.Need-shared-slice-read-wide Inv-loop μ-loop
+shared-slice-read-wide c = steps.methods-in (c .before .before .pre)
+
+wide-requires : tie.Need-wide-requires Inv-loop μ-loop
+wide-requires c κs = search needs
+
+add-c : tie.Need-add-c Inv-loop μ-loop
+add-c c = omega (arith, steps.methods-in (c .before .before .before .pre))
+
+loop-holds : tie.Need-loop-holds Inv-loop μ-loop
+loop-holds c = loops.methods-start (c .wide .ensures .0)
+
+after-method-requires : tie.Need-after-method-requires Inv-loop μ-loop
+after-method-requires c κs = loops.methods-here (c .before .loop .inv) (c .loop-test .taken) (c .before .before .before .before .before .pre)
+
+sub-left : tie.Need-sub-left Inv-loop μ-loop
+sub-left c = omega arith
+
+loop-less : tie.Need-loop-less Inv-loop μ-loop
+loop-less c = omega arith
+
+loop-again : tie.Need-loop-again Inv-loop μ-loop
+loop-again c = loops.methods-skip (c .before .before .loop .inv) (c .before .loop-test .taken) (c .after-method .ensures)
+
+returns : tie.Need-returns Inv-loop μ-loop
+returns c = loops.methods-done (c .before .loop .inv) (c .loop-test .left)
+
+pub after-methods-spec : {M : Type 1} → statement M
+after-methods-spec =
+    tie.close
+    (tie.spec
+    Inv-loop
+    μ-loop
+    shared-slice-read-wide
+    wide-requires
+    add-c
+    loop-holds
+    after-method-requires
+    sub-left
+    loop-less
+    loop-again
+    returns)

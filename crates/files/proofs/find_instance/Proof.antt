@@ -1,0 +1,72 @@
+-- `files::find_instance` meets its contract: the loop goes on while no method passed is a non-static one of the name. Assumes nothing.
+use native.Mathlib.Omega.{arith}
+use mathlib.Core.Path.{sym, _∙_}
+use mathlib.Core.Bool.{_&&_, not}
+use lib.Dec.{eqb}
+use borrow.Author.Needs.{needs}
+use Rattle.rules.specs.Bytes.{find, at}
+use Rattle.files.proofs.Loops as loops
+use Rattle.files.proofs.Steps as steps
+use Rattle.files.proofs.find_instance.Statement.{statement}
+use Rattle.files.proofs.find_instance.Tie as tie
+
+abbrev Inv-loop : tie.InvT-loop
+Inv-loop s at name start left₀ c₀ left c = loops.MethodLoop (find (λ m. eqb (m .name) name && not (m .static))) (find (λ m. eqb (m .name) name && not (m .static))) s start left c
+
+abbrev μ-loop : tie.MeasureT-loop
+μ-loop s at name start left₀ c₀ left c = left
+
+methods-of-requires : tie.Need-methods-of-requires Inv-loop μ-loop
+methods-of-requires c κs = c .before .pre
+
+shared-slice-read-wide : tie.Need-shared-slice-read-wide Inv-loop μ-loop
+shared-slice-read-wide c = steps.methods-in (steps.methods-there (c .before .methods-of .ensures) (c .before .before .before .pre))
+
+wide-requires : tie.Need-wide-requires Inv-loop μ-loop
+wide-requires c κs = search needs
+
+add-c : tie.Need-add-c Inv-loop μ-loop
+add-c c = omega (arith, steps.methods-in (steps.methods-there (c .before .before .methods-of .ensures) (c .before .before .before .before .pre)))
+
+loop-holds : tie.Need-loop-holds Inv-loop μ-loop
+loop-holds c = loops.methods-start (c .wide .ensures .0)
+
+is-instance-requires : tie.Need-is-instance-requires Inv-loop μ-loop
+is-instance-requires c κs = loops.methods-here (c .before .loop .inv) (c .loop-test .taken) (steps.methods-there (c .before .before .before .before .methods-of .ensures) (c .before .before .before .before .before .before .pre))
+
+returns : tie.Need-returns Inv-loop μ-loop
+returns c = λ l ds k j e. loops.find-hit (λ m. eqb (m .name) (c .before .before .before .before .before .before .before .before .args .name) && not (m .static)) (c .before .before .before .loop .inv) (c .before .before .loop-test .taken) (λ l ds m j q. sym (c .before .is-instance .ensures l ds m j q) ∙ c .if1 .taken) l ds (k .methods) j (c .before .before .before .before .before .before .methods-of .ensures l ds k j e)
+
+after-method-requires : tie.Need-after-method-requires Inv-loop μ-loop
+after-method-requires c κs = loops.methods-here (c .before .before .before .loop .inv) (c .before .before .loop-test .taken) (steps.methods-there (c .before .before .before .before .before .before .methods-of .ensures) (c .before .before .before .before .before .before .before .before .pre))
+
+sub-left : tie.Need-sub-left Inv-loop μ-loop
+sub-left c = omega arith
+
+loop-less : tie.Need-loop-less Inv-loop μ-loop
+loop-less c = omega arith
+
+loop-again : tie.Need-loop-again Inv-loop μ-loop
+loop-again c = loops.find-miss (λ m. eqb (m .name) (c .before .before .before .before .before .before .before .before .before .args .name) && not (m .static)) (c .before .before .before .before .loop .inv) (c .before .before .before .loop-test .taken) (λ l ds m j q. sym (c .before .before .is-instance .ensures l ds m j q) ∙ c .before .if1 .left) (c .after-method .ensures)
+
+returns-2 : tie.Need-returns-2 Inv-loop μ-loop
+returns-2 c = λ l ds k j e. loops.find-none (λ m. eqb (m .name) (c .before .before .before .before .before .before .args .name) && not (m .static)) (c .before .loop .inv) (c .loop-test .left) l ds (k .methods) j (c .before .before .before .before .methods-of .ensures l ds k j e)
+
+pub find-instance-spec : {M : Type 1} → statement M
+find-instance-spec =
+    tie.close
+    (tie.spec
+    Inv-loop
+    μ-loop
+    methods-of-requires
+    shared-slice-read-wide
+    wide-requires
+    add-c
+    loop-holds
+    is-instance-requires
+    returns
+    after-method-requires
+    sub-left
+    loop-less
+    loop-again
+    returns-2)

@@ -1,0 +1,65 @@
+-- `files::nth_class` meets its contract: the loop passes one class a turn, counting the number down. Assumes nothing.
+use native.Mathlib.Omega.{arith}
+use borrow.Author.Needs.{needs}
+use Rattle.rules.specs.Bytes.{at}
+use Rattle.files.proofs.Loops as loops
+use Rattle.files.proofs.Steps as steps
+use Rattle.files.proofs.nth_class.Statement.{statement}
+use Rattle.files.proofs.nth_class.Tie as tie
+
+abbrev Inv-loop : tie.InvT-loop
+Inv-loop s i k left₀ c₀ j₀ left c j = loops.ClassLoop (λ xs. at xs k) (λ ys. at ys j) s i left c
+
+abbrev μ-loop : tie.MeasureT-loop
+μ-loop s at k left₀ c₀ j₀ left c j = left
+
+shared-slice-read-wide : tie.Need-shared-slice-read-wide Inv-loop μ-loop
+shared-slice-read-wide c = steps.classes-in (c .before .before .pre)
+
+wide-requires : tie.Need-wide-requires Inv-loop μ-loop
+wide-requires c κs = search needs
+
+add-c : tie.Need-add-c Inv-loop μ-loop
+add-c c = omega (arith, steps.classes-in (c .before .before .before .pre))
+
+loop-holds : tie.Need-loop-holds Inv-loop μ-loop
+loop-holds c = loops.classes-start (c .wide .ensures .0)
+
+returns : tie.Need-returns Inv-loop μ-loop
+returns c = loops.classes-hit (c .before .before .loop .inv) (c .before .loop-test .taken) (c .if1 .taken)
+
+after-class-requires : tie.Need-after-class-requires Inv-loop μ-loop
+after-class-requires c κs = loops.classes-here (c .before .before .loop .inv) (c .before .loop-test .taken) (c .before .before .before .before .before .before .pre)
+
+sub-left : tie.Need-sub-left Inv-loop μ-loop
+sub-left c = omega arith
+
+sub-j : tie.Need-sub-j Inv-loop μ-loop
+sub-j c = omega arith
+
+loop-less : tie.Need-loop-less Inv-loop μ-loop
+loop-less c = omega arith
+
+loop-again : tie.Need-loop-again Inv-loop μ-loop
+loop-again c = loops.classes-miss (c .before .before .before .loop .inv) (c .before .before .loop-test .taken) (c .before .if1 .left) (c .after-class .ensures)
+
+returns-2 : tie.Need-returns-2 Inv-loop μ-loop
+returns-2 c = loops.classes-none (c .before .loop .inv) (c .loop-test .left)
+
+pub nth-class-spec : {M : Type 1} → statement M
+nth-class-spec =
+    tie.close
+    (tie.spec
+    Inv-loop
+    μ-loop
+    shared-slice-read-wide
+    wide-requires
+    add-c
+    loop-holds
+    returns
+    after-class-requires
+    sub-left
+    sub-j
+    loop-less
+    loop-again
+    returns-2)

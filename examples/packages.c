@@ -1,0 +1,257 @@
+/* Writes the package files of the example week, field by field as document 01 lays them out. */
+#include "packages.h"
+
+#include <stdio.h>
+#include <stdlib.h>
+
+const struct aid CANTEEN = {"canteen", 5, {0xA0, 0x00, 0x00, 0x00, 0xC1}};
+const struct aid DIRECTORY = {"directory", 5, {0xA0, 0x00, 0x00, 0x00, 0xD1}};
+const struct aid PHARMACY = {"pharmacy", 5, {0xA0, 0x00, 0x00, 0x00, 0xF1}};
+const struct aid RADIOLOGY = {"radiology", 5, {0xA0, 0x00, 0x00, 0x00, 0xE1}};
+
+const struct aid MEALS = {"meals", 6, {0xA0, 0x00, 0x00, 0x00, 0xC1, 0x01}};
+const struct aid TREATS = {"treats", 6, {0xA0, 0x00, 0x00, 0x00, 0xC1, 0x02}};
+const struct aid STATEMENTS = {"statements", 6, {0xA0, 0x00, 0x00, 0x00, 0xD1, 0x01}};
+const struct aid REQUESTS = {"requests", 6, {0xA0, 0x00, 0x00, 0x00, 0xD1, 0x02}};
+const struct aid DIET = {"diet", 6, {0xA0, 0x00, 0x00, 0x00, 0xF1, 0x01}};
+const struct aid CABINET = {"cabinet", 6, {0xA0, 0x00, 0x00, 0x00, 0xF1, 0x02}};
+
+/* Where the size of the whole file stands: behind the mark and the version. */
+enum { SIZE_PLACE = 5 };
+
+/* Class kinds and the bits of a method. */
+enum { KIND_CLASS = 0 };
+enum { VISIBLE = 0x80, IMPLEMENTED = 0x40, STATIC = 0x20 };
+
+/* Package numbers in references and parents. */
+enum { OWN = 0, IMPORT_1 = 1 };
+
+static void put_u1(struct file *file, unsigned value)
+{
+    if (file->length == sizeof file->bytes || value > 0xFF) {
+        fputs("packages: a field or a file is too long\n", stderr);
+        exit(2);
+    }
+    file->bytes[file->length] = (uint8_t)value;
+    file->length += 1;
+}
+
+/* The high byte comes first. */
+static void put_u2(struct file *file, unsigned value)
+{
+    put_u1(file, value / 256);
+    put_u1(file, value % 256);
+}
+
+static void put_bytes(struct file *file, const uint8_t *bytes, size_t length)
+{
+    for (size_t i = 0; i < length; i++) {
+        put_u1(file, bytes[i]);
+    }
+}
+
+/* An AID with its length. */
+static void put_aid(struct file *file, const struct aid *aid)
+{
+    put_u1(file, (unsigned)aid->length);
+    put_bytes(file, aid->bytes, aid->length);
+}
+
+/* Mark, version, a size that end_file fills in, and the package AID. */
+static void begin_file(struct file *file, const struct aid *package)
+{
+    static const uint8_t mark_and_version[] = {'B', 'P', 'K', 0x00, 0x01};
+
+    file->length = 0;
+    put_bytes(file, mark_and_version, sizeof mark_and_version);
+    put_u2(file, 0);
+    put_aid(file, package);
+}
+
+static void end_file(struct file *file)
+{
+    file->bytes[SIZE_PLACE] = (uint8_t)(file->length / 256);
+    file->bytes[SIZE_PLACE + 1] = (uint8_t)(file->length % 256);
+}
+
+/* The domain list: every file of the week has these three, so that a policy's indexes are 0, 1, 2. */
+static void put_domains(struct file *file)
+{
+    put_u1(file, 3);
+    put_aid(file, &CANTEEN);
+    put_aid(file, &DIRECTORY);
+    put_aid(file, &PHARMACY);
+}
+
+static void put_no_imports(struct file *file)
+{
+    put_u1(file, 0);
+}
+
+static void put_one_import(struct file *file, const struct aid *package)
+{
+    put_u1(file, 1);
+    put_aid(file, package);
+}
+
+static void put_no_references(struct file *file)
+{
+    put_u2(file, 0);
+}
+
+/* Reference 0: a method of class 0 of a package. */
+static void put_one_reference(struct file *file, unsigned package, unsigned name)
+{
+    put_u2(file, 1);
+    put_u1(file, package);
+    put_u1(file, 0);
+    put_u2(file, name);
+}
+
+/* One class without parents, and the number of its methods, which follow. */
+static void put_one_class(struct file *file, unsigned methods)
+{
+    put_u1(file, 1);
+    put_u1(file, KIND_CLASS);
+    put_u1(file, 0);
+    put_u1(file, methods);
+}
+
+/* One class whose parent is class 0 of a package, and the number of its methods, which follow. */
+static void put_one_class_below(struct file *file, unsigned package, unsigned methods)
+{
+    put_u1(file, 1);
+    put_u1(file, KIND_CLASS);
+    put_u1(file, 1);
+    put_u1(file, package);
+    put_u1(file, 0);
+    put_u1(file, methods);
+}
+
+/* The allowed count, and the index of each domain of the set. */
+static void put_allowed(struct file *file, unsigned allowed)
+{
+    unsigned count = 0;
+
+    for (unsigned i = 0; i < 3; i++) {
+        count += allowed >> i & 1u;
+    }
+    put_u1(file, count);
+    for (unsigned i = 0; i < 3; i++) {
+        if (allowed >> i & 1u) {
+            put_u1(file, i);
+        }
+    }
+}
+
+/* An implemented method: bits, name, allowed domains, code. */
+static void put_method(struct file *file, unsigned bits, unsigned name, unsigned allowed,
+                       const uint8_t *code, size_t code_length)
+{
+    put_u1(file, bits | IMPLEMENTED);
+    put_u2(file, name);
+    put_allowed(file, allowed);
+    put_u2(file, (unsigned)code_length);
+    put_bytes(file, code, code_length);
+}
+
+/* Code that does nothing but call the static method of reference 0. */
+static const uint8_t call_and_return[] = {
+    0x8D, 0x00, 0x00, /* invokestatic, reference 0 */
+    0x7A              /* return */
+};
+
+void write_meals(struct file *file)
+{
+    static const uint8_t price_code[] = {
+        0x08, /* sconst_5 */
+        0x78  /* sreturn */
+    };
+    static const uint8_t order_code[] = {
+        0x18,             /* aload_0: the meal */
+        0x8B, 0x00, 0x00, /* invokevirtual, reference 0: its price */
+        0x78              /* sreturn */
+    };
+
+    begin_file(file, &MEALS);
+    put_domains(file);
+    put_no_imports(file);
+    put_one_reference(file, OWN, NAME_PRICE);
+    put_one_class(file, 2);
+    put_method(file, VISIBLE, NAME_PRICE, BY_CANTEEN | BY_DIRECTORY, price_code, sizeof price_code);
+    put_method(file, VISIBLE | STATIC, NAME_ORDER, BY_CANTEEN | BY_DIRECTORY, order_code,
+               sizeof order_code);
+    end_file(file);
+}
+
+void write_statements(struct file *file, unsigned statement_allows)
+{
+    static const uint8_t statement_code[] = {
+        0x18,             /* aload_0: the meal */
+        0x8D, 0x00, 0x00, /* invokestatic, reference 0: order it */
+        0x78              /* sreturn */
+    };
+
+    begin_file(file, &STATEMENTS);
+    put_domains(file);
+    put_one_import(file, &MEALS);
+    put_one_reference(file, IMPORT_1, NAME_ORDER);
+    put_one_class(file, 1);
+    put_method(file, VISIBLE | STATIC, NAME_STATEMENT, statement_allows, statement_code,
+               sizeof statement_code);
+    end_file(file);
+}
+
+void write_diet(struct file *file, unsigned price_allows)
+{
+    static const uint8_t price_code[] = {
+        0x06, /* sconst_3 */
+        0x78  /* sreturn */
+    };
+
+    begin_file(file, &DIET);
+    put_domains(file);
+    put_one_import(file, &MEALS);
+    put_no_references(file);
+    put_one_class_below(file, IMPORT_1, 1);
+    put_method(file, VISIBLE, NAME_PRICE, price_allows, price_code, sizeof price_code);
+    end_file(file);
+}
+
+void write_cabinet(struct file *file)
+{
+    static const uint8_t book_code[] = {0x7A /* return */};
+
+    begin_file(file, &CABINET);
+    put_domains(file);
+    put_no_imports(file);
+    put_no_references(file);
+    put_one_class(file, 1);
+    put_method(file, VISIBLE | STATIC, NAME_BOOK, BY_DIRECTORY | BY_PHARMACY, book_code,
+               sizeof book_code);
+    end_file(file);
+}
+
+void write_requests(struct file *file, unsigned forward_allows)
+{
+    begin_file(file, &REQUESTS);
+    put_domains(file);
+    put_one_import(file, &CABINET);
+    put_one_reference(file, IMPORT_1, NAME_BOOK);
+    put_one_class(file, 1);
+    put_method(file, VISIBLE | STATIC, NAME_FORWARD, forward_allows, call_and_return,
+               sizeof call_and_return);
+    end_file(file);
+}
+
+void write_treats(struct file *file)
+{
+    begin_file(file, &TREATS);
+    put_domains(file);
+    put_one_import(file, &REQUESTS);
+    put_one_reference(file, IMPORT_1, NAME_FORWARD);
+    put_one_class(file, 1);
+    put_method(file, VISIBLE | STATIC, NAME_TREAT, BY_NONE, call_and_return,
+               sizeof call_and_return);
+    end_file(file);
+}

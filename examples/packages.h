@@ -1,0 +1,65 @@
+/* The domains and package files of the example week. */
+#ifndef PACKAGES_H
+#define PACKAGES_H
+
+#include <stddef.h>
+#include <stdint.h>
+
+#include "loader.h"
+
+/* An AID, and what the example calls it. */
+struct aid {
+    const char *name;
+    size_t length;
+    uint8_t bytes[LOADER_AID_MOST];
+};
+
+/* Domains: the canteen, the staff directory and the pharmacy; radiology is never created. */
+extern const struct aid CANTEEN, DIRECTORY, PHARMACY, RADIOLOGY;
+
+/* Packages: each vendor's bytes and a number of its own. */
+extern const struct aid MEALS, TREATS, STATEMENTS, REQUESTS, DIET, CABINET;
+
+/* Method names. A name stands for name and descriptor. */
+enum {
+    NAME_PRICE = 0x0101,
+    NAME_ORDER = 0x0102,
+    NAME_TREAT = 0x0103,
+    NAME_STATEMENT = 0x0201,
+    NAME_FORWARD = 0x0202,
+    NAME_BOOK = 0x0301
+};
+
+/* The domains that a method allows, as a set. */
+enum {
+    BY_NONE = 0,
+    BY_CANTEEN = 1,
+    BY_DIRECTORY = 2,
+    BY_PHARMACY = 4
+};
+
+/* A package file while it is written. */
+struct file {
+    size_t length;
+    uint8_t bytes[256];
+};
+
+/* Canteen: class 0, a meal with its price; order asks for the price of whatever meal it is given. */
+void write_meals(struct file *file);
+
+/* Directory: statement orders a meal, through the canteen's package. */
+void write_statements(struct file *file, unsigned statement_allows);
+
+/* Pharmacy: class 0, a diet meal below the canteen's meal, with a price of its own. */
+void write_diet(struct file *file, unsigned price_allows);
+
+/* Pharmacy: book takes a drug out of the cabinet; the directory and the pharmacy may call it. */
+void write_cabinet(struct file *file);
+
+/* Directory: forward calls book. */
+void write_requests(struct file *file, unsigned forward_allows);
+
+/* Canteen: treat calls the directory's forward; it allows no domain. */
+void write_treats(struct file *file);
+
+#endif

@@ -1,0 +1,382 @@
+/*
+ * A week of a staff card, as the card's operating system would call the loader.
+ *
+ *     week         lives through the week and tells it, a line for each call
+ *     week card    prints the same calls as lines for the simulated card
+ *
+ * Every answer is compared with the one expected, and after a refusal every byte
+ * of the store with what it was. Exit status: 0 if all are as expected, 1 if one
+ * is not, 2 for another argument.
+ */
+#include <stdarg.h>
+#include <stdbool.h>
+#include <stdint.h>
+#include <stdio.h>
+#include <string.h>
+
+#include "loader.h"
+#include "packages.h"
+
+/* The simulated card's store has as many bytes, so both count the same used. */
+enum { CARD_BYTES = 8192 };
+
+/* Behind the seven opening bytes, the entry's kind, its length and the first four bytes of the AID. */
+enum { LAST_BYTE_OF_FIRST_DOMAIN = 7 + 1 + 2 + 4 };
+
+/* A store that is lent to the loader; only calls on a scripted one are lines for the simulated card. */
+struct store {
+    uint8_t *bytes;
+    size_t length;
+    bool scripted;
+};
+
+static uint8_t card_bytes[CARD_BYTES];
+static uint8_t copy_bytes[CARD_BYTES];
+static const struct store card = {card_bytes, sizeof card_bytes, true};
+static const struct store trial = {copy_bytes, sizeof copy_bytes, true};
+static const struct store damaged = {copy_bytes, sizeof copy_bytes, false};
+static const struct store small = {copy_bytes, LOADER_STORE_LEAST, false};
+static const struct store too_small = {copy_bytes, LOADER_STORE_LEAST - 1, false};
+
+/* The store's bytes before a call. */
+static uint8_t before[CARD_BYTES];
+
+static bool telling = true;
+static bool as_expected = true;
+
+static const char *const meaning[] = {
+    [LOADER_DONE] = "done",
+    [LOADER_STORE_SIZE] = "the store has not 64 to 65,535 bytes",
+    [LOADER_STORE_UNSOUND] = "the store is not sound",
+    [LOADER_AID_LENGTH] = "an AID has not 5 to 16 bytes",
+    [LOADER_DOMAIN_EXISTS] = "the domain exists already",
+    [LOADER_DOMAIN_UNKNOWN] = "the domain has not been created",
+    [LOADER_DOMAIN_OCCUPIED] = "a package lies in the domain",
+    [LOADER_PACKAGE_UNKNOWN] = "the package is not installed",
+    [LOADER_PACKAGE_IMPORTED] = "another package imports it",
+    [LOADER_METHOD_UNKNOWN] = "the package has no such class or method",
+    [LOADER_FILE_MARK] = "the file does not begin with mark and version",
+    [LOADER_FILE_LAYOUT] = "the file does not read as laid out",
+    [LOADER_PACKAGE_EXISTS] = "the package is installed already",
+    [LOADER_IMPORT_MISSING] = "an import is not installed",
+    [LOADER_CLASS_PARENTS] = "a class has a parent that it may not have, or is too deep",
+    [LOADER_METHOD_FORM] = "a method's name is taken, or its form is not that of its class",
+    [LOADER_CODE_SPLIT] = "a code does not split into instructions",
+    [LOADER_BRANCH_TARGET] = "a branch goes where no instruction starts",
+    [LOADER_CALL_REFERENCE] = "a call names no method that it may call",
+    [LOADER_CALL_POLICY] = "a method called does not allow all that it must",
+    [LOADER_RUNNING_POLICY] = "a method that runs does not allow all that it must",
+    [LOADER_STORE_FULL] = "the entry does not fit"
+};
+
+/* A sentence of the story. */
+static void say(const char *text)
+{
+    if (telling) {
+        puts(text);
+    }
+}
+
+/* Tells of an answer or a store that is not as expected. */
+static void unexpected(const char *asked, const char *answer)
+{
+    fprintf(stderr, "week: %s: not expected: %s\n", asked, answer);
+    as_expected = false;
+}
+
+/* Called before each call of the loader. */
+static void remember(struct store store)
+{
+    memcpy(before, store.bytes, store.length);
+}
+
+/* Used, as the store's bytes 5 and 6 say. */
+static unsigned used(struct store store)
+{
+    return store.bytes[5] * 256u + store.bytes[6];
+}
+
+/* A call with its answer: what was asked, number, used after it, remark. */
+static void row(struct store store, uint32_t answer, uint32_t expected, const char *remark,
+                const char *format, ...)
+{
+    uint32_t number = LOADER_NUMBER(answer);
+    char asked[80];
+    va_list arguments;
+
+    va_start(arguments, format);
+    vsnprintf(asked, sizeof asked, format, arguments);
+    va_end(arguments);
+    if (number != LOADER_DONE) {
+        remark = number <= LOADER_STORE_FULL ? meaning[number] : "no number of the loader";
+        if (LOADER_FIGURE(answer) != 0 || memcmp(before, store.bytes, store.length) != 0) {
+            unexpected(asked, "a refusal with a figure, or one that changed the store");
+        }
+    }
+    if (number != expected) {
+        unexpected(asked, remark);
+    }
+    if (telling) {
+        printf("  %-47s %2u   used %3u   %s\n", asked, (unsigned)number, used(store), remark);
+    }
+}
+
+static void print_hex(const uint8_t *bytes, size_t length)
+{
+    putchar(' ');
+    for (size_t i = 0; i < length; i++) {
+        printf("%02X", bytes[i]);
+    }
+}
+
+/* A line for the simulated card: a letter, an AID and, for a load, the file. */
+static void line(struct store store, char letter, const struct aid *aid, const struct file *file)
+{
+    if (telling || !store.scripted) {
+        return;
+    }
+    putchar(letter);
+    print_hex(aid->bytes, aid->length);
+    if (file != NULL) {
+        print_hex(file->bytes, file->length);
+    }
+    putchar('\n');
+}
+
+static void fresh(struct store store, uint32_t expected)
+{
+    remember(store);
+    row(store, loader_fresh(store.bytes, store.length), expected, meaning[LOADER_DONE],
+        "fresh store of %u bytes", (unsigned)store.length);
+}
+
+static void create(struct store store, const struct aid *domain, uint32_t expected)
+{
+    remember(store);
+    row(store, loader_create(store.bytes, store.length, domain->bytes, domain->length), expected,
+        meaning[LOADER_DONE], "create domain %s", domain->name);
+    line(store, 'C', domain, NULL);
+}
+
+static void delete_domain(struct store store, const struct aid *domain, uint32_t expected)
+{
+    remember(store);
+    row(store, loader_delete(store.bytes, store.length, domain->bytes, domain->length), expected,
+        meaning[LOADER_DONE], "delete domain %s", domain->name);
+    line(store, 'D', domain, NULL);
+}
+
+static void remove_package(struct store store, const struct aid *package, uint32_t expected)
+{
+    remember(store);
+    row(store, loader_remove(store.bytes, store.length, package->bytes, package->length), expected,
+        meaning[LOADER_DONE], "remove package %s", package->name);
+    line(store, 'R', package, NULL);
+}
+
+/* A load. The depth figure may be anything from the depth of the deepest class to 8. */
+static uint32_t load(struct store store, const char *what, const struct aid *domain,
+                     const struct file *file, unsigned deepest, uint32_t expected)
+{
+    uint32_t answer;
+    char remark[40];
+
+    remember(store);
+    answer = loader_load(store.bytes, store.length, domain->bytes, domain->length, file->bytes,
+                         file->length);
+    snprintf(remark, sizeof remark, "done, deepest class %u", deepest);
+    row(store, answer, expected, remark, "load %s into %s", what, domain->name);
+    line(store, 'L', domain, file);
+    if (LOADER_NUMBER(answer) == LOADER_DONE
+        && (LOADER_FIGURE(answer) < deepest || LOADER_FIGURE(answer) > LOADER_DEPTH_MOST)) {
+        unexpected(what, "a depth figure outside its bounds");
+    }
+    return LOADER_NUMBER(answer);
+}
+
+/* Tries a load on a copy of the card. The simulated card has no copy: it loads and removes again. */
+static void try_load(const char *what, const struct aid *domain, const struct file *file,
+                     const struct aid *package, unsigned deepest, uint32_t expected)
+{
+    memcpy(copy_bytes, card_bytes, sizeof copy_bytes);
+    if (load(trial, what, domain, file, deepest, expected) == LOADER_DONE) {
+        line(trial, 'R', package, NULL);
+    }
+}
+
+/* Asks who may call a method of class 0 of a package. */
+static void query(const struct aid *domain, const struct aid *package, const char *method,
+                  unsigned name, bool yes, uint32_t expected)
+{
+    uint32_t answer;
+
+    remember(card);
+    answer = loader_query(card.bytes, card.length, domain->bytes, domain->length, package->bytes,
+                          package->length, 0, (uint16_t)name);
+    row(card, answer, expected, LOADER_FIGURE(answer) == 1 ? "yes" : "no", "may %s call %s of %s?",
+        domain->name, method, package->name);
+    if (LOADER_FIGURE(answer) != (yes ? 1u : 0u) || memcmp(before, card.bytes, card.length) != 0) {
+        unexpected(method, "this yes or no, or a query that changed the store");
+    }
+}
+
+static void monday(void)
+{
+    struct file meals;
+
+    say("Monday: a fresh card, three domains, and the canteen's meals.");
+    fresh(card, LOADER_DONE);
+    create(card, &CANTEEN, LOADER_DONE);
+    create(card, &DIRECTORY, LOADER_DONE);
+    create(card, &PHARMACY, LOADER_DONE);
+    write_meals(&meals);
+    load(card, "meals", &CANTEEN, &meals, 1, LOADER_DONE);
+}
+
+static void tuesday(void)
+{
+    static uint8_t card_on_monday[CARD_BYTES];
+    struct file statements;
+
+    memcpy(card_on_monday, card_bytes, sizeof card_on_monday);
+    say("Tuesday: the directory's statements are tried on a copy of the card.\n"
+        "  Their first draft is open to the pharmacy, but calls order of meals, which is not.");
+    write_statements(&statements, BY_DIRECTORY | BY_PHARMACY);
+    try_load("statements, draft,", &DIRECTORY, &statements, &STATEMENTS, 1, LOADER_CALL_POLICY);
+    write_statements(&statements, BY_DIRECTORY);
+    try_load("statements", &DIRECTORY, &statements, &STATEMENTS, 1, LOADER_DONE);
+    if (memcmp(card_on_monday, card_bytes, sizeof card_on_monday) == 0) {
+        say("  The card itself has every byte of Monday.");
+    } else {
+        unexpected("a try on a copy", "it changed the card");
+    }
+}
+
+/* Bad input that the simulated card can be given too. */
+static void wednesday_on_the_card(void)
+{
+    static const struct aid four_bytes = {"A0000000", 4, {0xA0, 0x00, 0x00, 0x00}};
+    struct file file;
+
+    create(card, &four_bytes, LOADER_AID_LENGTH);
+    create(card, &CANTEEN, LOADER_DOMAIN_EXISTS);
+    remove_package(card, &STATEMENTS, LOADER_PACKAGE_UNKNOWN);
+    write_meals(&file);
+    load(card, "meals", &RADIOLOGY, &file, 1, LOADER_DOMAIN_UNKNOWN);
+    load(card, "meals again", &CANTEEN, &file, 1, LOADER_PACKAGE_EXISTS);
+    file.length -= 1;
+    load(card, "meals, the last byte missing,", &CANTEEN, &file, 1, LOADER_FILE_LAYOUT);
+    file.bytes[0] = 'X';
+    load(card, "meals, another mark,", &CANTEEN, &file, 1, LOADER_FILE_MARK);
+    write_requests(&file, BY_DIRECTORY);
+    load(card, "requests, before cabinet,", &DIRECTORY, &file, 1, LOADER_IMPORT_MISSING);
+    if (!telling) {
+        puts("C a0000000e1");
+    }
+}
+
+static void wednesday(void)
+{
+    struct file meals;
+
+    say("Wednesday: bad input. A refusal leaves every byte of the store.");
+    wednesday_on_the_card();
+    say("  Other stores: one of 63 bytes, one of 64, and a copy of the card with one bit turned in the\n"
+        "  entry of the canteen's domain, so that meals lies in a domain that was never created.");
+    memset(copy_bytes, 0, sizeof copy_bytes);
+    fresh(too_small, LOADER_STORE_SIZE);
+    fresh(small, LOADER_DONE);
+    create(small, &CANTEEN, LOADER_DONE);
+    write_meals(&meals);
+    load(small, "meals", &CANTEEN, &meals, 1, LOADER_STORE_FULL);
+    memcpy(copy_bytes, card_bytes, sizeof copy_bytes);
+    copy_bytes[LAST_BYTE_OF_FIRST_DOMAIN] ^= 0x01;
+    create(damaged, &RADIOLOGY, LOADER_STORE_UNSOUND);
+}
+
+static void thursday(void)
+{
+    struct file statements;
+
+    say("Thursday: the statements, which import meals, are loaded as they were tried.");
+    write_statements(&statements, BY_DIRECTORY);
+    load(card, "statements", &DIRECTORY, &statements, 1, LOADER_DONE);
+}
+
+static void friday(void)
+{
+    struct file diet;
+
+    say("Friday: the pharmacy's diet meal overrides price of the canteen's meal.\n"
+        "  Order, loaded on Monday, will run it; so it must allow all that the meal's price allows.");
+    write_diet(&diet, BY_PHARMACY);
+    load(card, "diet, too narrow,", &PHARMACY, &diet, 2, LOADER_RUNNING_POLICY);
+    write_diet(&diet, BY_CANTEEN | BY_DIRECTORY | BY_PHARMACY);
+    load(card, "diet", &PHARMACY, &diet, 2, LOADER_DONE);
+    query(&CANTEEN, &DIET, "price", NAME_PRICE, true, LOADER_DONE);
+}
+
+static void saturday(void)
+{
+    struct file file;
+
+    say("Saturday: the drug cabinet. Book is for the directory and the pharmacy.");
+    write_cabinet(&file);
+    load(card, "cabinet", &PHARMACY, &file, 1, LOADER_DONE);
+    query(&PHARMACY, &CABINET, "book", NAME_BOOK, true, LOADER_DONE);
+    query(&DIRECTORY, &CABINET, "book", NAME_BOOK, true, LOADER_DONE);
+    query(&CANTEEN, &CABINET, "book", NAME_BOOK, false, LOADER_DONE);
+    query(&RADIOLOGY, &CABINET, "book", NAME_BOOK, false, LOADER_DONE);
+    query(&CANTEEN, &CABINET, "order", NAME_ORDER, false, LOADER_METHOD_UNKNOWN);
+    say("  The canteen tries to reach it through the directory: treat calls forward, forward calls book.\n"
+        "  If forward is open to the canteen, requests is refused; if it is not, treats is.");
+    write_requests(&file, BY_CANTEEN | BY_DIRECTORY);
+    load(card, "requests, for the canteen,", &DIRECTORY, &file, 1, LOADER_CALL_POLICY);
+    write_requests(&file, BY_DIRECTORY);
+    load(card, "requests", &DIRECTORY, &file, 1, LOADER_DONE);
+    write_treats(&file);
+    load(card, "treats", &CANTEEN, &file, 1, LOADER_CALL_POLICY);
+    query(&CANTEEN, &REQUESTS, "forward", NAME_FORWARD, false, LOADER_DONE);
+}
+
+static void sunday(void)
+{
+    say("Sunday: everything is taken off, first in the wrong order, then in the right one.");
+    remove_package(card, &MEALS, LOADER_PACKAGE_IMPORTED);
+    remove_package(card, &CABINET, LOADER_PACKAGE_IMPORTED);
+    delete_domain(card, &CANTEEN, LOADER_DOMAIN_OCCUPIED);
+    remove_package(card, &STATEMENTS, LOADER_DONE);
+    remove_package(card, &DIET, LOADER_DONE);
+    remove_package(card, &MEALS, LOADER_DONE);
+    delete_domain(card, &CANTEEN, LOADER_DONE);
+    remove_package(card, &REQUESTS, LOADER_DONE);
+    remove_package(card, &CABINET, LOADER_DONE);
+    delete_domain(card, &PHARMACY, LOADER_DONE);
+    delete_domain(card, &DIRECTORY, LOADER_DONE);
+    memset(copy_bytes, 0xFF, sizeof copy_bytes);
+    loader_fresh(copy_bytes, sizeof copy_bytes);
+    if (memcmp(card_bytes, copy_bytes, sizeof card_bytes) == 0) {
+        say("The card is again, byte for byte, a fresh one.");
+    } else {
+        unexpected("the card", "it is not a fresh one again");
+    }
+}
+
+int main(int count, char **words)
+{
+    if (count == 2 && strcmp(words[1], "card") == 0) {
+        telling = false;
+    } else if (count != 1) {
+        fputs("usage: week [card]\n", stderr);
+        return 2;
+    }
+    say("What was asked, the number answered, the store's used bytes after it, what that means.");
+    monday();
+    tuesday();
+    wednesday();
+    thursday();
+    friday();
+    saturday();
+    sunday();
+    return as_expected ? 0 : 1;
+}

@@ -1,0 +1,217 @@
+/*
+ * The staff card loader: six operations on a store that the caller lends.
+ *
+ * Every operation answers number + 256 * figure. The number is 0 when the
+ * operation was done; else it is that of the first question answered no
+ * (enum loader_number). The figure is the depth figure of an accepted load,
+ * 1 for a query's yes, and 0 otherwise. LOADER_NUMBER and LOADER_FIGURE take
+ * an answer apart.
+ *
+ * Slices. Bytes are passed as a pointer and then their number. An AID is passed
+ * as its 5 to 16 bare bytes, without the length that stands before it in a
+ * file. Any bytes and any lengths may be passed: what is not an AID, a package
+ * file or a store is refused by its number.
+ *
+ * Refusals. Where the number is not 0, every byte of the store is as it was,
+ * and the figure is 0.
+ *
+ * Soundness. Every operation but fresh first checks the whole store (question
+ * 2), so its time grows with what is installed. This is no checksum: bytes that
+ * were changed from outside are noticed only where the store is no longer sound.
+ *
+ * Assumed of the caller, and tested by nothing:
+ * - A pointer is valid for its length, for writing too where it is not const.
+ *   Where the length is 0 the pointer may be NULL: nothing is read or written
+ *   through it. Elsewhere it is not NULL.
+ * - A store that is not const overlaps no other argument. Arguments that are
+ *   const may overlap each other, the store of a query among them.
+ * - All of these bytes rest during the call: no other thread, interrupt or
+ *   device writes them, and none reads a store that is being changed.
+ * - The stack has the bytes in the table below left.
+ * Nothing is asked of alignment: every field is read and written bytewise.
+ *
+ * Re-entrancy. There is no state but the store: no static variable, no heap, no
+ * input or output, and no pointer is kept after the call. Calls on different
+ * stores may run at the same time, and so may queries on the same store.
+ *
+ * Power loss. An operation that is cut off in its middle leaves a store that
+ * may be neither the old nor the new one. Undoing that is the operating
+ * system's matter: it lends a copy in volatile memory and writes that back as
+ * a whole, or it wraps the call in a transaction.
+ *
+ * Limits. A store has LOADER_STORE_LEAST to LOADER_STORE_MOST bytes, an AID
+ * LOADER_AID_LEAST to LOADER_AID_MOST. A package file lies in a store whole, so
+ * it has fewer than LOADER_STORE_MOST bytes.
+ *
+ * Peak stack in bytes, measured on x86-64:
+ *
+ *     loader_fresh      @STACK@
+ *     loader_create     @STACK@
+ *     loader_delete     @STACK@
+ *     loader_load       @STACK@
+ *     loader_remove     @STACK@
+ *     loader_query      @STACK@
+ */
+#ifndef LOADER_H
+#define LOADER_H
+
+#include <stddef.h>
+#include <stdint.h>
+
+#ifdef __cplusplus
+extern "C" {
+#endif
+
+/* The number of an answer: the question that was answered no. */
+enum loader_number {
+    /* Done: every question was answered yes. */
+    LOADER_DONE = 0,
+    /* Has the store 64 to 65,535 bytes? */
+    LOADER_STORE_SIZE = 1,
+    /* Is it sound? */
+    LOADER_STORE_UNSOUND = 2,
+    /* Has every AID given to the call 5 to 16 bytes? */
+    LOADER_AID_LENGTH = 3,
+    /* Is the domain new? */
+    LOADER_DOMAIN_EXISTS = 4,
+    /* Has it been created? */
+    LOADER_DOMAIN_UNKNOWN = 5,
+    /* Does no installed package lie in it? */
+    LOADER_DOMAIN_OCCUPIED = 6,
+    /* Is the package installed? */
+    LOADER_PACKAGE_UNKNOWN = 7,
+    /* Does no other installed package import it? */
+    LOADER_PACKAGE_IMPORTED = 8,
+    /* Does it have this class, and that class this name? */
+    LOADER_METHOD_UNKNOWN = 9,
+    /* Does the file begin with mark and version? */
+    LOADER_FILE_MARK = 10,
+    /* Does the rest read exactly to its end as laid out, size, counts and ranges included? */
+    LOADER_FILE_LAYOUT = 11,
+    /* Is the package AID not installed? */
+    LOADER_PACKAGE_EXISTS = 12,
+    /* Is each import installed? */
+    LOADER_IMPORT_MISSING = 13,
+    /* Does each parent exist, an own one with a smaller number; have interfaces only interface
+       parents, classes at most one kind-0 parent, the same one listed twice being two; is each
+       depth at most 8? */
+    LOADER_CLASS_PARENTS = 14,
+    /* Do names differ within each class; is each static method implemented, each interface
+       method neither? */
+    LOADER_METHOD_FORM = 15,
+    /* Does each code split into instructions from offset 0 to its end, low at most high, the last
+       being 70, 72-7A, 93 or A8? */
+    LOADER_CODE_SPLIT = 16,
+    /* Is each branch target an offset where an instruction starts? */
+    LOADER_BRANCH_TARGET = 17,
+    /* Does each call's reference exist and name a class that declares it, visible if imported;
+       for 8B non-static of kind 0, 8C implemented, 8D static, 8E non-static of kind 1? */
+    LOADER_CALL_REFERENCE = 18,
+    /* Does the method each call names allow the loading domain and all that the caller allows? */
+    LOADER_CALL_POLICY = 19,
+    /* For each own class B and n, does the method that runs allow all that each non-static n of B
+       and its ancestors allows? */
+    LOADER_RUNNING_POLICY = 20,
+    /* Does the entry fit, used not passing the buffer's length? */
+    LOADER_STORE_FULL = 21
+};
+
+/* The least and greatest lengths of a store and an AID, and the greatest depth of a class. */
+enum loader_limit {
+    LOADER_STORE_LEAST = 64,
+    LOADER_STORE_MOST = 65535,
+    LOADER_AID_LEAST = 5,
+    LOADER_AID_MOST = 16,
+    LOADER_DEPTH_MOST = 8
+};
+
+/* The number and the figure of an answer. */
+#define LOADER_NUMBER(answer) ((answer) % 256u)
+#define LOADER_FIGURE(answer) ((answer) / 256u)
+
+/*
+ * Makes the buffer an empty store. What it held before is not looked at.
+ *
+ * In:      store: the buffer, any bytes.
+ * Numbers: 1.
+ * Changes: every byte of the store: mark, version, used = 7, zeros.
+ * Figure:  0.
+ */
+uint32_t loader_fresh(uint8_t *store, size_t store_length);
+
+/*
+ * Creates a domain.
+ *
+ * In:      store; domain: the AID of the new domain.
+ * Numbers: 1, 2, 3, 4, 21, asked in this order.
+ * Changes: the domain's entry is written at used, and used grows by its
+ *          3 + domain_length bytes. All other bytes stay.
+ * Figure:  0.
+ */
+uint32_t loader_create(uint8_t *store, size_t store_length,
+                       const uint8_t *domain, size_t domain_length);
+
+/*
+ * Deletes a domain in which no package lies. Policies that name it stay as they
+ * are, and do not prevent it.
+ *
+ * In:      store; domain: the AID of a created domain.
+ * Numbers: 1, 2, 3, 5, 6, asked in this order.
+ * Changes: the domain's entry is cut out: the later entries move up in their
+ *          order, used shrinks by 3 + domain_length, and the freed bytes at the
+ *          end are zero. All bytes before the entry but used stay.
+ * Figure:  0.
+ */
+uint32_t loader_delete(uint8_t *store, size_t store_length,
+                       const uint8_t *domain, size_t domain_length);
+
+/*
+ * Checks a package file and installs it in a domain.
+ *
+ * In:      store; domain: the AID of the loading domain, a created one;
+ *          file: the whole package file.
+ * Numbers: 1, 2, 3, 5, 10, 11, 12, 13, 14, 15, 16, 17, 18, 19, 20, 21, asked in
+ *          this order, each of the whole file before the next.
+ * Changes: the package's entry is written at used: kind, length, the domain's
+ *          AID with its length, the file as it is. Used grows by its
+ *          4 + domain_length + file_length bytes. All other bytes stay.
+ * Figure:  accepted, the depth figure: at least the depth of the file's deepest
+ *          class (0 if it has none) and at most LOADER_DEPTH_MOST. Refused, 0.
+ */
+uint32_t loader_load(uint8_t *store, size_t store_length,
+                     const uint8_t *domain, size_t domain_length,
+                     const uint8_t *file, size_t file_length);
+
+/*
+ * Removes a package that no other package imports.
+ *
+ * In:      store; package: the AID of an installed package.
+ * Numbers: 1, 2, 3, 7, 8, asked in this order.
+ * Changes: the package's entry is cut out: the later entries move up in their
+ *          order, used shrinks by the entry's bytes, and the freed bytes at the
+ *          end are zero. All bytes before the entry but used stay.
+ * Figure:  0.
+ */
+uint32_t loader_remove(uint8_t *store, size_t store_length,
+                       const uint8_t *package, size_t package_length);
+
+/*
+ * Says whether a method of an installed package allows a domain.
+ *
+ * In:      store; domain: an AID, of a created domain or not; package: the AID of
+ *          an installed package; class_number: a class of that package, counted
+ *          from 0; name: the name of a method that the class itself declares.
+ * Numbers: 1, 2, 3, 7, 9, asked in this order; 3 is asked of both AIDs.
+ * Changes: nothing.
+ * Figure:  1 when the method allows the domain, else 0. Refused, 0.
+ */
+uint32_t loader_query(const uint8_t *store, size_t store_length,
+                      const uint8_t *domain, size_t domain_length,
+                      const uint8_t *package, size_t package_length,
+                      uint8_t class_number, uint16_t name);
+
+#ifdef __cplusplus
+}
+#endif
+
+#endif

@@ -1,0 +1,148 @@
+//! `sequences SEED COUNT`: runs generated sequences through the byte operations
+//! and the ledger side by side and prints how often each number was answered.
+
+use independent::generate::sequences::sequence;
+use independent::ledger::{Call, Ledger};
+use independent::loader::{damage, shrink, Independent, Loader, Sequence, Step};
+use independent::questions::q2;
+use std::process::ExitCode;
+
+const OPERATIONS: [&str; 6] = ["fresh", "create", "delete", "load", "remove", "query"];
+const NUMBERS: usize = 22;
+
+#[derive(Default)]
+struct Counts {
+    answers: [[u64; NUMBERS]; 6],
+    with_ledger: u64,
+    /// Accepted loads by depth figure.
+    depths: [u64; 9],
+    yes: u64,
+}
+
+fn main() -> ExitCode {
+    let arguments: Vec<u64> = std::env::args().skip(1).flat_map(|a| a.parse()).collect();
+    let [seed, count] = arguments[..] else {
+        eprintln!("usage: sequences SEED COUNT");
+        return ExitCode::FAILURE;
+    };
+    println!("seed {seed}, {count} sequences");
+    let mut counts = Counts::default();
+    for number in 0..count {
+        let seed = seed.wrapping_mul(1_000_003).wrapping_add(number);
+        let sequence = sequence(seed);
+        if run(&sequence, &mut counts).is_err() {
+            report(seed, &sequence);
+            return ExitCode::FAILURE;
+        }
+    }
+    print_table(&counts);
+    ExitCode::SUCCESS
+}
+
+/// Runs one sequence; tells the step and what differs.
+fn run(sequence: &Sequence, counts: &mut Counts) -> Result<(), (usize, String)> {
+    let mut store = sequence.start.clone();
+    let mut ledger = sequence.has_ledger().then(|| Ledger::new(store.len()));
+    counts.with_ledger += u64::from(ledger.is_some());
+    for (number, step) in sequence.steps.iter().enumerate() {
+        let call = match step {
+            Step::Damage { place, bits } => {
+                damage(&mut store, *place, *bits);
+                continue;
+            }
+            Step::Call(call) => call,
+        };
+        let before = store.clone();
+        let answer = Independent.call(&mut store, call);
+        count(counts, call, answer);
+        if answer & 0xFF != 0 && store != before {
+            return Err((number, "a refusal changed the store".into()));
+        }
+        if let Some(ledger) = &mut ledger {
+            let expected = ledger.call(call).encoded();
+            if answer != expected {
+                let what = format!("answer {answer}, ledger {expected}");
+                return Err((number, what));
+            }
+            if store != ledger.written_out(store.len()) {
+                return Err((number, "bytes differ from the ledger".into()));
+            }
+            if q2(&store).is_none() {
+                return Err((number, "the store is not sound".into()));
+            }
+        }
+    }
+    Ok(())
+}
+
+fn count(counts: &mut Counts, call: &Call, answer: u32) {
+    let row = match call {
+        Call::Fresh => 0,
+        Call::Create(_) => 1,
+        Call::Delete(_) => 2,
+        Call::Load { .. } => 3,
+        Call::Remove(_) => 4,
+        Call::Query { .. } => 5,
+    };
+    counts.answers[row][(answer & 0xFF) as usize] += 1;
+    match call {
+        Call::Load { .. } if answer & 0xFF == 0 => counts.depths[(answer >> 8) as usize] += 1,
+        Call::Query { .. } => counts.yes += u64::from(answer >> 8),
+        _ => {}
+    }
+}
+
+fn print_table(counts: &Counts) {
+    println!("{} sequences followed by the ledger", counts.with_ledger);
+    print!("{:8}", "");
+    (0..NUMBERS).for_each(|number| print!("{number:>7}"));
+    println!();
+    for (name, row) in OPERATIONS.iter().zip(&counts.answers) {
+        print!("{name:8}");
+        row.iter().for_each(|answers| print!("{answers:>7}"));
+        println!();
+    }
+    let loads: u64 = counts.answers[3].iter().sum();
+    let accepted = 100 * counts.answers[3][0] / loads.max(1);
+    println!(
+        "{accepted}% of {loads} loads accepted, by depth {:?}",
+        counts.depths
+    );
+    println!("{} queries answered yes", counts.yes);
+}
+
+/// A short sequence that shows the difference, in hex.
+fn report(seed: u64, sequence: &Sequence) {
+    let fails = |s: &Sequence| run(s, &mut Counts::default()).is_err();
+    let sequence = shrink(sequence, fails);
+    if let Err((step, what)) = run(&sequence, &mut Counts::default()) {
+        println!("sequence seed {seed}, step {step}: {what}");
+    }
+    println!("buffer of {} bytes", sequence.start.len());
+    println!("{}", hex(&sequence.start));
+    for step in &sequence.steps {
+        match step {
+            Step::Damage { place, bits } => println!("damage {place} {bits:02X}"),
+            Step::Call(Call::Fresh) => println!("fresh"),
+            Step::Call(Call::Create(domain)) => println!("create {}", hex(domain)),
+            Step::Call(Call::Delete(domain)) => println!("delete {}", hex(domain)),
+            Step::Call(Call::Load { domain, file }) => {
+                println!("load {} {}", hex(domain), hex(file));
+            }
+            Step::Call(Call::Remove(package)) => println!("remove {}", hex(package)),
+            Step::Call(Call::Query {
+                domain,
+                package,
+                class,
+                name,
+            }) => {
+                let (domain, package) = (hex(domain), hex(package));
+                println!("query {domain} {package} {class:02X} {name:04X}");
+            }
+        }
+    }
+}
+
+fn hex(bytes: &[u8]) -> String {
+    bytes.iter().map(|byte| format!("{byte:02X}")).collect()
+}

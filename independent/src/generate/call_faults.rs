@@ -1,0 +1,126 @@
+//! Planted faults for questions 18 to 20.
+
+use super::codes::call;
+use super::faults::{add, add_code, BARE, BODY, RETURN, STATIC_BODY};
+use super::model::{FileModel, MethodModel};
+use super::random::Random;
+use super::scene::{MethodFacts, Scene};
+
+pub fn plant_18(random: &mut Random, scene: &Scene, model: &mut FileModel) {
+    let own = model.classes.len() as u8;
+    let past_imports = model.imports.len() as u8 + 1;
+    // Method 1 runs, 2 is static, 3 is not implemented; 4 is an interface's.
+    let held = [(BODY, 1), (STATIC_BODY, 2), (BARE, 3)];
+    let held = held.map(|(bits, name)| MethodModel::new(bits, name, None, RETURN));
+    add(model, 0, &[], held.to_vec());
+    let bare = MethodModel::new(BARE, 4, None, &[]);
+    add(model, 1, &[], vec![bare]);
+    add(model, 0, &[(0, own)], vec![]);
+    let cases = [
+        (0x8B, (0, own, 2)),
+        (0x8B, (0, own + 1, 4)),
+        (0x8B, (0, own, 9)),
+        (0x8B, (0, own + 2, 1)),
+        (0x8C, (0, own, 3)),
+        (0x8C, (0, own + 1, 4)),
+        (0x8D, (0, own, 1)),
+        (0x8D, (0, own, 3)),
+        (0x8E, (0, own, 1)),
+        (0x8E, (0, own, 2)),
+        (0x8E, (0, own + 40, 4)),
+        (0x8C, (past_imports, 0, 1)),
+    ];
+    let (opcode, mut reference) = *random.pick(&cases);
+    let mut index = model.references.len() as u16;
+    if random.chance(10) {
+        index += 1 + random.below(3) as u16;
+    } else if random.chance(30) {
+        if let Some((aid, class, name)) = hidden_method(scene) {
+            model.imports.push(aid);
+            reference = (past_imports, class, name);
+        }
+    }
+    model.references.push(reference);
+    let mut code = call(random, opcode, index);
+    code.push(0x7A);
+    add_code(model, &code);
+}
+
+/// An installed method that is not visible.
+fn hidden_method(scene: &Scene) -> Option<(Vec<u8>, u8, u16)> {
+    for package in &scene.packages {
+        for (number, class) in package.classes.iter().enumerate() {
+            let hidden = |m: &&MethodFacts| m.bits & BARE == 0;
+            if let Some(method) = class.methods.iter().find(hidden) {
+                return Some((package.model.aid.clone(), number as u8, method.name));
+            }
+        }
+    }
+    None
+}
+
+pub fn plant_19(random: &mut Random, domain: &[u8], model: &mut FileModel) {
+    let first = model.domains.len() as u8;
+    let other = random.bytes(6);
+    model.domains.push(domain.to_vec());
+    model.domains.push(other);
+    let (both, loading, another) = (&[first, first + 1][..], &[first][..], &[first + 1][..]);
+    let every_index: Vec<u8> = (0..first + 2).collect();
+    let nobody: &[u8] = &[];
+    let cases = [
+        (Some(nobody), Some(nobody)),
+        (Some(nobody), Some(another)),
+        (None, Some(both)),
+        (None, Some(&every_index)),
+        (Some(both), Some(loading)),
+        (Some(another), Some(another)),
+    ];
+    let (caller, callee) = *random.pick(&cases);
+    let (opcode, kind, bits) = *random.pick(&[
+        (0x8B, 0, BODY),
+        (0x8B, 0, BARE),
+        (0x8C, 0, STATIC_BODY),
+        (0x8D, 0, STATIC_BODY),
+        (0x8E, 1, BARE),
+    ]);
+    let class = model.classes.len() as u8;
+    let index = model.references.len() as u16;
+    model.references.push((0, class, 1));
+    let held = MethodModel::new(bits, 1, callee, RETURN);
+    add(model, kind, &[], vec![held]);
+    let mut code = call(random, opcode, index);
+    code.push(0x7A);
+    let calling = MethodModel::new(STATIC_BODY, 2, caller, &code);
+    add(model, 0, &[], vec![calling]);
+}
+
+pub fn plant_20(random: &mut Random, model: &mut FileModel) {
+    let first = model.domains.len() as u8;
+    model.domains.push(random.bytes(5));
+    model.domains.push(random.bytes(16));
+    let (one, both) = (&[first][..], &[first, first + 1][..]);
+    let next = model.classes.len() as u8;
+    let method = |bits, allowed| vec![MethodModel::new(bits, 7, allowed, RETURN)];
+    match random.below(4) {
+        0 => {
+            add(model, 0, &[], method(BODY, Some(one)));
+            add(model, 1, &[], method(BARE, Some(both)));
+            add(model, 0, &[(0, next), (0, next + 1)], vec![]);
+        }
+        1 => {
+            add(model, 0, &[], method(BARE, None));
+            add(model, 0, &[(0, next)], method(BODY, Some(both)));
+        }
+        2 => {
+            // A static method of the name is passed over.
+            add(model, 0, &[], method(BODY, Some(both)));
+            add(model, 0, &[(0, next)], method(STATIC_BODY, None));
+            add(model, 0, &[(0, next + 1)], method(0x40, Some(one)));
+        }
+        _ => {
+            add(model, 1, &[], method(BARE, Some(both)));
+            add(model, 1, &[(0, next), (0, next)], vec![]);
+            add(model, 0, &[(0, next + 1)], method(BODY, Some(one)));
+        }
+    }
+}

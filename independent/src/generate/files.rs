@@ -1,0 +1,131 @@
+//! Any file for a load: accepted, faulty, damaged, at a limit, filling the store.
+
+use super::faults::faulty_file;
+use super::limits::{chain, count_limits, ladder, method_limits, under_ladder};
+use super::model::{set_size, ClassModel, FileModel, MethodModel};
+use super::random::Random;
+use super::scene::Scene;
+use super::valid::valid_file;
+
+pub fn any_file(random: &mut Random, scene: &Scene, domain: &[u8]) -> Vec<u8> {
+    let aid = new_aid(random, scene);
+    let model = valid_file(random, scene, domain, &aid);
+    let questions = [random.between(10, 20) as u8, random.between(10, 20) as u8];
+    let faulty = match random.below(100) {
+        0..=43 => None,
+        44..=73 => faulty_file(random, scene, domain, &model, &questions[..1]),
+        74..=81 => faulty_file(random, scene, domain, &model, &questions),
+        82..=87 => Some(damaged_file(random, model.bytes())),
+        88..=92 => Some(limit_file(random, scene, domain, &aid)),
+        93..=94 => Some(any_bytes(random)),
+        95..=96 => Some(hostile_file(random, scene, &aid)),
+        _ => filling_file(random, scene, domain, &aid),
+    };
+    faulty.unwrap_or_else(|| model.bytes())
+}
+
+/// An AID that is not installed.
+fn new_aid(random: &mut Random, scene: &Scene) -> Vec<u8> {
+    let aid = random.pick(&scene.package_pool).clone();
+    match scene.package_named(&aid) {
+        None => aid,
+        Some(_) => {
+            let length = random.between(5, 16);
+            random.bytes(length)
+        }
+    }
+}
+
+/// One byte flipped, or the end cut off, or bytes added; the size is then made right or not.
+pub fn damaged_file(random: &mut Random, mut file: Vec<u8>) -> Vec<u8> {
+    match random.below(5) {
+        0 => file.truncate(random.below(file.len() + 1)),
+        1 => {
+            let more = random.between(1, 20);
+            file.extend(random.bytes(more));
+        }
+        _ => {
+            let place = random.below(file.len());
+            file[place] ^= 1 << random.below(8);
+        }
+    }
+    if random.chance(40) {
+        set_size(&mut file);
+    }
+    file
+}
+
+fn limit_file(random: &mut Random, scene: &Scene, domain: &[u8], aid: &[u8]) -> Vec<u8> {
+    let import = random.pick_any(&scene.packages);
+    let import = import.map(|p| p.model.aid.as_slice());
+    let known = scene.domains.first().map_or(aid, |d| &d[..]);
+    let listed = if (5..=16).contains(&domain.len()) {
+        domain
+    } else {
+        known
+    };
+    let files = match random.below(3) {
+        0 => return chain(aid, random.below(2) as u8, random.between(7, 9) as u8).bytes(),
+        1 => method_limits(aid, listed),
+        _ => count_limits(aid, listed, import),
+    };
+    random.pick(&files).model.bytes()
+}
+
+/// Bytes without structure, often with the right mark.
+fn any_bytes(random: &mut Random) -> Vec<u8> {
+    let length = *random.pick(&[0, 1, 4, 5, 7, 8, 20, 100, 65_535, 65_536, 66_000]);
+    let mut file = random.bytes(length);
+    if random.chance(60) {
+        let mark = crate::package::MARK_AND_VERSION;
+        let common = mark.len().min(file.len());
+        file[..common].copy_from_slice(&mark[..common]);
+        set_size(&mut file);
+    }
+    file
+}
+
+fn hostile_file(random: &mut Random, scene: &Scene, aid: &[u8]) -> Vec<u8> {
+    let ladders = scene.packages.iter().filter(|p| p.classes.len() == 32);
+    let ladders: Vec<&[u8]> = ladders.map(|p| p.model.aid.as_slice()).collect();
+    let methods = *random.pick(&[0, 0, 1, 4]);
+    match random.pick_any(&ladders) {
+        Some(under) if random.chance(60) => under_ladder(aid, under, random.chance(50)).bytes(),
+        _ => ladder(aid, methods, random.chance(50)).bytes(),
+    }
+}
+
+/// A file whose entry fills the store to the last byte, or is one byte too long.
+fn filling_file(random: &mut Random, scene: &Scene, domain: &[u8], aid: &[u8]) -> Option<Vec<u8>> {
+    let entry = 3 + 1 + domain.len();
+    let past = usize::from(random.chance(40));
+    let size = (scene.free + past).checked_sub(entry)?;
+    Some(sized_file(aid, size)?.bytes())
+}
+
+/// A file of exactly this many bytes, if there is one with a single class.
+pub fn sized_file(aid: &[u8], size: usize) -> Option<FileModel> {
+    const METHOD_HEAD: usize = 6;
+    const LARGEST: usize = METHOD_HEAD + 4096;
+    let without_methods = 13 + aid.len() + 3;
+    let mut left = size.checked_sub(without_methods)?;
+    let mut methods = Vec::new();
+    while left > 0 {
+        // What follows a method is nothing, or enough for a further one.
+        let length = if left > LARGEST && left < LARGEST + METHOD_HEAD + 1 {
+            LARGEST - METHOD_HEAD - 1
+        } else {
+            left.min(LARGEST)
+        };
+        let mut code = vec![0; length.checked_sub(METHOD_HEAD)?];
+        *code.last_mut()? = 0x7A;
+        let name = methods.len() as u16;
+        methods.push(MethodModel::new(0x40, name, None, &code));
+        left -= length;
+    }
+    Some(FileModel {
+        aid: aid.to_vec(),
+        classes: vec![ClassModel::new(0, &[], methods)],
+        ..FileModel::default()
+    })
+}

@@ -1,0 +1,16 @@
+//! Generators of package files, stores, call sequences and lines.
+
+pub mod call_faults;
+pub mod codes;
+pub mod faults;
+pub mod files;
+pub mod limits;
+pub mod lines;
+pub mod model;
+pub mod random;
+pub mod scene;
+pub mod sequences;
+pub mod special;
+pub mod spoiled_codes;
+pub mod stores;
+pub mod valid;

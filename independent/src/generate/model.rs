@@ -1,0 +1,151 @@
+//! A package file as a structure, and its bytes. Nothing is checked here, so that
+//! faulty files can be built too.
+
+use crate::package::{self, Allowed, EVERY, IMPLEMENTED, MARK_AND_VERSION, STATIC, VISIBLE};
+
+#[derive(Clone, Debug, Default, PartialEq, Eq)]
+pub struct FileModel {
+    pub aid: Vec<u8>,
+    pub domains: Vec<Vec<u8>>,
+    pub imports: Vec<Vec<u8>>,
+    pub references: Vec<(u8, u8, u16)>,
+    pub classes: Vec<ClassModel>,
+}
+
+#[derive(Clone, Debug, Default, PartialEq, Eq)]
+pub struct ClassModel {
+    pub kind: u8,
+    pub parents: Vec<(u8, u8)>,
+    pub methods: Vec<MethodModel>,
+}
+
+#[derive(Clone, Debug, PartialEq, Eq)]
+pub struct MethodModel {
+    pub bits: u8,
+    pub name: u16,
+    /// `None` is FF.
+    pub allowed: Option<Vec<u8>>,
+    /// Written when the bits say implemented.
+    pub code: Vec<u8>,
+}
+
+impl FileModel {
+    pub fn bytes(&self) -> Vec<u8> {
+        let mut file = MARK_AND_VERSION.to_vec();
+        file.extend_from_slice(&[0, 0]);
+        put_aid(&mut file, &self.aid);
+        for list in [&self.domains, &self.imports] {
+            file.push(list.len() as u8);
+            list.iter().for_each(|aid| put_aid(&mut file, aid));
+        }
+        put_u2(&mut file, self.references.len());
+        for &(package, class, name) in &self.references {
+            file.extend_from_slice(&[package, class]);
+            put_u2(&mut file, name.into());
+        }
+        file.push(self.classes.len() as u8);
+        self.classes.iter().for_each(|c| c.put(&mut file));
+        set_size(&mut file);
+        file
+    }
+
+    /// The structure of a file that reads as laid out.
+    pub fn read(file: &[u8]) -> Option<Self> {
+        let package = package::read(file)?;
+        let owned = |list: &[&[u8]]| list.iter().map(|aid| aid.to_vec()).collect();
+        let references = package.references.iter();
+        Some(FileModel {
+            aid: package.aid.to_vec(),
+            domains: owned(&package.domains),
+            imports: owned(&package.imports),
+            references: references.map(|r| (r.package, r.class, r.name)).collect(),
+            classes: package.classes.iter().map(ClassModel::of).collect(),
+        })
+    }
+}
+
+impl ClassModel {
+    pub fn new(kind: u8, parents: &[(u8, u8)], methods: Vec<MethodModel>) -> Self {
+        ClassModel {
+            kind,
+            parents: parents.to_vec(),
+            methods,
+        }
+    }
+
+    fn put(&self, file: &mut Vec<u8>) {
+        file.extend_from_slice(&[self.kind, self.parents.len() as u8]);
+        for &(package, class) in &self.parents {
+            file.extend_from_slice(&[package, class]);
+        }
+        file.push(self.methods.len() as u8);
+        self.methods.iter().for_each(|m| m.put(file));
+    }
+
+    fn of(class: &package::Class) -> Self {
+        ClassModel {
+            kind: u8::from(class.interface),
+            parents: class.parents.clone(),
+            methods: class.methods.iter().map(MethodModel::of).collect(),
+        }
+    }
+}
+
+impl MethodModel {
+    pub fn new(bits: u8, name: u16, allowed: Option<&[u8]>, code: &[u8]) -> Self {
+        MethodModel {
+            bits,
+            name,
+            allowed: allowed.map(<[u8]>::to_vec),
+            code: code.to_vec(),
+        }
+    }
+
+    fn put(&self, file: &mut Vec<u8>) {
+        file.push(self.bits);
+        put_u2(file, self.name.into());
+        match &self.allowed {
+            None => file.push(EVERY),
+            Some(indexes) => {
+                file.push(indexes.len() as u8);
+                file.extend_from_slice(indexes);
+            }
+        }
+        if self.bits & IMPLEMENTED != 0 {
+            put_u2(file, self.code.len());
+            file.extend_from_slice(&self.code);
+        }
+    }
+
+    fn of(method: &package::Method) -> Self {
+        let bit = |set: bool, bit: u8| if set { bit } else { 0 };
+        MethodModel {
+            bits: bit(method.visible, VISIBLE)
+                | bit(method.is_static, STATIC)
+                | bit(method.implemented(), IMPLEMENTED),
+            name: method.name,
+            allowed: match method.allowed {
+                Allowed::Every => None,
+                Allowed::Listed(indexes) => Some(indexes.to_vec()),
+            },
+            code: method.code.unwrap_or(&[]).to_vec(),
+        }
+    }
+}
+
+fn put_u2(file: &mut Vec<u8>, number: usize) {
+    file.extend_from_slice(&(number as u16).to_be_bytes());
+}
+
+fn put_aid(file: &mut Vec<u8>, aid: &[u8]) {
+    file.push(aid.len() as u8);
+    file.extend_from_slice(aid);
+}
+
+/// Makes the size field say the file's length.
+pub fn set_size(file: &mut [u8]) {
+    if file.len() >= 7 {
+        let size = (file.len() as u16).to_be_bytes();
+        file[5..7].copy_from_slice(&size);
+    }
+}

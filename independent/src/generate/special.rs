@@ -1,0 +1,205 @@
+//! Fixed sequences: short codes, damaged stores, buffer and argument lengths,
+//! limits, hostile files.
+
+use super::files::sized_file;
+use super::limits::{chain, count_limits, ladder, method_limits, under_ladder};
+use super::model::{ClassModel, FileModel, MethodModel};
+use super::random::Random;
+use super::scene::Scene;
+use super::valid::valid_file;
+use crate::ledger::Call;
+use crate::loader::{Independent, Loader, Sequence, Step};
+
+const DOMAIN: &[u8] = &[0xA0, 0, 0, 0, 0xD1];
+const OTHER: &[u8] = &[0xA0, 0, 0, 0, 0xD2, 7];
+const FIRST: &[u8] = &[0xA0, 0, 0, 1, 1];
+const SECOND: &[u8] = &[0xA0, 0, 0, 1, 2];
+const THIRD: &[u8] = &[0xA0, 0, 0, 1, 3];
+
+fn over(start: Vec<u8>, calls: Vec<Call>) -> Sequence {
+    let steps = calls.into_iter().map(Step::Call).collect();
+    Sequence { start, steps }
+}
+
+/// Fresh, both domains, then these calls.
+fn after_fresh(length: usize, calls: Vec<Call>) -> Sequence {
+    let mut all = vec![Call::Fresh];
+    all.push(Call::Create(DOMAIN.to_vec()));
+    all.push(Call::Create(OTHER.to_vec()));
+    all.extend(calls);
+    over(vec![0x5A; length], all)
+}
+
+fn load(model: &FileModel) -> Call {
+    Call::Load {
+        domain: DOMAIN.to_vec(),
+        file: model.bytes(),
+    }
+}
+
+fn with_code(code: &[u8]) -> FileModel {
+    let method = MethodModel::new(0x60, 1, Some(&[]), code);
+    FileModel {
+        aid: FIRST.to_vec(),
+        classes: vec![ClassModel::new(0, &[], vec![method])],
+        ..FileModel::default()
+    }
+}
+
+/// Each code is loaded, and removed if it was accepted.
+fn codes_sequence(codes: impl Iterator<Item = Vec<u8>>) -> Sequence {
+    let mut calls = Vec::new();
+    for code in codes {
+        calls.push(load(&with_code(&code)));
+        calls.push(Call::Remove(FIRST.to_vec()));
+    }
+    after_fresh(128, calls)
+}
+
+/// All codes of one and two bytes.
+pub fn short_codes() -> impl Iterator<Item = Sequence> {
+    let one = codes_sequence((0..=255).map(|a| vec![a]));
+    let two = (0..=255).map(|a| codes_sequence((0..=255).map(move |b| vec![a, b])));
+    std::iter::once(one).chain(two)
+}
+
+/// 256 random codes of three bytes.
+pub fn three_byte_codes(seed: u64) -> Sequence {
+    let mut random = Random::new(seed);
+    codes_sequence((0..256).map(move |_| random.bytes(3)))
+}
+
+/// A store with two domains and three packages, the later ones importing.
+pub fn test_store() -> Vec<u8> {
+    let random = &mut Random::new(12);
+    let mut store = vec![0; 2048];
+    Independent.fresh(&mut store);
+    let mut scene = Scene {
+        domain_pool: vec![DOMAIN.to_vec(), OTHER.to_vec(), THIRD.to_vec()],
+        ..Scene::default()
+    };
+    for domain in [DOMAIN, OTHER] {
+        Independent.create(&mut store, domain);
+    }
+    for (domain, aid) in [(DOMAIN, FIRST), (OTHER, SECOND), (DOMAIN, THIRD)] {
+        loop {
+            let model = valid_file(random, &scene, domain, aid);
+            let small = model.bytes().len() < 300;
+            let linked = model.imports.len() == scene.packages.len() && model.classes.len() > 2;
+            if small && linked && Independent.load(&mut store, domain, &model.bytes()) & 0xFF == 0 {
+                scene.install(domain, &model.bytes());
+                break;
+            }
+        }
+    }
+    store
+}
+
+/// Each byte of the test store flipped once, in one bit or all, then one call of each kind.
+pub fn damaged_stores() -> impl Iterator<Item = Sequence> {
+    let store = test_store();
+    let used = crate::store::used(&store);
+    let calls = every_call(DOMAIN, THIRD, &with_code(&[0x7A]).bytes());
+    (0..used + 10).flat_map(move |place| {
+        let calls = calls.clone();
+        let store = store.clone();
+        [1, 0x80, 0xFF].into_iter().map(move |bits| {
+            let mut steps = vec![Step::Damage { place, bits }];
+            steps.extend(calls.iter().skip(1).cloned().map(Step::Call));
+            let start = store.clone();
+            Sequence { start, steps }
+        })
+    })
+}
+
+/// One call of each kind with these arguments.
+fn every_call(domain: &[u8], package: &[u8], file: &[u8]) -> Vec<Call> {
+    let (domain, package, file) = (domain.to_vec(), package.to_vec(), file.to_vec());
+    let query = Call::Query {
+        domain: domain.clone(),
+        package: package.clone(),
+        class: 0,
+        name: 1,
+    };
+    vec![
+        Call::Fresh,
+        Call::Create(domain.clone()),
+        query.clone(),
+        Call::Load {
+            domain: domain.clone(),
+            file,
+        },
+        query,
+        Call::Delete(domain.clone()),
+        Call::Remove(package),
+        Call::Delete(domain),
+    ]
+}
+
+/// Buffers and arguments of every length at which something changes.
+pub fn lengths() -> Vec<Sequence> {
+    let mut sequences = Vec::new();
+    let arguments = [0, 1, 4, 5, 16, 17, 255, 256, 65_535, 65_536, 100_000];
+    for buffer in [0, 6, 7, 63, 64, 65, 65_535, 65_536, 100_000] {
+        for fill in [0, 0xFF] {
+            let mut calls = Vec::new();
+            for length in arguments {
+                calls.extend(every_call(DOMAIN, &vec![1; length], &vec![0x42; length]));
+                calls.extend(every_call(&vec![2; length], FIRST, &[]));
+            }
+            sequences.push(over(vec![fill; buffer], calls));
+        }
+    }
+    sequences
+}
+
+/// Every limit at its value and one past it.
+pub fn limits() -> Sequence {
+    let mut calls = vec![load(&chain(SECOND, 1, 7))];
+    let counts = count_limits(FIRST, DOMAIN, Some(SECOND));
+    let methods = method_limits(FIRST, DOMAIN);
+    for file in counts.iter().chain(&methods) {
+        calls.push(load(&file.model));
+        calls.push(Call::Remove(file.model.aid.clone()));
+    }
+    for depth in 7..=9 {
+        for kind in 0..=1 {
+            calls.push(load(&chain(FIRST, kind, depth)));
+            calls.push(Call::Remove(FIRST.to_vec()));
+        }
+    }
+    after_fresh(65_535, calls)
+}
+
+/// Stores filled to the byte, by one package of each size around the free bytes.
+pub fn full_stores() -> Vec<Sequence> {
+    let fill = |length: usize, past: usize| {
+        // Header, two domains, and the entry's own bytes before the file.
+        let size = length - 7 - 8 - 9 - 9 + past;
+        let file = sized_file(FIRST, size)?;
+        let mut calls = vec![load(&file), Call::Create(THIRD.to_vec())];
+        calls.extend([Call::Delete(OTHER.to_vec()), Call::Create(THIRD.to_vec())]);
+        calls.extend([Call::Delete(THIRD.to_vec()), load(&chain(SECOND, 0, 1))]);
+        calls.extend([Call::Create(OTHER.to_vec()), Call::Remove(FIRST.to_vec())]);
+        Some(after_fresh(length, calls))
+    };
+    let lengths = [64, 80, 100, 300, 8192, 65_535];
+    let cases = lengths.iter().flat_map(|&l| [(l, 0), (l, 1)]);
+    cases.filter_map(|(l, past)| fill(l, past)).collect()
+}
+
+/// Deep ladders of parents with many methods.
+pub fn hostile() -> Vec<Sequence> {
+    let mut sequences = Vec::new();
+    for (methods, last_is_class) in [(0, false), (1, true), (64, false), (64, true)] {
+        let mut calls = vec![load(&ladder(FIRST, methods, last_is_class))];
+        calls.push(load(&under_ladder(SECOND, FIRST, true)));
+        for number in 0..40 {
+            let aid = [0xB0, 0, 0, 0, number];
+            calls.push(load(&under_ladder(&aid, FIRST, false)));
+        }
+        calls.push(Call::Remove(FIRST.to_vec()));
+        sequences.push(after_fresh(65_535, calls));
+    }
+    sequences
+}

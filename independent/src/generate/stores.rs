@@ -1,0 +1,93 @@
+//! Stores that no list of calls made: laid out well, sound or with one planted fault.
+
+use super::faults::faulty_file;
+use super::random::Random;
+use super::scene::Scene;
+use super::valid::valid_file;
+use crate::ledger::{Entry, Ledger};
+use crate::store;
+
+/// A store, what it holds, and whether a fault was planted.
+pub struct PlantedStore {
+    pub bytes: Vec<u8>,
+    pub scene: Scene,
+    pub faulty: bool,
+}
+
+/// A store that holds domains and packages; question 0 plants no fault, 3 to 5 and
+/// 10 to 20 a fault for that question, 1 and 2 entries in a wrong order.
+pub fn planted_store(random: &mut Random, pools: &Scene, question: u8) -> PlantedStore {
+    let mut scene = pools.clone();
+    let mut entries = Vec::new();
+    for domain in &pools.domain_pool[..3] {
+        entries.push(Entry::Domain(domain.clone()));
+        scene.domains.push(domain.clone());
+    }
+    for aid in &pools.package_pool[..random.between(1, 3)] {
+        let domain = random.pick(&scene.domains).clone();
+        let file = valid_file(random, &scene, &domain, aid).bytes();
+        scene.install(&domain, &file);
+        entries.push(Entry::Package { domain, file });
+    }
+    let faulty = question != 0 && plant_entry(random, &scene, &mut entries, question);
+    let mut ledger = Ledger::new(0);
+    ledger.entries = entries;
+    let used = store::used(&ledger.written_out(store::HEAD));
+    let more = *random.pick(&[0, 1, 200, 1000]);
+    let bytes = ledger.written_out((used + more).max(64));
+    scene.free = bytes.len() - used;
+    PlantedStore {
+        bytes,
+        scene,
+        faulty,
+    }
+}
+
+/// Plants a fault in the list; false when it finds no place.
+fn plant_entry(random: &mut Random, scene: &Scene, list: &mut Vec<Entry>, question: u8) -> bool {
+    let domain = random.pick(&scene.domains).clone();
+    let model = valid_file(random, scene, &domain, &[0xFA; 7]);
+    let (valid, last) = (model.bytes(), list.len() - 1);
+    match question {
+        1 => list.rotate_right(1),
+        2 => {
+            let other = valid_importer(random, scene, &domain);
+            list.insert(3, other);
+        }
+        3 => {
+            let length = *random.pick(&[0, 4, 17, 200]);
+            let domain = random.bytes(length);
+            if random.chance(50) {
+                list.insert(random.below(last), Entry::Domain(domain));
+            } else {
+                let file = valid;
+                list.push(Entry::Package { domain, file });
+            }
+        }
+        4 => list.push(Entry::Domain(domain)),
+        5 => {
+            let domain = random.bytes(9);
+            let file = valid;
+            list.push(Entry::Package { domain, file });
+        }
+        _ => match faulty_file(random, scene, &domain, &model, &[question]) {
+            Some(file) => list.push(Entry::Package { domain, file }),
+            None => return false,
+        },
+    }
+    true
+}
+
+/// A package that imports the first installed one.
+fn valid_importer(random: &mut Random, scene: &Scene, domain: &[u8]) -> Entry {
+    let alone = Scene {
+        packages: Vec::new(),
+        ..scene.clone()
+    };
+    let mut model = valid_file(random, &alone, domain, &[0xFA; 7]);
+    model.imports.push(scene.packages[0].model.aid.clone());
+    Entry::Package {
+        domain: domain.to_vec(),
+        file: model.bytes(),
+    }
+}

@@ -1,0 +1,243 @@
+//! Files that every question of a load accepts, room apart.
+
+use super::codes::{call, call_kinds, valid_code};
+use super::model::{ClassModel, FileModel, MethodModel};
+use super::random::Random;
+use super::scene::{ClassFacts, MethodFacts, Policy, Scene};
+use crate::package::{IMPLEMENTED, MAX_DOMAINS, STATIC, VISIBLE};
+
+struct Draft<'a> {
+    scene: &'a Scene,
+    domain: &'a [u8],
+    /// Numbers of the imported packages in the scene.
+    imports: Vec<usize>,
+    model: FileModel,
+    classes: Vec<ClassFacts>,
+}
+
+/// A file for a load in this domain.
+pub fn valid_file(random: &mut Random, scene: &Scene, domain: &[u8], aid: &[u8]) -> FileModel {
+    let mut draft = Draft {
+        scene,
+        domain,
+        imports: Vec::new(),
+        model: FileModel {
+            aid: aid.to_vec(),
+            ..FileModel::default()
+        },
+        classes: Vec::new(),
+    };
+    draft.choose_imports(random);
+    let pool = &scene.domain_pool;
+    for _ in 0..random.below(4) {
+        draft.model.domains.push(random.pick(pool).clone());
+    }
+    let count = *random.pick(&[0, 1, 1, 2, 2, 3, 3, 4, 5, 8]);
+    for _ in 0..count {
+        draft.add_class(random);
+    }
+    draft.add_codes(random);
+    draft.model
+}
+
+impl Draft<'_> {
+    fn choose_imports(&mut self, random: &mut Random) {
+        if self.scene.packages.is_empty() {
+            return;
+        }
+        for _ in 0..*random.pick(&[0, 1, 1, 2, 3]) {
+            let number = random.below(self.scene.packages.len());
+            self.imports.push(number);
+            let aid = self.scene.packages[number].model.aid.clone();
+            self.model.imports.push(aid);
+        }
+    }
+
+    /// Package and class numbers and facts of each class within reach.
+    fn within_reach(&self) -> Vec<(u8, u8, &ClassFacts)> {
+        let packages = self
+            .imports
+            .iter()
+            .map(|&p| &self.scene.packages[p].classes);
+        let mut found = Vec::new();
+        for (package, classes) in std::iter::once(&self.classes).chain(packages).enumerate() {
+            for (class, facts) in classes.iter().enumerate() {
+                found.push((package as u8, class as u8, facts));
+            }
+        }
+        found
+    }
+
+    fn add_class(&mut self, random: &mut Random) {
+        let interface = random.chance(35);
+        let reach = self.within_reach();
+        let mut parents: Vec<(u8, u8, &ClassFacts)> = Vec::new();
+        if !reach.is_empty() {
+            for _ in 0..*random.pick(&[0, 1, 2, 3, 4]) {
+                let &(package, class, facts) = random.pick(&reach);
+                let taken = interface || parents.iter().any(|p| !p.2.interface);
+                if facts.depth < 8 && (facts.interface || !taken) {
+                    parents.push((package, class, facts));
+                }
+            }
+        }
+        let facts: Vec<&ClassFacts> = parents.iter().map(|p| p.2).collect();
+        let mut facts = ClassFacts::under(interface, &facts);
+        let numbers: Vec<(u8, u8)> = parents.iter().map(|p| (p.0, p.1)).collect();
+        let mut class = ClassModel::new(u8::from(interface), &numbers, Vec::new());
+        for (name, forced) in chosen_names(random, &facts) {
+            let method = self.method(random, &facts, name, forced);
+            class.methods.push(method.0);
+            facts.declare(method.1);
+        }
+        self.classes.push(facts);
+        self.model.classes.push(class);
+    }
+
+    /// A method of this name; a forced one is non-static.
+    fn method(
+        &mut self,
+        random: &mut Random,
+        class: &ClassFacts,
+        name: u16,
+        forced: bool,
+    ) -> (MethodModel, MethodFacts) {
+        let mut bits = if random.chance(75) { VISIBLE } else { 0 };
+        if !class.interface {
+            if random.chance(85) {
+                bits |= IMPLEMENTED;
+            }
+            if !forced && bits & IMPLEMENTED != 0 && random.chance(25) {
+                bits |= STATIC;
+            }
+        }
+        let mut policy = self.random_policy(random);
+        if bits & (IMPLEMENTED | STATIC) == IMPLEMENTED {
+            if let Some(need) = class.needs.get(&name) {
+                policy.join(need);
+            }
+        }
+        let allowed = self.allowed(random, &mut policy);
+        let code = Vec::new();
+        let model = MethodModel {
+            bits,
+            name,
+            allowed,
+            code,
+        };
+        (model, MethodFacts { bits, name, policy })
+    }
+
+    fn random_policy(&self, random: &mut Random) -> Policy {
+        if random.chance(25) {
+            return Policy::Every;
+        }
+        let mut policy = Policy::nobody();
+        let count = *random.pick(&[0, 0, 1, 1, 2, 3]);
+        for _ in 0..count {
+            let aid = random.pick(&self.scene.domain_pool).clone();
+            policy.join(&Policy::Only([aid].into()));
+        }
+        if random.chance(40) {
+            policy.join(&Policy::Only([self.domain.to_vec()].into()));
+        }
+        policy
+    }
+
+    /// The policy as indexes; the file's domains grow as needed. A policy that finds
+    /// no room becomes FF.
+    fn allowed(&mut self, random: &mut Random, policy: &mut Policy) -> Option<Vec<u8>> {
+        let Policy::Only(aids) = &*policy else {
+            return None;
+        };
+        let mut indexes = Vec::new();
+        for aid in aids {
+            let known = self.model.domains.iter().position(|d| d == aid);
+            let repeat = self.model.domains.len() < 8 && random.chance(10);
+            let index = match known {
+                Some(index) if !repeat => index,
+                _ if self.model.domains.len() < MAX_DOMAINS => {
+                    self.model.domains.push(aid.clone());
+                    self.model.domains.len() - 1
+                }
+                _ => {
+                    *policy = Policy::Every;
+                    return None;
+                }
+            };
+            indexes.push(index as u8);
+        }
+        if indexes.len() == 1 && random.chance(20) {
+            indexes.push(indexes[0]);
+        }
+        Some(indexes)
+    }
+
+    fn add_codes(&mut self, random: &mut Random) {
+        if random.chance(30) {
+            let name = random.below(9) as u16;
+            self.model
+                .references
+                .push((random.byte(), random.byte(), name));
+        }
+        for class in 0..self.classes.len() {
+            for number in 0..self.classes[class].methods.len() {
+                let method = &self.classes[class].methods[number];
+                if method.bits & IMPLEMENTED != 0 {
+                    let policy = method.policy.clone();
+                    let calls = self.calls(random, &policy);
+                    let code = valid_code(random, &calls);
+                    self.model.classes[class].methods[number].code = code;
+                }
+            }
+        }
+    }
+
+    /// Some call instructions that a method with this policy may have.
+    fn calls(&mut self, random: &mut Random, caller: &Policy) -> Vec<Vec<u8>> {
+        let mut found = Vec::new();
+        for (package, class, facts) in self.within_reach() {
+            for method in &facts.methods {
+                let visible = package == 0 || method.bits & VISIBLE != 0;
+                let allowed = method.policy.allows(self.domain) && method.policy.covers(caller);
+                if visible && allowed {
+                    let kinds = call_kinds(facts.interface, method.bits);
+                    found.push(((package, class, method.name), kinds));
+                }
+            }
+        }
+        let mut calls = Vec::new();
+        for _ in 0..*random.pick(&[0, 1, 2, 3]) {
+            if let Some((reference, kinds)) = random.pick_any(&found) {
+                let opcode = *random.pick(kinds);
+                let index = self.reference(*reference);
+                calls.push(call(random, opcode, index));
+            }
+        }
+        calls
+    }
+
+    fn reference(&mut self, reference: (u8, u8, u16)) -> u16 {
+        let known = self.model.references.iter().position(|r| *r == reference);
+        known.unwrap_or_else(|| {
+            self.model.references.push(reference);
+            self.model.references.len() - 1
+        }) as u16
+    }
+}
+
+/// Names to declare, those that must be declared first.
+fn chosen_names(random: &mut Random, class: &ClassFacts) -> Vec<(u16, bool)> {
+    let falls_short = |(name, need): (&u16, &Policy)| match class.runs.get(name) {
+        Some(Some(runs)) if !runs.covers(need) => Some((*name, true)),
+        _ => None,
+    };
+    let mut names: Vec<(u16, bool)> = class.needs.iter().filter_map(falls_short).collect();
+    for _ in 0..random.below(5) {
+        let name = *random.pick(&[0, 1, 2, 3, 4, 5, 6, 7, 0x0100, 0x8D8D, 0xFFFF]);
+        if names.iter().all(|n| n.0 != name) {
+            names.push((name, false));
+        }
+    }
+    names
+}

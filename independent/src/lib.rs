@@ -1,0 +1,36 @@
+//! An independent reading of document 01: the staff card loader.
+
+pub mod bytes;
+pub mod card;
+pub mod code;
+pub mod contents;
+pub mod generate;
+pub mod ledger;
+pub mod load_questions;
+pub mod loader;
+pub mod operations;
+pub mod package;
+pub mod questions;
+pub mod store;
+
+/// What a call says: the number, and the figure that goes with it.
+#[derive(Clone, Copy, Debug, PartialEq, Eq)]
+pub struct Answer {
+    pub number: u8,
+    /// An accepted load's depth, or 1 for a query's yes; else 0.
+    pub figure: u8,
+}
+
+impl Answer {
+    /// Done with a figure, or the number of the first no.
+    pub fn of(judged: Result<u8, u8>) -> Self {
+        match judged {
+            Ok(figure) => Answer { number: 0, figure },
+            Err(number) => Answer { number, figure: 0 },
+        }
+    }
+
+    pub fn encoded(self) -> u32 {
+        u32::from(self.number) + 256 * u32::from(self.figure)
+    }
+}

@@ -1,0 +1,222 @@
+//! Questions 10 to 20, asked of a load. Each is asked of the whole file.
+
+use crate::code::{self, CallKind};
+use crate::contents::{Contents, Lineage, MethodPlace, Place};
+use crate::package::{self, Class, Method, Package};
+
+/// The greatest depth of a class.
+const MAX_DEPTH: u8 = 8;
+
+/// Does the file begin with mark and version?
+pub fn q10(file: &[u8]) -> bool {
+    file.starts_with(&package::MARK_AND_VERSION)
+}
+
+/// Does the rest read exactly to its end as laid out, size, counts and ranges included?
+pub fn q11(file: &[u8]) -> Option<Package<'_>> {
+    package::read(file)
+}
+
+/// Is the package AID not installed?
+pub fn q12(contents: &Contents, package: &Package) -> bool {
+    contents.package_number(package.aid).is_none()
+}
+
+/// Is each import installed? If so, their numbers.
+pub fn q13(contents: &Contents, package: &Package) -> Option<Vec<usize>> {
+    let imports = package.imports.iter();
+    imports.map(|aid| contents.package_number(aid)).collect()
+}
+
+/// Does each parent exist, an own one with a smaller number; have interfaces only
+/// interface parents, classes at most one kind-0 parent, the same one listed twice
+/// being two; is each depth at most 8?
+pub fn q14(contents: &Contents, package: &Package, imports: &[usize]) -> Option<Vec<Lineage>> {
+    let mut lineages: Vec<Lineage> = Vec::with_capacity(package.classes.len());
+    for class in &package.classes {
+        let lineage = lineage(contents, package, imports, &lineages, class)?;
+        lineages.push(lineage);
+    }
+    Some(lineages)
+}
+
+/// The lineage of the class that follows those whose lineages are given.
+fn lineage(
+    contents: &Contents,
+    package: &Package,
+    imports: &[usize],
+    earlier: &[Lineage],
+    class: &Class,
+) -> Option<Lineage> {
+    let mut parents = Vec::with_capacity(class.parents.len());
+    let mut class_parents = 0;
+    let mut deepest = 0;
+    for &(package_number, class_number) in &class.parents {
+        let number = usize::from(class_number);
+        let (holder, interface, depth) = if package_number == 0 {
+            let depth = earlier.get(number)?.depth;
+            let own = contents.packages.len();
+            (own, package.classes[number].interface, depth)
+        } else {
+            let holder = *imports.get(usize::from(package_number) - 1)?;
+            let installed = &contents.packages[holder];
+            let parent = installed.package.classes.get(number)?;
+            (holder, parent.interface, installed.lineages[number].depth)
+        };
+        class_parents += usize::from(!interface);
+        deepest = deepest.max(depth);
+        parents.push(Place {
+            package: holder,
+            class: number,
+        });
+    }
+    let most = if class.interface { 0 } else { 1 };
+    let depth = deepest + 1;
+    (class_parents <= most && depth <= MAX_DEPTH).then_some(Lineage { parents, depth })
+}
+
+/// Do names differ within each class; is each static method implemented, each
+/// interface method neither?
+pub fn q15(package: &Package) -> bool {
+    package.classes.iter().all(|class| {
+        let mut names: Vec<u16> = class.methods.iter().map(|m| m.name).collect();
+        names.sort_unstable();
+        let differ = names.windows(2).all(|pair| pair[0] != pair[1]);
+        let fits_kind = |m: &Method| match class.interface {
+            true => !m.is_static && !m.implemented(),
+            false => !m.is_static || m.implemented(),
+        };
+        differ && class.methods.iter().all(fits_kind)
+    })
+}
+
+/// A code of the file, split into instructions.
+pub struct Code<'a> {
+    class: usize,
+    method: usize,
+    bytes: &'a [u8],
+    starts: Vec<usize>,
+}
+
+/// Does each code split into instructions from offset 0 to its end, low at most
+/// high, the last being 70, 72–7A, 93 or A8?
+pub fn q16<'a>(package: &Package<'a>) -> Option<Vec<Code<'a>>> {
+    let mut codes = Vec::new();
+    for (class, record) in package.classes.iter().enumerate() {
+        for (method, declared) in record.methods.iter().enumerate() {
+            if let Some(bytes) = declared.code {
+                codes.push(Code {
+                    class,
+                    method,
+                    bytes,
+                    starts: code::split(bytes)?,
+                });
+            }
+        }
+    }
+    Some(codes)
+}
+
+/// Is each branch target an offset where an instruction starts?
+pub fn q17(codes: &[Code]) -> bool {
+    codes
+        .iter()
+        .all(|c| code::branches_land(c.bytes, &c.starts))
+}
+
+/// A call in the file: the method whose code has it and the method it names.
+pub struct Call {
+    caller: MethodPlace,
+    named: MethodPlace,
+}
+
+/// Does each call's reference exist and name a class that declares it, visible if
+/// imported; for 8B non-static of kind 0, 8C implemented, 8D static, 8E non-static
+/// of kind 1?
+pub fn q18(contents: &Contents, judged: usize, codes: &[Code]) -> Option<Vec<Call>> {
+    let mut found = Vec::new();
+    for code in codes {
+        let caller = MethodPlace {
+            class: Place {
+                package: judged,
+                class: code.class,
+            },
+            method: code.method,
+        };
+        for (kind, index) in code::calls(code.bytes, &code.starts) {
+            let named = named_method(contents, judged, kind, index)?;
+            found.push(Call { caller, named });
+        }
+    }
+    Some(found)
+}
+
+/// The method that a call names, if the call is as question 18 asks.
+fn named_method(
+    contents: &Contents,
+    judged: usize,
+    kind: CallKind,
+    index: usize,
+) -> Option<MethodPlace> {
+    let package = &contents.packages[judged].package;
+    let reference = package.references.get(index)?;
+    let place = contents.class_numbered(judged, reference.package, reference.class)?;
+    let class = contents.class(place);
+    let number = class.method_named(reference.name)?;
+    let method = &class.methods[number];
+    let visible = reference.package == 0 || method.visible;
+    let fits = match kind {
+        CallKind::Virtual => !method.is_static && !class.interface,
+        CallKind::Special => method.implemented(),
+        CallKind::Static => method.is_static,
+        CallKind::Interface => !method.is_static && class.interface,
+    };
+    (visible && fits).then_some(MethodPlace {
+        class: place,
+        method: number,
+    })
+}
+
+/// Does the method each call names allow the loading domain and all that the
+/// caller allows?
+pub fn q19(contents: &Contents, domain: &[u8], calls: &[Call]) -> bool {
+    calls.iter().all(|call| {
+        contents.allows(call.named, domain) && contents.allows_all(call.named, call.caller)
+    })
+}
+
+/// For each own class B and n, does the method that runs allow all that each
+/// non-static n of B and its ancestors allows?
+pub fn q20(contents: &Contents, judged: usize) -> bool {
+    let classes = &contents.packages[judged].package.classes;
+    (0..classes.len())
+        .filter(|&class| !classes[class].interface)
+        .all(|class| {
+            runs_for_all(
+                contents,
+                Place {
+                    package: judged,
+                    class,
+                },
+            )
+        })
+}
+
+/// Question 20 for one kind-0 class.
+fn runs_for_all(contents: &Contents, class: Place) -> bool {
+    let running = contents.running(class);
+    contents.with_ancestors(class).iter().all(|&holder| {
+        let methods = contents.class(holder).methods.iter().enumerate();
+        let mut asked = methods.filter(|(_, m)| !m.is_static);
+        asked.all(|(method, m)| {
+            let found = running.binary_search_by_key(&m.name, |&(name, _)| name);
+            match found.ok().and_then(|place| running[place].1) {
+                Some(runs) => {
+                    let class = holder;
+                    contents.allows_all(runs, MethodPlace { class, method })
+                }
+                None => true,
+            }
+        })
+    })
+}

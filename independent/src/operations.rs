@@ -1,0 +1,121 @@
+//! The six operations on a lent buffer.
+
+use crate::questions::{judge_creation, judge_load, number, q1, q2, q3, q5, q6, q7, q8, q9, Room};
+use crate::store::{self, Body};
+use crate::Answer;
+use std::ops::Range;
+
+/// The questions of each operation: what it would do, or the number of the first no.
+pub mod asked {
+    use super::*;
+
+    pub fn fresh(store: &[u8]) -> Result<(), u8> {
+        number(q1(store), 1)
+    }
+
+    pub fn create(store: &[u8], domain: &[u8]) -> Result<(), u8> {
+        number(q1(store), 1)?;
+        let contents = q2(store).ok_or(2)?;
+        judge_creation(&contents, room(store), domain)
+    }
+
+    /// The bytes of the domain's entry.
+    pub fn delete(store: &[u8], domain: &[u8]) -> Result<Range<usize>, u8> {
+        number(q1(store), 1)?;
+        let contents = q2(store).ok_or(2)?;
+        number(q3(&[domain]), 3)?;
+        number(q5(&contents, domain), 5)?;
+        number(q6(&contents, domain), 6)?;
+        Ok(contents.domains[domain].clone())
+    }
+
+    /// The depth of the deepest own class, 0 if there is none.
+    pub fn load(store: &[u8], domain: &[u8], file: &[u8]) -> Result<u8, u8> {
+        number(q1(store), 1)?;
+        let mut contents = q2(store).ok_or(2)?;
+        judge_load(&mut contents, room(store), domain, file)
+    }
+
+    /// The bytes of the package's entry.
+    pub fn remove(store: &[u8], package: &[u8]) -> Result<Range<usize>, u8> {
+        number(q1(store), 1)?;
+        let contents = q2(store).ok_or(2)?;
+        number(q3(&[package]), 3)?;
+        let package = q7(&contents, package).ok_or(7)?;
+        number(q8(&contents, package), 8)?;
+        Ok(contents.packages[package].entry.clone())
+    }
+
+    /// Does that method allow the domain?
+    pub fn query(
+        store: &[u8],
+        domain: &[u8],
+        package: &[u8],
+        class: u8,
+        name: u16,
+    ) -> Result<bool, u8> {
+        number(q1(store), 1)?;
+        let contents = q2(store).ok_or(2)?;
+        number(q3(&[domain, package]), 3)?;
+        let package = q7(&contents, package).ok_or(7)?;
+        let method = q9(&contents, package, class, name).ok_or(9)?;
+        Ok(contents.allows(method, domain))
+    }
+
+    fn room(store: &[u8]) -> Room {
+        Room {
+            used: store::used(store),
+            length: store.len(),
+        }
+    }
+}
+
+/// Writes an empty store.
+pub fn fresh(store: &mut [u8]) -> Answer {
+    let judged = asked::fresh(store);
+    if judged.is_ok() {
+        store::write_empty(store);
+    }
+    Answer::of(judged.map(|()| 0))
+}
+
+/// Appends a domain's entry.
+pub fn create(store: &mut [u8], domain: &[u8]) -> Answer {
+    let judged = asked::create(store, domain);
+    if judged.is_ok() {
+        store::append(store, &Body::Domain(domain));
+    }
+    Answer::of(judged.map(|()| 0))
+}
+
+/// Cuts a domain's entry out.
+pub fn delete(store: &mut [u8], domain: &[u8]) -> Answer {
+    let judged = asked::delete(store, domain);
+    Answer::of(judged.map(|entry| {
+        store::cut(store, entry);
+        0
+    }))
+}
+
+/// Appends a package's entry.
+pub fn load(store: &mut [u8], domain: &[u8], file: &[u8]) -> Answer {
+    let judged = asked::load(store, domain, file);
+    if judged.is_ok() {
+        store::append(store, &Body::Package { domain, file });
+    }
+    Answer::of(judged)
+}
+
+/// Cuts a package's entry out.
+pub fn remove(store: &mut [u8], package: &[u8]) -> Answer {
+    let judged = asked::remove(store, package);
+    Answer::of(judged.map(|entry| {
+        store::cut(store, entry);
+        0
+    }))
+}
+
+/// Says whether a method allows a domain.
+pub fn query(store: &[u8], domain: &[u8], package: &[u8], class: u8, name: u16) -> Answer {
+    Answer::of(asked::query(store, domain, package, class, name).map(u8::from))
+}

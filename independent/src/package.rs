@@ -1,0 +1,177 @@
+//! The package file, parsed to structures.
+
+use crate::bytes::Reader;
+
+/// The mark "BPK" and version 1.
+pub const MARK_AND_VERSION: [u8; 5] = [0x42, 0x50, 0x4B, 0, 1];
+
+pub const MAX_DOMAINS: usize = 32;
+pub const MAX_IMPORTS: usize = 15;
+pub const MAX_REFERENCES: usize = 1024;
+pub const MAX_CLASSES: usize = 32;
+pub const MAX_PARENTS: usize = 4;
+pub const MAX_METHODS: usize = 64;
+pub const MAX_ALLOWED: usize = 32;
+pub const MAX_CODE: usize = 4096;
+
+pub const VISIBLE: u8 = 0x80;
+pub const IMPLEMENTED: u8 = 0x40;
+pub const STATIC: u8 = 0x20;
+
+/// The allowed count that stands for every domain.
+pub const EVERY: u8 = 0xFF;
+
+#[derive(Clone, Debug)]
+pub struct Package<'a> {
+    pub aid: &'a [u8],
+    pub domains: Vec<&'a [u8]>,
+    pub imports: Vec<&'a [u8]>,
+    pub references: Vec<Reference>,
+    pub classes: Vec<Class<'a>>,
+}
+
+/// Package 0 is this one, k the k-th import.
+#[derive(Clone, Copy, Debug)]
+pub struct Reference {
+    pub package: u8,
+    pub class: u8,
+    pub name: u16,
+}
+
+#[derive(Clone, Debug)]
+pub struct Class<'a> {
+    pub interface: bool,
+    /// Package and class numbers of each parent.
+    pub parents: Vec<(u8, u8)>,
+    pub methods: Vec<Method<'a>>,
+}
+
+#[derive(Clone, Debug)]
+pub struct Method<'a> {
+    pub visible: bool,
+    pub is_static: bool,
+    pub name: u16,
+    pub allowed: Allowed<'a>,
+    /// Present when the method is implemented.
+    pub code: Option<&'a [u8]>,
+}
+
+#[derive(Clone, Copy, Debug)]
+pub enum Allowed<'a> {
+    Every,
+    /// Indexes into the package's domains.
+    Listed(&'a [u8]),
+}
+
+impl Class<'_> {
+    /// The number of the method of this name that the class itself declares.
+    pub fn method_named(&self, name: u16) -> Option<usize> {
+        self.methods.iter().position(|method| method.name == name)
+    }
+}
+
+impl Method<'_> {
+    pub fn implemented(&self) -> bool {
+        self.code.is_some()
+    }
+}
+
+/// Reads the file after mark and version; `None` unless it reads exactly to its end.
+pub fn read(file: &[u8]) -> Option<Package<'_>> {
+    let mut reader = Reader::new(file);
+    reader.take(MARK_AND_VERSION.len())?;
+    if usize::from(reader.u2()?) != file.len() {
+        return None;
+    }
+    let aid = reader.aid()?;
+    let domains = read_aids(&mut reader, MAX_DOMAINS)?;
+    let imports = read_aids(&mut reader, MAX_IMPORTS)?;
+    let references = read_references(&mut reader)?;
+    let class_count = reader.count1(MAX_CLASSES)?;
+    let classes = (0..class_count)
+        .map(|_| read_class(&mut reader, domains.len()))
+        .collect::<Option<Vec<_>>>()?;
+    reader.rest().is_empty().then_some(Package {
+        aid,
+        domains,
+        imports,
+        references,
+        classes,
+    })
+}
+
+fn read_aids<'a>(reader: &mut Reader<'a>, limit: usize) -> Option<Vec<&'a [u8]>> {
+    let count = reader.count1(limit)?;
+    (0..count).map(|_| reader.aid()).collect()
+}
+
+fn read_references(reader: &mut Reader) -> Option<Vec<Reference>> {
+    let count = usize::from(reader.u2()?);
+    if count > MAX_REFERENCES {
+        return None;
+    }
+    let fields = reader.take(4 * count)?.chunks_exact(4);
+    let references = fields.map(|field| Reference {
+        package: field[0],
+        class: field[1],
+        name: u16::from_be_bytes([field[2], field[3]]),
+    });
+    Some(references.collect())
+}
+
+fn read_class<'a>(reader: &mut Reader<'a>, domain_count: usize) -> Option<Class<'a>> {
+    let kind = reader.count1(1)?;
+    let parent_count = reader.count1(MAX_PARENTS)?;
+    let parents = reader.take(2 * parent_count)?.chunks_exact(2);
+    let method_count = reader.count1(MAX_METHODS)?;
+    Some(Class {
+        interface: kind == 1,
+        parents: parents.map(|pair| (pair[0], pair[1])).collect(),
+        methods: (0..method_count)
+            .map(|_| read_method(reader, domain_count))
+            .collect::<Option<Vec<_>>>()?,
+    })
+}
+
+fn read_method<'a>(reader: &mut Reader<'a>, domain_count: usize) -> Option<Method<'a>> {
+    let bits = reader.u1()?;
+    if bits & !(VISIBLE | IMPLEMENTED | STATIC) != 0 {
+        return None;
+    }
+    let name = reader.u2()?;
+    let allowed = read_allowed(reader, domain_count)?;
+    let code = if bits & IMPLEMENTED != 0 {
+        Some(read_code(reader)?)
+    } else {
+        None
+    };
+    Some(Method {
+        visible: bits & VISIBLE != 0,
+        is_static: bits & STATIC != 0,
+        name,
+        allowed,
+        code,
+    })
+}
+
+fn read_allowed<'a>(reader: &mut Reader<'a>, domain_count: usize) -> Option<Allowed<'a>> {
+    let count = reader.u1()?;
+    if count == EVERY {
+        return Some(Allowed::Every);
+    }
+    if usize::from(count) > MAX_ALLOWED {
+        return None;
+    }
+    let indexes = reader.take(usize::from(count))?;
+    let in_range = indexes.iter().all(|&i| usize::from(i) < domain_count);
+    in_range.then_some(Allowed::Listed(indexes))
+}
+
+fn read_code<'a>(reader: &mut Reader<'a>) -> Option<&'a [u8]> {
+    let length = usize::from(reader.u2()?);
+    if (1..=MAX_CODE).contains(&length) {
+        reader.take(length)
+    } else {
+        None
+    }
+}

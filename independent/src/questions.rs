@@ -1,0 +1,137 @@
+//! Questions 1 to 9 and 21, and the orders in which an entry is judged.
+
+use crate::bytes::AID_LENGTHS;
+use crate::contents::{Contents, MethodPlace, Place};
+use crate::load_questions::{q10, q11, q12, q13, q14, q15, q16, q17, q18, q19, q20};
+use crate::store::{self, Body, HEAD};
+
+/// Has the store 64 to 65,535 bytes?
+pub fn q1(store: &[u8]) -> bool {
+    (64..=65_535).contains(&store.len())
+}
+
+/// Is it sound? If so, what it holds.
+pub fn q2(store: &[u8]) -> Option<Contents<'_>> {
+    let mut contents = Contents::default();
+    let mut used = HEAD;
+    for entry in store::entries(store)? {
+        let room = Room {
+            used,
+            length: store.len(),
+        };
+        match entry.body {
+            Body::Domain(aid) => {
+                judge_creation(&contents, room, aid).ok()?;
+                contents.domains.insert(aid, entry.bytes.clone());
+            }
+            Body::Package { domain, file } => {
+                judge_load(&mut contents, room, domain, file).ok()?;
+            }
+        }
+        used = entry.bytes.end;
+    }
+    Some(contents)
+}
+
+/// Has every AID given to the call 5 to 16 bytes?
+pub fn q3(aids: &[&[u8]]) -> bool {
+    aids.iter().all(|aid| AID_LENGTHS.contains(&aid.len()))
+}
+
+/// Is the domain new?
+pub fn q4(contents: &Contents, domain: &[u8]) -> bool {
+    !contents.domains.contains_key(domain)
+}
+
+/// Has it been created?
+pub fn q5(contents: &Contents, domain: &[u8]) -> bool {
+    contents.domains.contains_key(domain)
+}
+
+/// Does no installed package lie in it?
+pub fn q6(contents: &Contents, domain: &[u8]) -> bool {
+    contents.packages.iter().all(|p| p.domain != domain)
+}
+
+/// Is the package installed? If so, its number.
+pub fn q7(contents: &Contents, package: &[u8]) -> Option<usize> {
+    contents.package_number(package)
+}
+
+/// Does no other installed package import it?
+pub fn q8(contents: &Contents, package: usize) -> bool {
+    let mut others = contents.packages.iter();
+    others.all(|p| !p.imports.contains(&package))
+}
+
+/// Does it have this class, and that class this name? If so, that method.
+pub fn q9(contents: &Contents, package: usize, class: u8, name: u16) -> Option<MethodPlace> {
+    let class = Place {
+        package,
+        class: usize::from(class),
+    };
+    let classes = &contents.packages[package].package.classes;
+    let method = classes.get(class.class)?.method_named(name)?;
+    Some(MethodPlace { class, method })
+}
+
+/// Does the entry fit, used not passing the buffer's length?
+pub fn q21(room: Room, body: &Body) -> bool {
+    room.used + store::entry_length(body) <= room.length
+}
+
+/// The bytes used before an entry, and the buffer's length.
+#[derive(Clone, Copy)]
+pub struct Room {
+    pub used: usize,
+    pub length: usize,
+}
+
+/// The number of a question when its answer is no.
+pub fn number(yes: bool, question: u8) -> Result<(), u8> {
+    if yes {
+        Ok(())
+    } else {
+        Err(question)
+    }
+}
+
+/// Asks 3, 4 and 21 of a creation.
+pub fn judge_creation(contents: &Contents, room: Room, domain: &[u8]) -> Result<(), u8> {
+    number(q3(&[domain]), 3)?;
+    number(q4(contents, domain), 4)?;
+    number(q21(room, &Body::Domain(domain)), 21)
+}
+
+/// Asks 3, 5 and 10 to 21 of a load. With all yes the package is among the
+/// contents and the depth of its deepest class is given; with a no the contents
+/// are of no further use.
+pub fn judge_load<'a>(
+    contents: &mut Contents<'a>,
+    room: Room,
+    domain: &'a [u8],
+    file: &'a [u8],
+) -> Result<u8, u8> {
+    number(q3(&[domain]), 3)?;
+    number(q5(contents, domain), 5)?;
+    number(q10(file), 10)?;
+    let package = q11(file).ok_or(11)?;
+    number(q12(contents, &package), 12)?;
+    let imports = q13(contents, &package).ok_or(13)?;
+    let lineages = q14(contents, &package, &imports).ok_or(14)?;
+    number(q15(&package), 15)?;
+    let codes = q16(&package).ok_or(16)?;
+    number(q17(&codes), 17)?;
+
+    let depth = lineages.iter().map(|l| l.depth).max().unwrap_or(0);
+    let body = Body::Package { domain, file };
+    let entry = room.used..room.used + store::entry_length(&body);
+    let judged = contents.packages.len();
+    contents.add(domain, entry, package, imports, lineages);
+
+    let calls = q18(contents, judged, &codes).ok_or(18)?;
+    number(q19(contents, domain, &calls), 19)?;
+    number(q20(contents, judged), 20)?;
+    number(q21(room, &body), 21)?;
+    Ok(depth)
+}

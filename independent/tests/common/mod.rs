@@ -1,0 +1,79 @@
+//! Short ways to write packages and stores in tests.
+#![allow(dead_code)]
+
+use independent::generate::model::{ClassModel, FileModel, MethodModel};
+use independent::operations::{create, fresh, load};
+
+pub const D1: &[u8] = &[0xA0, 0, 0, 0, 0xD1];
+pub const D2: &[u8] = &[0xA0, 0, 0, 0, 0xD2];
+pub const P1: &[u8] = &[0xA0, 0, 0, 1, 1];
+pub const P2: &[u8] = &[0xA0, 0, 0, 1, 2];
+pub const P3: &[u8] = &[0xA0, 0, 0, 1, 3];
+
+pub const VISIBLE: u8 = 0x80;
+pub const BODY: u8 = 0x40;
+pub const STATIC: u8 = 0x60;
+
+/// A fresh store with domains D1 and D2.
+pub fn store(length: usize) -> Vec<u8> {
+    let mut store = vec![0xEE; length];
+    assert_eq!(fresh(&mut store).number, 0);
+    for domain in [D1, D2] {
+        assert_eq!(create(&mut store, domain).number, 0);
+    }
+    store
+}
+
+/// A package with domains D1 and D2 in its list.
+pub fn package(aid: &[u8], classes: Vec<ClassModel>) -> FileModel {
+    FileModel {
+        aid: aid.to_vec(),
+        domains: vec![D1.to_vec(), D2.to_vec()],
+        classes,
+        ..FileModel::default()
+    }
+}
+
+pub fn importing(mut model: FileModel, imports: &[&[u8]]) -> FileModel {
+    model.imports = imports.iter().map(|aid| aid.to_vec()).collect();
+    model
+}
+
+pub fn class(parents: &[(u8, u8)], methods: Vec<MethodModel>) -> ClassModel {
+    ClassModel::new(0, parents, methods)
+}
+
+pub fn interface(parents: &[(u8, u8)], methods: Vec<MethodModel>) -> ClassModel {
+    ClassModel::new(1, parents, methods)
+}
+
+/// A method; one with a body returns at once.
+pub fn method(bits: u8, name: u16, allowed: Option<&[u8]>) -> MethodModel {
+    MethodModel::new(bits, name, allowed, &[0x7A])
+}
+
+pub fn coded(bits: u8, name: u16, allowed: Option<&[u8]>, code: &[u8]) -> MethodModel {
+    MethodModel::new(bits, name, allowed, code)
+}
+
+/// The number of a load in D1 over a fresh store with D1 and D2.
+pub fn judged(model: &FileModel) -> u8 {
+    judged_after(&[], model)
+}
+
+/// The same with packages loaded before, in D1.
+pub fn judged_after(earlier: &[FileModel], model: &FileModel) -> u8 {
+    let mut store = store(65_535);
+    for earlier in earlier {
+        assert_eq!(load(&mut store, D1, &earlier.bytes()).number, 0);
+    }
+    load(&mut store, D1, &model.bytes()).number
+}
+
+/// A package whose only method has this code.
+pub fn with_code(code: &[u8]) -> FileModel {
+    package(
+        P1,
+        vec![class(&[], vec![coded(STATIC, 1, Some(&[]), code)])],
+    )
+}
