@@ -1,8 +1,6 @@
--- Counted lists at places: the start, a turn and the end of a loop over any reader, and lists of elements of one width. Assumes nothing.
-use Prim.Native.Nat.{ℕ, zero, suc, _+_, _-_, _*_, _≤_, _<_}
+-- Counted lists at places: the start, a turn and the end of a loop over any reader. Assumes nothing.
+use Prim.Native.Nat.{ℕ, zero, suc, _-_, _≤_, _<_}
 use native.Mathlib.Omega.{arith}
-use native.Mathlib.Decide.{decLe}
-use native.Mathlib.Nat.{mul-zero, mul-suc}
 use mathlib.Core.Path.{_≡_, refl, sym, _∙_, ap, subst}
 use mathlib.Core.Bool.{Bool, true, false}
 use mathlib.Core.List.{List, [], _∷_}
@@ -18,17 +16,17 @@ use Rattle.cursor.proofs.Steps.{Leads, said, stop-none, stopped, value-
 -- a loop over a list that `whole` reads at place i: `left` values are still to be read at place c
 module _ {A : Type 0} (r : Reader A) {s : Bytes} where
   -- no more values
-  none-left : (left c : ℕ) → left ≤ 0 → c ≤ length s → Stops (many left r) s c (some c)
+  pub none-left : (left c : ℕ) → left ≤ 0 → c ≤ length s → Stops (many left r) s c (some c)
   none-left zero c h k = stops refl k
   none-left (suc n) c h k = absurd (omega arith)
 
   -- the next one does not read
-  next-none : (left c : ℕ) → 0 < left → Stops r s c none → Stops (many left r) s c none
+  pub next-none : (left c : ℕ) → 0 < left → Stops r s c none → Stops (many left r) s c none
   next-none zero c h p = absurd (omega arith)
   next-none (suc n) c h p = then-none (λ x. many n r >>= λ xs. ret (x ∷ xs)) p
 
   -- the next one reads: what is left decides
-  next-leads : (left c d : ℕ) → 0 < left → Stops r s c (some d) → Leads (many left r) (many (left - 1) r) s c d
+  pub next-leads : (left c d : ℕ) → 0 < left → Stops r s c (some d) → Leads (many left r) (many (left - 1) r) s c d
   next-leads zero c d h p o q = absurd (omega arith)
   next-leads (suc n) c d h p o q =
       let x = value-of p in
@@ -95,33 +93,3 @@ module _ {A : Type 0} (most : ℕ) (r : Reader A) {count : Reader ℕ} {s : Byte
             inner : (b : Bool) → when b (many n r) (drop j s) ≡ some (xs, rest) → many n r (drop j s) ≡ some (xs, rest)
             inner true q = q
             inner false q = absurd (none-some q)
-
--- a value of w bytes is read exactly where that many are left
-pub record Wide {A : Type 0} (r : Reader A) (s : Bytes) (w : ℕ) : Type 0 where
-  pub reads : (i : ℕ) → i + w ≤ length s → Stops r s i (some (i + w))
-  pub ends : (i : ℕ) → length s < i + w → Stops r s i none
-
--- so many values of one width
-module _ {A : Type 0} {r : Reader A} {s : Bytes} {w : ℕ} (wide : Wide r s w) where
-  pub wide-reads : (n i : ℕ) → i + w * n ≤ length s → Stops (many n r) s i (some (i + w * n))
-  wide-reads zero i h =
-      let e : w * 0 ≡ 0 = mul-zero w in
-      let f : i + w * 0 ≡ i = omega arith in
-      rw f (none-left r 0 i (omega arith) (omega arith))
-  wide-reads (suc n) i h =
-      let e : w * suc n ≡ w * n + w = mul-suc w n in
-      let f : i + w * suc n ≡ i + w + w * n = omega arith in
-      let g : n ≡ suc n - 1 = omega arith in
-      let rest : Stops (many n r) s (i + w) (some (i + w + w * n)) = wide-reads n (i + w) (omega arith) in
-      rw f (next-leads r (suc n) i (i + w) (omega arith) (wide .reads i (omega arith)) (some (i + w + w * n)) (rw (← g) rest))
-
-  pub wide-ends : (n i : ℕ) → i ≤ length s → length s < i + w * n → Stops (many n r) s i none
-  wide-ends zero i k h = absurd (omega (arith, mul-zero w))
-  wide-ends (suc n) i k h = elim (decLe (i + w) (length s)) [
-    | yes m ↦
-        let e : w * suc n ≡ w * n + w = mul-suc w n in
-        let g : n ≡ suc n - 1 = omega arith in
-        let rest : Stops (many n r) s (i + w) none = wide-ends n (i + w) m (omega arith) in
-        next-leads r (suc n) i (i + w) (omega arith) (wide .reads i m) none (rw (← g) rest)
-    | no m ↦ next-none r (suc n) i (omega arith) (wide .ends i (omega arith))
-  ]

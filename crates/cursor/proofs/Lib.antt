@@ -2,5 +2,6 @@
 pub mod Steps
 pub mod Fields
 pub mod Counts
+pub mod Widths
 pub mod Copies
 pub mod Aids

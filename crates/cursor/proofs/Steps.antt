@@ -85,6 +85,10 @@ module _ {A B : Type 0} {r : Reader A} (k : A → Reader B) {s : Bytes} {i : ℕ
   then-leads h (some m) (stops {a = b} p l) = let x = said h in stops {a = b} {j = m} (rw (x .1, x .2) p) l
   then-leads h none (stops-none p) = let x = said h in stops-none (rw (x .1, x .2) p)
 
+  -- with a value of which f is told
+  pub then-told : {C : Type 0} {f : A → C} {c : C} {j : ℕ} → Says f r s i (some (c, j)) → (o : Option ℕ) → ((a : A) → f a ≡ c → Stops (k a) s j o) → Stops (r >>= k) s i o
+  then-told (says {a} e v h) o p = then-leads (says e refl h) o (p a v)
+
   -- with whatever value
   pub then-any : {j : ℕ} → Stops r s i (some j) → (o : Option ℕ) → ((a : A) → Stops (k a) s j o) → Stops (r >>= k) s i o
   then-any h o p = let x = value-of h in then-leads (x .1) o (p (x .0))

@@ -1,3 +1,4 @@
+-- The definitions that the contracts of the cursor cite.
 pub mod Says
 pub mod Aids
 pub mod Limits

@@ -11,7 +11,7 @@ use lib.ListN.{length, take, drop, getD}
 use borrow.Author.Tests.{eq-eqb, ne-eqb}
 use Rattle.rules.specs.Bytes.{Bytes, Aid, at, u1, u2, many, aid, counted}
 use Rattle.rules.specs.Code.{u2At}
-use Rattle.rules.specs.Package.{Limits, mostReferences, mostMethods, mostClasses, ClassNumber, Reference, Method, classNumber, reference, domainIndex, policy, codeIf, bit, method, class}
+use Rattle.rules.specs.Package.{Limits, mostReferences, mostMethods, mostClasses, ClassNumber, Reference, Method, classNumber, reference, domainIndex, codeIf, bit, method, class}
 use Rattle.places.specs.Reads.{Reads, Ends, EndsAt}
 use Rattle.places.specs.Parts.{CodePart}
 use Rattle.places.proofs.Inverse.{reads-counted, reads-u1, reads-u2}

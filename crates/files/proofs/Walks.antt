@@ -7,11 +7,14 @@ use Rattle.rules.specs.Bytes.{Bytes, aid, u1, u2, counted}
 use Rattle.rules.specs.Package.{Limits, mostDomains, mostImports, mostReferences, mostClasses, Package, reference, class, readFile}
 use Rattle.places.specs.Reads.{Reads, Ends, EndsAt}
 use Rattle.places.proofs.Parts.{moved, file-parts}
-use Rattle.files.specs.Say.{Aids, AfterAids, References, AfterReferences, Classes, ClassNth, Readable, DomainsAt, ImportsAt, ReferencesAt, ClassesAt, ClassPlaced}
+use Rattle.files.specs.Say.{Aids, AfterAids, AidBytes, References, AfterReferences, Classes, ClassNth, Readable, OwnAid, DomainsAt, ImportsAt, ReferencesAt, ClassesAt, ClassPlaced}
 use Rattle.files.specs.declared.Spot.{Spot}
 
 pub file-aid : {f : Bytes} → Readable f → Ends aid f 7
 file-aid {f} r = let t = file-parts (r .0) f (r .1) (r .2) in (r .1 .aid, t .domainsAt, t .named)
+
+pub file-own : {f r : Bytes} → AidBytes f 7 r → OwnAid f r
+file-own {f} h l p e = let t = file-parts l f p e in h (p .aid) (t .domainsAt) (t .named)
 
 pub file-domains : {f : Bytes} {d : ℕ} → EndsAt aid f 7 d → DomainsAt f d
 file-domains {f} h l p e = let t = file-parts l f p e in (t, sym (h (p .aid) (t .domainsAt) (t .named)))

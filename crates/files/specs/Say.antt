@@ -44,6 +44,10 @@ AfterAids s i e = (most : ℕ) → EndsAt (counted most u1 aid) s i e
 abbrev pub AidNth : Bytes → ℕ → ℕ → Spot → Type 0
 AidNth s i k r = (most : ℕ) (ds : List Aid) (j : ℕ) → Reads (counted most u1 aid) s i ds j → Placed aid s (at ds k) (spot r)
 
+-- the bytes of the AID at a place
+abbrev pub AidBytes : Bytes → ℕ → Bytes → Type 0
+AidBytes s i r = (a : Aid) (j : ℕ) → Reads aid s i a j → r ≡ a
+
 -- the AID at a place is x
 abbrev pub AidIs : Bytes → ℕ → Aid → Bool → Type 0
 AidIs s i x r = (a : Aid) (j : ℕ) → Reads aid s i a j → r ≡ same x a
@@ -138,6 +142,10 @@ ClassNth s i k r = (l : Limits) (ds : List Aid) (cs : List Class) (j : ℕ) → 
 -- a file
 abbrev pub Readable : Bytes → Type 0
 Readable f = (l : Limits) × (p : Package) × (readFile l f ≡ some p)
+
+-- the bytes of its package's AID
+abbrev pub OwnAid : Bytes → Bytes → Type 0
+OwnAid f r = (l : Limits) (p : Package) → readFile l f ≡ some p → r ≡ p .aid
 
 -- a fact of the package that a file reads as, and of the places of its lists
 abbrev pub OfFile : (f : Bytes) → ((l : Limits) (p : Package) → FilePart l f p → Type 0) → Type 0

@@ -5,7 +5,7 @@ use fields::wide;
 ghost use mathlib.Core.Path.{_≡_};
 ghost use Rattle.rules.specs.Bytes.{aid};
 ghost use Rattle.places.specs.Reads.{Ends, EndsAt};
-ghost use Rattle.files.specs.Say.{Aids, AfterAids, AidNth, AidIs, References, AfterReferences, ReferenceNth, PolicyThere, AfterPolicy, MethodThere, AfterMethod, PolicyAt, NameIs, VisibleIs, ImplementedIs, StaticIs, InstanceIs, CodeIs, Methods, AfterMethods, ClassThere, AfterClass, ParentsAt, MethodsAt, InterfaceIs, DeclaredPlaced, InstancePlaced, Classes, ClassNth, Readable, DomainsAt, ImportsAt, ReferencesAt, ClassesAt, ClassPlaced};
+ghost use Rattle.files.specs.Say.{Aids, AfterAids, AidNth, AidBytes, AidIs, References, AfterReferences, ReferenceNth, PolicyThere, AfterPolicy, MethodThere, AfterMethod, PolicyAt, NameIs, VisibleIs, ImplementedIs, StaticIs, InstanceIs, CodeIs, Methods, AfterMethods, ClassThere, AfterClass, ParentsAt, MethodsAt, InterfaceIs, DeclaredPlaced, InstancePlaced, Classes, ClassNth, Readable, OwnAid, DomainsAt, ImportsAt, ReferencesAt, ClassesAt, ClassPlaced};
 
 // A place, or none.
 pub enum Spot {
@@ -60,13 +60,21 @@ pub fn nth_aid(s: &[u8], at: usize, k: usize) -> Spot
     Spot::Nothing
 }
 
-// Is the AID at a place the bytes of x?
+// The AID at a place, as a part of the file.
+pub fn aid_bytes<'a>(s: &'a [u8], at: usize) -> &'a [u8]
+    requires { ⌜ Ends aid (now s) at ⌝ }
+    ensures { λ r. ⌜ AidBytes (now (s .entry)) at (now r) ⌝ }
+{
+    let e = after_aid(s, at);
+    &s[at + 1..e]
+}
+
+// Is it the bytes of x?
 pub fn aid_is(s: &[u8], at: usize, x: &[u8]) -> bool
     requires { ⌜ Ends aid (now s) at ⌝ }
     ensures { λ r. ⌜ AidIs (now (s .entry)) at (now (x .entry)) r ⌝ }
 {
-    let e = after_aid(s, at);
-    same_bytes(x, &s[at + 1..e])
+    same_bytes(x, aid_bytes(s, at))
 }
 
 // Where the counted list of references at a place ends.
@@ -280,7 +288,15 @@ pub fn nth_class(s: &[u8], at: usize, k: usize) -> Spot
     Spot::Nothing
 }
 
-// The counted list of a file's domains.
+// The AID of a file's package, as a part of it.
+pub fn own_aid<'a>(f: &'a [u8]) -> &'a [u8]
+    requires { ⌜ Readable (now f) ⌝ }
+    ensures { λ r. ⌜ OwnAid (now (f .entry)) (now r) ⌝ }
+{
+    aid_bytes(f, 7)
+}
+
+// The counted list of its domains.
 pub fn domains_at(f: &[u8]) -> usize
     requires { ⌜ Readable (now f) ⌝ }
     ensures { λ r. ⌜ DomainsAt (now (f .entry)) r ⌝ }

@@ -1,7 +1,6 @@
 -- `files::after_aids` meets its contract: the loop passes one AID a turn, and its invariant is that the AIDs left are still to be read. Assumes nothing.
 use native.Mathlib.Omega.{arith}
 use borrow.Author.Needs.{needs}
-use Rattle.rules.specs.Bytes.{at}
 use Rattle.places.specs.Reads.{nil}
 use Rattle.files.proofs.Loops as loops
 use Rattle.files.proofs.Steps as steps

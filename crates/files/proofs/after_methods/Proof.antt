@@ -1,7 +1,6 @@
 -- `files::after_methods` meets its contract: the loop passes one method a turn. Assumes nothing.
 use native.Mathlib.Omega.{arith}
 use borrow.Author.Needs.{needs}
-use Rattle.rules.specs.Bytes.{at}
 use Rattle.places.specs.Reads.{nil}
 use Rattle.files.proofs.Loops as loops
 use Rattle.files.proofs.Steps as steps

@@ -4,7 +4,7 @@ use mathlib.Core.Path.{sym, _∙_}
 use lib.Dec.{eqb}
 use borrow.Author.Tests.{eq-eqb, ne-eqb}
 use borrow.Author.Needs.{needs}
-use Rattle.rules.specs.Bytes.{find, at}
+use Rattle.rules.specs.Bytes.{find}
 use Rattle.files.proofs.Loops as loops
 use Rattle.files.proofs.Steps as steps
 use Rattle.files.proofs.find_method.Statement.{statement}

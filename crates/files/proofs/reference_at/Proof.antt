@@ -1,7 +1,6 @@
 -- `files::reference_at` meets its contract: a reference is four bytes, so the one with a number is found without a loop. Assumes nothing.
 use native.Mathlib.Omega.{arith}
 use borrow.Author.Needs.{needs}
-use Rattle.rules.specs.Bytes.{at}
 use Rattle.files.proofs.Steps as steps
 use Rattle.files.proofs.reference_at.Statement.{statement}
 use Rattle.files.proofs.reference_at.Tie as tie

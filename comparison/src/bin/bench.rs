@@ -1,0 +1,67 @@
+//! `bench ROUNDS DATE`: times of the library and the independent reader, and the
+//! library's peak stack. `bench instructions`: instructions of single calls, where
+//! valgrind is at hand.
+
+use comparison::instructions;
+use comparison::stack::peaks;
+use comparison::tables::{print_stack, Measured};
+use comparison::timing::measure;
+use comparison::workloads::{self, Workload};
+use independent::generate::sequences::sequence;
+use independent::generate::special;
+use independent::loader::{Sequence, Step};
+use std::process::ExitCode;
+
+/// The fewest rounds that count.
+const ROUNDS: usize = 30;
+
+fn main() -> ExitCode {
+    let arguments: Vec<String> = std::env::args().skip(1).collect();
+    let arguments: Vec<&str> = arguments.iter().map(String::as_str).collect();
+    match arguments[..] {
+        ["instructions"] => instructions::print(),
+        ["once", workload, reader, count] => instructions::once(workload, reader, count),
+        [rounds, date] => match rounds.parse() {
+            Ok(rounds) if rounds >= ROUNDS => bench(rounds, date),
+            _ => return usage(),
+        },
+        _ => return usage(),
+    }
+    ExitCode::SUCCESS
+}
+
+fn usage() -> ExitCode {
+    eprintln!("usage: bench ROUNDS DATE, with at least {ROUNDS} rounds; bench instructions");
+    ExitCode::FAILURE
+}
+
+fn bench(rounds: usize, date: &str) {
+    println!("{}, {date}, {rounds} rounds.\n", processor());
+    let workloads = workloads::all();
+    let stack = peaks(stack_sequences(&workloads));
+    let times = measure(&workloads, rounds);
+    Measured { workloads, times }.print();
+    print_stack(&stack);
+}
+
+/// The processor's name.
+fn processor() -> String {
+    let text = std::fs::read_to_string("/proc/cpuinfo").unwrap_or_default();
+    let line = text.lines().find(|line| line.starts_with("model name"));
+    let name = line.and_then(|line| line.split_once(':'));
+    name.map_or("unknown processor".into(), |(_, name)| name.trim().into())
+}
+
+/// Calls that reach deep: limits, ladders, full stores, all that is timed, and others.
+fn stack_sequences(workloads: &[Workload]) -> Vec<Sequence> {
+    let mut found = special::lengths();
+    found.push(special::limits());
+    found.extend(special::full_stores());
+    found.extend(special::hostile());
+    found.extend((0..300).map(sequence));
+    found.extend(workloads.iter().map(|workload| Sequence {
+        start: workload.store.clone(),
+        steps: vec![Step::Call(workload.call.clone())],
+    }));
+    found
+}

@@ -1,0 +1,136 @@
+//! How often each operation answered each number.
+
+use independent::loader::{Independent, Loader};
+use std::cell::RefCell;
+
+pub const OPERATIONS: [&str; 6] = ["fresh", "create", "delete", "load", "remove", "query"];
+
+const NUMBERS: usize = 22;
+const LOAD: usize = 3;
+const QUERY: usize = 5;
+
+/// The numbers that each operation can answer.
+const CAN_ANSWER: [&[usize]; 6] = [
+    &[0, 1],
+    &[0, 1, 2, 3, 4, 21],
+    &[0, 1, 2, 3, 5, 6],
+    &[
+        0, 1, 2, 3, 5, 10, 11, 12, 13, 14, 15, 16, 17, 18, 19, 20, 21,
+    ],
+    &[0, 1, 2, 3, 7, 8],
+    &[0, 1, 2, 3, 7, 9],
+];
+
+#[derive(Default)]
+pub struct Counts {
+    answers: [[u64; NUMBERS]; 6],
+    /// Accepted loads by the depth of the deepest class.
+    depths: [u64; 9],
+    /// Queries answered yes.
+    yes: u64,
+}
+
+impl Counts {
+    fn note(&mut self, operation: usize, answer: u32) {
+        let (number, figure) = ((answer & 0xFF) as usize, (answer >> 8) as usize);
+        self.answers[operation][number] += 1;
+        if number == 0 && operation == LOAD {
+            self.depths[figure] += 1;
+        }
+        if number == 0 && operation == QUERY {
+            self.yes += figure as u64;
+        }
+    }
+
+    pub fn calls(&self) -> u64 {
+        self.answers.iter().flatten().sum()
+    }
+
+    fn loads(&self) -> u64 {
+        self.answers[LOAD].iter().sum()
+    }
+
+    /// Rows are operations, columns numbers; a dash where there is nothing to reach.
+    pub fn print(&self) {
+        print!("{:8}", "");
+        (0..NUMBERS).for_each(|number| print!("{number:>7}"));
+        println!();
+        for (operation, name) in OPERATIONS.iter().enumerate() {
+            print!("{name:8}");
+            for number in 0..NUMBERS {
+                match self.answers[operation][number] {
+                    0 if !CAN_ANSWER[operation].contains(&number) => print!("{:>7}", "-"),
+                    count => print!("{count:>7}"),
+                }
+            }
+            println!();
+        }
+        let (loads, accepted) = (self.loads(), self.answers[LOAD][0]);
+        println!(
+            "{accepted} of {loads} loads accepted, by depth {:?}; {} of {} queries answered yes",
+            self.depths, self.yes, self.answers[QUERY][0]
+        );
+    }
+
+    /// What falls short of this many answers of each number and a fifth of loads accepted.
+    pub fn shortfalls(&self, least: u64) -> Vec<String> {
+        let mut found = Vec::new();
+        for (operation, numbers) in CAN_ANSWER.iter().enumerate() {
+            for &number in *numbers {
+                let count = self.answers[operation][number];
+                if count < least {
+                    let name = OPERATIONS[operation];
+                    found.push(format!("{name} answered {number} only {count} times"));
+                }
+            }
+        }
+        if 5 * self.answers[LOAD][0] < self.loads() {
+            found.push("fewer than a fifth of loads were accepted".into());
+        }
+        found
+    }
+}
+
+/// The independent reader, its answers counted.
+#[derive(Default)]
+pub struct Counting {
+    counts: RefCell<Counts>,
+}
+
+impl Counting {
+    fn noted(&self, operation: usize, answer: u32) -> u32 {
+        self.counts.borrow_mut().note(operation, answer);
+        answer
+    }
+
+    pub fn into_counts(self) -> Counts {
+        self.counts.into_inner()
+    }
+}
+
+impl Loader for Counting {
+    fn fresh(&self, store: &mut [u8]) -> u32 {
+        self.noted(0, Independent.fresh(store))
+    }
+
+    fn create(&self, store: &mut [u8], domain: &[u8]) -> u32 {
+        self.noted(1, Independent.create(store, domain))
+    }
+
+    fn delete(&self, store: &mut [u8], domain: &[u8]) -> u32 {
+        self.noted(2, Independent.delete(store, domain))
+    }
+
+    fn load(&self, store: &mut [u8], domain: &[u8], file: &[u8]) -> u32 {
+        self.noted(LOAD, Independent.load(store, domain, file))
+    }
+
+    fn remove(&self, store: &mut [u8], package: &[u8]) -> u32 {
+        self.noted(4, Independent.remove(store, package))
+    }
+
+    fn query(&self, store: &mut [u8], domain: &[u8], package: &[u8], class: u8, name: u16) -> u32 {
+        let answer = Independent.query(store, domain, package, class, name);
+        self.noted(QUERY, answer)
+    }
+}

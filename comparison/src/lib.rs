@@ -1,0 +1,15 @@
+//! The loader's static library beside the independent reader: compared and timed.
+
+#![deny(unsafe_code)]
+
+pub mod counts;
+pub mod fixed;
+pub mod guarded;
+pub mod instructions;
+pub mod library;
+pub mod ordinary;
+pub mod report;
+pub mod stack;
+pub mod tables;
+pub mod timing;
+pub mod workloads;

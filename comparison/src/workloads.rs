@@ -1,0 +1,173 @@
+//! What the benchmark times: a store, and one call over it.
+
+use crate::ordinary::{domain, home, of_codes, of_size, ordinary, package, CODE};
+use independent::generate::limits::ladder;
+use independent::ledger::{Call, Entry, Ledger};
+use independent::store;
+
+pub struct Workload {
+    pub name: &'static str,
+    pub size: String,
+    pub store: Vec<u8>,
+    pub call: Call,
+    /// The number that the call answers.
+    pub number: u8,
+}
+
+/// The sizes of stores, in KB; the largest has one byte less.
+pub const SIZES: [usize; 6] = [1, 4, 8, 16, 32, 64];
+
+pub const LOAD: &str = "load an ordinary package into a store full but for it";
+pub const QUERY: &str = "query a full store's last package";
+pub const REMOVE: &str = "remove a full store's first package";
+pub const CREATE: &str = "create a domain that is there";
+pub const DELETE: &str = "delete the first domain";
+pub const LADDER: &str = "load the ladder into an empty store";
+pub const AS_LARGE: &str = "load an ordinary package of its size";
+pub const LADDER_QUERY: &str = "query the store with the ladder";
+pub const AS_LARGE_QUERY: &str = "query the store with that package";
+pub const CODES: &str = "load a package of codes alone";
+
+/// All of them, in the order of the tables.
+pub fn all() -> Vec<Workload> {
+    let mut found = Vec::new();
+    let largest = full_entries();
+    let full = SIZES.map(|kb| (kb, first_entries(&largest, kb)));
+    found.extend(full.map(|(kb, entries)| last_load(kb, entries)));
+    found.extend(full.map(|(kb, entries)| {
+        let packages = entries.len() - 4;
+        over(QUERY, kb, entries, query(packages - 1))
+    }));
+    found.extend(full.map(|(kb, entries)| {
+        let call = Call::Remove(package(0));
+        over(REMOVE, kb, entries, call)
+    }));
+    for count in [1_023, 8_191] {
+        found.extend(of_domains(count));
+    }
+    let hostile = ladder(&package(0), 64, true).bytes();
+    let as_large = of_size(0, hostile.len()).bytes();
+    found.extend(of_file(LADDER, LADDER_QUERY, &hostile));
+    found.extend(of_file(AS_LARGE, AS_LARGE_QUERY, &as_large));
+    let codes = of_codes(0, 15, 4_000).bytes();
+    found.extend(of_file(CODES, CODES, &codes).into_iter().take(1));
+    found
+}
+
+fn buffer_bytes(kb: usize) -> usize {
+    (1024 * kb).min(65_535)
+}
+
+fn written(entries: &[Entry], length: usize) -> Vec<u8> {
+    let mut ledger = Ledger::new(length);
+    ledger.entries = entries.to_vec();
+    ledger.written_out(length)
+}
+
+/// The bytes in use once these entries are written.
+fn used(entries: &[Entry]) -> usize {
+    let entry_bytes = |entry: &Entry| match entry {
+        Entry::Domain(aid) => 3 + aid.len(),
+        Entry::Package { domain, file } => 4 + domain.len() + file.len(),
+    };
+    store::HEAD + entries.iter().map(entry_bytes).sum::<usize>()
+}
+
+fn four_domains() -> Vec<Entry> {
+    (0..4).map(|number| Entry::Domain(domain(number))).collect()
+}
+
+/// Four domains, and ordinary packages for the largest store and one more.
+fn full_entries() -> Vec<Entry> {
+    let mut entries = four_domains();
+    for number in 0.. {
+        entries.push(Entry::Package {
+            domain: home(number),
+            file: ordinary(number, 1, CODE).bytes(),
+        });
+        if used(&entries) > buffer_bytes(64) {
+            break;
+        }
+    }
+    entries
+}
+
+/// As many of the entries as a store of this size holds.
+fn first_entries(entries: &[Entry], kb: usize) -> &[Entry] {
+    let fits = |&count: &usize| used(&entries[..count]) <= buffer_bytes(kb);
+    let count = (0..entries.len()).take_while(fits).last();
+    &entries[..count.unwrap_or(0)]
+}
+
+/// The last entry loaded over the others.
+fn last_load(kb: usize, entries: &[Entry]) -> Workload {
+    let Some((Entry::Package { domain, file }, earlier)) = entries.split_last() else {
+        panic!("a store of {kb} KB has no room for an ordinary package");
+    };
+    let (domain, file) = (domain.clone(), file.clone());
+    over(LOAD, kb, earlier, Call::Load { domain, file })
+}
+
+fn over(name: &'static str, kb: usize, entries: &[Entry], call: Call) -> Workload {
+    Workload {
+        name,
+        size: format!("{kb} KB"),
+        store: written(entries, buffer_bytes(kb)),
+        call,
+        number: 0,
+    }
+}
+
+/// Asks about the first class's first method.
+fn query(number: usize) -> Call {
+    Call::Query {
+        domain: domain(0),
+        package: package(number),
+        class: 0,
+        name: 1,
+    }
+}
+
+/// Two calls over a store that is full of domains with the shortest AIDs.
+fn of_domains(count: u32) -> [Workload; 2] {
+    let aid = |number: u32| [&[0xA0][..], &number.to_be_bytes()].concat();
+    let entries: Vec<Entry> = (0..count).map(|n| Entry::Domain(aid(n))).collect();
+    let store = written(&entries, used(&entries));
+    let workload = |name, call, number| Workload {
+        name,
+        size: format!("{count} domains"),
+        store: store.clone(),
+        call,
+        number,
+    };
+    [
+        workload(CREATE, Call::Create(aid(count - 1)), 4),
+        workload(DELETE, Call::Delete(aid(0)), 0),
+    ]
+}
+
+/// A file loaded into a store without packages, and a query of it there.
+fn of_file(load_name: &'static str, query_name: &'static str, file: &[u8]) -> [Workload; 2] {
+    let mut entries = four_domains();
+    let size = format!("{} bytes", file.len());
+    let (domain, file) = (domain(0), file.to_vec());
+    let load = Workload {
+        name: load_name,
+        size: size.clone(),
+        store: written(&entries, 65_535),
+        call: Call::Load {
+            domain: domain.clone(),
+            file: file.clone(),
+        },
+        number: 0,
+    };
+    entries.push(Entry::Package { domain, file });
+    let query = Workload {
+        name: query_name,
+        size,
+        store: written(&entries, 65_535),
+        call: query(0),
+        number: 0,
+    };
+    [load, query]
+}

@@ -1,0 +1,5 @@
+-- Laws about a file's codes and calls.
+pub mod Numbers
+pub mod Lookups
+pub mod Rights
+pub mod Asked

@@ -1,0 +1,14 @@
+-- `calls::calls_named` meets its contract. Assumes nothing.
+use Rattle.calls.proofs.Asked as asked
+use borrow.Author.Needs.{needs}
+use Rattle.calls.proofs.calls_named.Statement.{statement}
+use Rattle.calls.proofs.calls_named.Tie as tie
+
+file-calls-requires : tie.Need-file-calls-requires
+file-calls-requires c κs = search needs
+
+returns : tie.Need-returns
+returns c = asked.calls-named-is (c .file-calls .ensures)
+
+pub calls-named-spec : {M : Type 1} → statement M
+calls-named-spec = tie.close (tie.spec file-calls-requires returns)

@@ -1,0 +1,59 @@
+-- Questions 16 and 17 over all codes of a file. Assumes nothing.
+--
+-- codeTest q m      == q of the method's code, if it is implemented
+-- numberOf n a b    == 16 where a is no, else 17 where b is no, else n
+-- methodNumber, classNumber, fileNumber == the number of the first no of questions 16 and 17, 0 where there is none
+-- MethodHere, ClassHere, FileHere == such a thing stands there, with document 01's limits
+-- MethodNumberIs, .. == the answer is that number of whatever stands there
+use Prim.Native.Nat.{ℕ}
+use mathlib.Core.Path.{_≡_}
+use mathlib.Core.Bool.{Bool, _||_, not}
+use mathlib.Core.List.{List, [], _∷_}
+use mathlib.Core.Option.{some}
+use Rattle.rules.specs.Bytes.{Bytes, Aid, pick, all}
+use Rattle.rules.specs.Code.{codeSplits, codeBranches}
+use Rattle.rules.specs.Package.{Limits, standard, Method, Class, Package, method, class, readFile}
+use Rattle.rules.specs.Questions.{q16-splits, q17-targets}
+use Rattle.rules.specs.Operations.{firstNo}
+use Rattle.places.specs.Reads.{Ends}
+use Rattle.files.specs.Say.{OfMethod, OfClass}
+
+-- a question of a method's code, where it has one
+abbrev pub codeTest : (Bytes → Bool) → Method → Bool
+codeTest q m = not (m .implemented) || q (m .code)
+
+-- a question of all codes of a class
+abbrev pub classTest : (Bytes → Bool) → Class → Bool
+classTest q k = all (codeTest q) (k .methods)
+
+-- 16 where the first is no, else 17 where the second is, else n
+abbrev pub numberOf : ℕ → Bool → Bool → ℕ
+numberOf n a b = pick a (pick b n 17) 16
+
+abbrev pub methodNumber : Method → ℕ
+methodNumber m = numberOf 0 (codeTest codeSplits m) (codeTest codeBranches m)
+
+abbrev pub codesNumber : Class → ℕ
+codesNumber k = numberOf 0 (classTest codeSplits k) (classTest codeBranches k)
+
+abbrev pub fileNumber : Package → ℕ
+fileNumber p = firstNo ((16, q16-splits p) ∷ (17, q17-targets p) ∷ [])
+
+-- a method, a class or a file with document 01's limits
+abbrev pub MethodHere : Bytes → ℕ → Type 0
+MethodHere s i = (ds : List Aid) × Ends (method standard ds) s i
+
+abbrev pub ClassHere : Bytes → ℕ → Type 0
+ClassHere s i = (ds : List Aid) × Ends (class standard ds) s i
+
+abbrev pub FileHere : Bytes → Type 0
+FileHere f = (p : Package) × (readFile standard f ≡ some p)
+
+abbrev pub MethodNumberIs : Bytes → ℕ → ℕ → Type 0
+MethodNumberIs s i r = OfMethod s i λ l ds m. r ≡ methodNumber m
+
+abbrev pub ClassNumberIs : Bytes → ℕ → ℕ → Type 0
+ClassNumberIs s i r = OfClass s i λ l ds k j. r ≡ codesNumber k
+
+abbrev pub FileNumberIs : Bytes → ℕ → Type 0
+FileNumberIs f r = (l : Limits) (p : Package) → readFile l f ≡ some p → r ≡ fileNumber p

@@ -1,0 +1,5 @@
+-- What the functions over a file's codes and calls require and ensure.
+pub mod Codes
+pub mod Named
+pub mod Rights
+pub mod Calls

@@ -1,0 +1,88 @@
+-- What a reference names, and where that stands. Assumes nothing.
+--
+-- Judged f s end      == the file f is judged over the entries of s that end there; OfJudged == a fact of every such setting
+-- declaredAs i c n    == the method of name n that class c declares, named by a reference that is imported or not
+-- NamedAt             == what is named stands at a home: its class record at one place, the method at another
+-- NamedIs             == an answer tells what is named, if anything is
+-- ReferenceIs f s end k r == r tells what reference k of the file names
+-- SeenIs, FormIs, WellIs  == visible if imported; of the call's form; both
+-- CallNamedIs         == the answer of question 18 for a call
+use Prim.Native.Nat.{ℕ}
+use mathlib.Core.Path.{_≡_}
+use mathlib.Core.Bool.{Bool, _&&_, _||_, not}
+use mathlib.Core.List.{List}
+use mathlib.Core.Option.{Option, none, some}
+use Rattle.rules.specs.Bytes.{Bytes, Aid, at, _andThen_}
+use Rattle.rules.specs.Package.{Limits, standard, method, class}
+use Rattle.rules.specs.Store.{Entry}
+use Rattle.rules.specs.Classes.{Installed, installed, ClassAt, recordOf, declared}
+use Rattle.rules.specs.Questions.{Named, referenceNames, callForm, callNamesWell}
+use Rattle.places.specs.Reads.{Reads}
+use Rattle.files.specs.Say.{OfMethod}
+use Rattle.codes.specs.Calls.{kindOf}
+use Rattle.codes.specs.declared.Calling.{Calling}
+use Rattle.homes.specs.Homes.{Imports, fileOf, HomeIs, OfHome}
+use Rattle.homes.specs.declared.Home.{Home}
+use Rattle.calls.specs.declared.NamedFound.{NamedFound}
+use Rattle.calls.specs.declared.NamedFound.the-variants as found
+
+-- a file judged over the entries that end at a place
+abbrev pub Judged : Bytes → Bytes → ℕ → Type 0
+Judged f s end = (es : List Entry) × (self : Installed) × Imports f s end es self
+
+-- a fact of every such setting
+abbrev pub OfJudged : Bytes → Bytes → ℕ → (List Entry → Installed → Type 0) → Type 0
+OfJudged f s end q = (es : List Entry) (self : Installed) → Imports f s end es self → q es self
+
+-- the method of a name that a class declares
+abbrev pub declaredAs : Bool → ClassAt → ℕ → Option Named
+declaredAs i c n = recordOf c andThen λ k. declared k n andThen λ m. some (record { imported = i; class = c; declaring = k; method = m })
+
+-- what reference k names
+abbrev pub referenceNamed : List Installed → Installed → ℕ → Option Named
+referenceNamed is self k = at (self .pack .references) k andThen referenceNames is self
+
+-- what is named stands at home h, its class record at c, the method at m
+pub record NamedAt (f s : Bytes) (end : ℕ) (es : List Entry) (self : Installed) (h : Home) (c m : ℕ) (i : Bool) (x : Named) : Type 0 where
+  pub lies : HomeIs f s end es self h (x .class .home)
+  pub classEnd : ℕ
+  pub methodEnd : ℕ
+  pub declaring : Reads (class standard (x .class .home .pack .domains)) (fileOf f s h) c (x .declaring) classEnd
+  pub method : Reads (method standard (x .class .home .pack .domains)) (fileOf f s h) m (x .method) methodEnd
+  pub imported : x .imported ≡ i
+
+-- what is named, if anything is
+abbrev pub NamedIs : Bytes → Bytes → ℕ → List Entry → Installed → Option Named → NamedFound → Type 0
+NamedIs f s end es self o (found.Method h c m i) = (x : Named) × (o ≡ some x) × NamedAt f s end es self h c m i x
+NamedIs f s end es self o found.Nothing = o ≡ none
+
+-- a method of the package at a home
+abbrev pub DeclaredIs : Bytes → Bytes → Home → ℕ → ℕ → Bool → NamedFound → Type 0
+DeclaredIs f s h c n i r = OfHome f s h λ end es self x. NamedIs f s end es self (declaredAs i (record { home = x; number = c }) n) r
+
+-- the method that package number p, class number c and name n name
+abbrev pub NumbersName : Bytes → Bytes → ℕ → ℕ → ℕ → ℕ → NamedFound → Type 0
+NumbersName f s end p c n r = OfJudged f s end λ es self. NamedIs f s end es self (referenceNames (installed standard es) self (record { class = record { pack = p; class = c }; name = n })) r
+
+abbrev pub ReferenceIs : Bytes → Bytes → ℕ → ℕ → NamedFound → Type 0
+ReferenceIs f s end k r = OfJudged f s end λ es self. NamedIs f s end es self (referenceNamed (installed standard es) self k) r
+
+-- a fact of whatever is named by the class record at c and the method at m of a file
+abbrev pub OfNamed : Bytes → ℕ → ℕ → (Named → Type 0) → Type 0
+OfNamed g c m q = (x : Named) (l : Limits) (ds : List Aid) (j k : ℕ) → Reads (class l ds) g c (x .declaring) j → Reads (method l ds) g m (x .method) k → q x
+
+-- visible if imported
+abbrev pub SeenIs : Bytes → ℕ → Bool → Bool → Type 0
+SeenIs g m i r = OfMethod g m λ l ds x. r ≡ (not i || x .visible)
+
+-- of the form that the kind of call asks
+abbrev pub FormIs : Bytes → ℕ → ℕ → Calling → Bool → Type 0
+FormIs g c m k r = OfNamed g c m λ x. r ≡ callForm (kindOf k) x
+
+-- both
+abbrev pub WellIs : Bytes → ℕ → ℕ → Bool → Calling → Bool → Type 0
+WellIs g c m i k r = OfNamed g c m λ x. x .imported ≡ i → r ≡ ((not (x .imported) || x .method .visible) && callForm (kindOf k) x)
+
+-- question 18 of a call
+abbrev pub CallNamedIs : Bytes → Bytes → ℕ → Calling → ℕ → Bool → Type 0
+CallNamedIs f s end kind index r = OfJudged f s end λ es self. r ≡ callNamesWell (installed standard es) self (record { kind = kindOf kind; index = index })

@@ -1,0 +1,116 @@
+-- The four opcodes of calls: their lengths, and the call that each is; the opcodes that may come last. Assumes nothing.
+use Prim.Native.Nat.{ℕ, _+_, _<_, _≤_}
+use native.Mathlib.Omega.{arith}
+use native.Mathlib.Decide.{decLe, ℕ-discrete}
+use mathlib.Core.Path.{_≡_, sym, ap, ap₂, _∙_, subst}
+use mathlib.Core.Bool.{Bool, true, false, _||_, and-false, or-false}
+use mathlib.Core.List.{[], _∷_}
+use lib.Dec.{T, leb, eqb}
+use lib.ListN.{length}
+use borrow.Author.Tests.{eq-eqb, ne-eqb, le-leb, lt-leb}
+use Rattle.rules.specs.Bytes.{Bytes, isSome, within}
+use Rattle.rules.specs.Code.{u1At, u2At, Length, fixed, lengthOf, fits, lengthAs, instructionLength, virtual, special, static, interface, callAt, mayEnd}
+use Rattle.codes.specs.Calls.{Whole}
+
+-- an instruction of a fixed length that is there whole has its bytes
+whole-fixed : (code : Bytes) (at n : ℕ) → lengthOf (u1At code at) ≡ fixed n → Whole code at → at + n ≤ length code
+unfolding instructionLength lengthAs
+whole-fixed code at n e w =
+    let t : T (isSome (fits code at n)) = subst (λ (l : Length). T (isSome (lengthAs l code at))) e w in
+    elim (decLe (at + n) (length code)) [
+      | yes h ↦ h
+      | no h ↦ absurd (rw (lt-leb (at + n) (length code) (omega arith)) at t)
+    ]
+
+module _ (code : Bytes) (at : ℕ) where
+  length-8B : u1At code at ≡ 0x8B → lengthOf (u1At code at) ≡ fixed 3
+  unfolding lengthOf
+  length-8B e = ap lengthOf e
+
+  length-8C : u1At code at ≡ 0x8C → lengthOf (u1At code at) ≡ fixed 3
+  unfolding lengthOf
+  length-8C e = ap lengthOf e
+
+  length-8D : u1At code at ≡ 0x8D → lengthOf (u1At code at) ≡ fixed 3
+  unfolding lengthOf
+  length-8D e = ap lengthOf e
+
+  length-8E : u1At code at ≡ 0x8E → lengthOf (u1At code at) ≡ fixed 5
+  unfolding lengthOf
+  length-8E e = ap lengthOf e
+
+  -- the bytes of the reference's index are within the code
+  pub room-8B : u1At code at ≡ 0x8B → Whole code at → at + 3 ≤ length code
+  room-8B e w = whole-fixed code at 3 (length-8B e) w
+
+  pub room-8C : u1At code at ≡ 0x8C → Whole code at → at + 3 ≤ length code
+  room-8C e w = whole-fixed code at 3 (length-8C e) w
+
+  pub room-8D : u1At code at ≡ 0x8D → Whole code at → at + 3 ≤ length code
+  room-8D e w = whole-fixed code at 3 (length-8D e) w
+
+  pub room-8E : u1At code at ≡ 0x8E → Whole code at → at + 5 ≤ length code
+  room-8E e w = whole-fixed code at 5 (length-8E e) w
+
+  -- the call at an offset by its opcode
+  pub call-8B : u1At code at ≡ 0x8B → callAt code at ≡ record { kind = virtual; index = u2At code (at + 1) } ∷ []
+  unfolding callAt
+  call-8B e = rw (eq-eqb (u1At code at) 0x8B e)
+
+  pub call-8C : u1At code at ≡ 0x8C → callAt code at ≡ record { kind = special; index = u2At code (at + 1) } ∷ []
+  unfolding callAt
+  call-8C e = rw (ne-eqb (u1At code at) 0x8B (λ q. omega arith), eq-eqb (u1At code at) 0x8C e)
+
+  pub call-8D : u1At code at ≡ 0x8D → callAt code at ≡ record { kind = static; index = u2At code (at + 1) } ∷ []
+  unfolding callAt
+  call-8D e = rw (ne-eqb (u1At code at) 0x8B (λ q. omega arith), ne-eqb (u1At code at) 0x8C (λ q. omega arith), eq-eqb (u1At code at) 0x8D e)
+
+  pub call-8E : u1At code at ≡ 0x8E → callAt code at ≡ record { kind = interface; index = u2At code (at + 2) } ∷ []
+  unfolding callAt
+  call-8E e = rw (ne-eqb (u1At code at) 0x8B (λ q. omega arith), ne-eqb (u1At code at) 0x8C (λ q. omega arith), ne-eqb (u1At code at) 0x8D (λ q. omega arith), eq-eqb (u1At code at) 0x8E e)
+
+  pub no-call : (u1At code at ≡ 0x8B → ⊥) → (u1At code at ≡ 0x8C → ⊥) → (u1At code at ≡ 0x8D → ⊥) → (u1At code at ≡ 0x8E → ⊥) → callAt code at ≡ []
+  unfolding callAt
+  no-call a b c d = rw (ne-eqb (u1At code at) 0x8B a, ne-eqb (u1At code at) 0x8C b, ne-eqb (u1At code at) 0x8D c, ne-eqb (u1At code at) 0x8E d)
+
+-- a range of opcodes, by the order
+out-below : (lo hi n : ℕ) → n < lo → within lo hi n ≡ false
+out-below lo hi n h = rw (lt-leb lo n h)
+
+out-above : (lo hi n : ℕ) → hi < n → within lo hi n ≡ false
+out-above lo hi n h = rw (lt-leb n hi h) (and-false (leb lo n))
+
+in-range : (lo hi n : ℕ) → lo ≤ n → n ≤ hi → within lo hi n ≡ true
+in-range lo hi n a b = rw (le-leb lo n a, le-leb n hi b)
+
+-- a range of one opcode
+one-is : (k n : ℕ) → within k k n ≡ eqb n k
+one-is k n = elim (ℕ-discrete n k) [
+  | yes e ↦ in-range k k n (omega arith) (omega arith) ∙ sym (eq-eqb n k e)
+  | no e ↦ elim (decLe n k) [
+    | yes h ↦ out-below k k n (omega arith) ∙ sym (ne-eqb n k e)
+    | no h ↦ out-above k k n (omega arith) ∙ sym (ne-eqb n k e)
+  ]
+]
+
+module _ (o : ℕ) where
+  -- the opcodes that may come last, by the tests in order
+  may-end-is : mayEnd o ≡ (eqb o 0x70 || (within 0x72 0x7A o || (eqb o 0x93 || (eqb o 0xA8 || false))))
+  unfolding mayEnd
+  may-end-is = ap₂ (λ (a b : Bool). a || b) (one-is 0x70 o)
+      (ap₂ (λ (a b : Bool). within 0x72 0x7A o || (a || (b || false))) (one-is 0x93 o) (one-is 0xA8 o))
+
+  pub end-70 : o ≡ 0x70 → mayEnd o ≡ true
+  end-70 e = may-end-is ∙ rw (eq-eqb o 0x70 e)
+
+  pub end-below : (o ≡ 0x70 → ⊥) → o < 0x72 → mayEnd o ≡ false
+  end-below e h = may-end-is ∙ rw (ne-eqb o 0x70 e, out-below 0x72 0x7A o h, ne-eqb o 0x93 (λ q. omega arith), ne-eqb o 0xA8 (λ q. omega arith))
+
+  pub end-range : 0x72 ≤ o → o ≤ 0x7A → mayEnd o ≡ true
+  end-range a b = may-end-is ∙ rw (ne-eqb o 0x70 (λ q. omega arith), in-range 0x72 0x7A o a b)
+
+  pub end-93 : o ≡ 0x93 → mayEnd o ≡ true
+  end-93 e = may-end-is ∙ rw (ne-eqb o 0x70 (λ q. omega arith), out-above 0x72 0x7A o (omega arith), eq-eqb o 0x93 e)
+
+  pub end-A8 : 0x7A < o → (o ≡ 0x93 → ⊥) → mayEnd o ≡ eqb o 0xA8
+  end-A8 h e = may-end-is ∙ rw (ne-eqb o 0x70 (λ q. omega arith), out-above 0x72 0x7A o h, ne-eqb o 0x93 e) (or-false (eqb o 0xA8))

@@ -1,0 +1,145 @@
+-- The place of a class in a memo: its entry's place and its class number. It is below 65,568, and two classes of the packages at hand
+-- have two places. Assumes nothing.
+use Prim.Native.Nat.{ℕ, zero, suc, _+_, _-_, _≤_, _<_}
+use native.Mathlib.Omega.{arith}
+use native.Mathlib.Decide.{decLe}
+use mathlib.Core.Path.{_≡_, refl, sym, _∙_, ap, subst}
+use mathlib.Core.List.{List, [], _∷_, _++_}
+use mathlib.Core.Option.{some}
+use lib.ListN.{length, drop, length-drop}
+use Rattle.rules.specs.Bytes.{Bytes, Aid, Reader, at, u1, many, counted}
+use Rattle.rules.specs.Package.{Limits, standard, mostClasses, mostMethods, Class, Package, classNumber, method, class, readFile}
+use Rattle.rules.specs.Store.{Entry, loaded, openingLength}
+use Rattle.rules.specs.Classes.{Installed}
+use Rattle.rules.proofs.Tests.{none-some}
+use Rattle.places.specs.Reads.{Reads}
+use Rattle.places.proofs.Steady.{Steady, steady-u1, steady-number, steady-method, steady-class, steady-counted}
+use Rattle.places.proofs.Inverse.{reads-left, reads-done, reads-counted}
+use Rattle.places.proofs.Parts.{class-part, file-parts}
+use Rattle.places.proofs.Track.{many-length}
+use Rattle.store.specs.Entries.{part, EntryAt, Entries}
+use Rattle.store.specs.Entries as entries
+use Rattle.store.proofs.Parts.{part-length}
+use Rattle.store.proofs.Stand.{entries-to, entry-one, entries-front, entries-split}
+use Rattle.homes.specs.Homes.{Setting, Stored, HomeIs}
+use Rattle.homes.specs.Homes as homes
+use Rattle.homes.specs.declared.Home.{Home}
+
+-- a reader goes forward
+pub reads-forward : {A : Type 0} (r : Reader A) → Steady r → (s : Bytes) (i : ℕ) (a : A) (j : ℕ) → Reads r s i a j → i ≤ j
+reads-forward {A} r steady s i a j p =
+    let l = steady (drop i s) (a, drop j s) (p .is) in
+    omega (arith, ap length (l .is), length-drop i s, length-drop j s, length-drop (l .taken) (drop i s), l .within, p .from, p .to)
+
+-- a list of elements of at least one byte each has no more of them than bytes
+many-grows : {A : Type 0} (r : Reader A) → Steady r → (s : Bytes) → ((i : ℕ) (a : A) (j : ℕ) → Reads r s i a j → i < j) →
+    (n i : ℕ) (xs : List A) (j : ℕ) → Reads (many n r) s i xs j → i + n ≤ j
+many-grows r steady s q zero i xs j p = let z = reads-done r 0 s i xs j (omega arith) p in omega (arith, z .1)
+many-grows r steady s q (suc n) i xs j p =
+    let z = reads-left r steady (suc n) s i xs j (omega arith) p in
+    let e : suc n - 1 ≡ n = omega arith in
+    let h = many-grows r steady s q n (z .place) (z .others) j (rw e at (z .rest)) in
+    let k = q i (z .one) (z .place) (z .reads) in
+    omega arith
+
+-- a class takes bytes
+class-forward : (l : Limits) (ds : List Aid) (s : Bytes) (i : ℕ) (k : Class) (j : ℕ) → Reads (class l ds) s i k j → i < j
+class-forward l ds s i k j p =
+    let t = class-part l ds s i k j p in
+    let a = reads-forward (counted (l .parents) u1 classNumber) (steady-counted (l .parents) u1 classNumber steady-u1 steady-number) s (i + 1) (k .parents) (t .middle) (t .parents) in
+    let b = reads-forward (counted mostMethods u1 (method l ds)) (steady-counted mostMethods u1 (method l ds) steady-u1 (steady-method l ds)) s (t .middle) (k .methods) j (t .methods) in
+    omega arith
+
+-- an element has a number below the length
+pub at-below : {A : Type 0} (xs : List A) (i : ℕ) (x : A) → at xs i ≡ some x → i < length xs
+at-below [] i x e = absurd (none-some e)
+at-below (y ∷ ys) zero x e = omega arith
+at-below (y ∷ ys) (suc i) x e = let h = at-below ys i x e in omega arith
+
+-- a class's number is below the file's length and below the greatest count
+pub class-below : (l : Limits) (f : Bytes) (p : Package) → readFile l f ≡ some p → (n : ℕ) (k : Class) → at (p .classes) n ≡ some k → (n < length f) × (n < mostClasses)
+class-below l f p r n k e =
+    let t = file-parts l f p r in
+    let c = reads-counted mostClasses u1 (class l (p .domains)) steady-u1 f (t .classesAt) (p .classes) (length f) (t .classes) in
+    let m = many-length (class l (p .domains)) (steady-class l (p .domains)) (c .number) f (c .place) (p .classes) (length f) (c .list) in
+    let g = many-grows (class l (p .domains)) (steady-class l (p .domains)) f (class-forward l (p .domains) f) (c .number) (c .place) (p .classes) (length f) (c .list) in
+    let b = at-below (p .classes) n k e in
+    (omega (arith, m), omega (arith, m, c .small))
+
+-- the file of a loaded entry
+loaded-file : (d e : Aid) (f g : Bytes) → loaded d f ≡ loaded e g → f ≡ g
+loaded-file d e f g q = cc
+
+-- a home is its three places
+homeOf : ℕ → ℕ → ℕ → Home
+homeOf a b c = record { from = a; to = b; before = c }
+
+home-is : (h g : Home) → h .from ≡ g .from → h .to ≡ g .to → h .before ≡ g .before → h ≡ g
+unfolding homeOf
+home-is h g a b c = ap (λ (n : ℕ). homeOf n (h .to) (h .before)) a ∙ ap (λ (n : ℕ). homeOf (g .from) n (h .before)) b ∙ ap (λ (n : ℕ). homeOf (g .from) (g .to) n) c
+
+-- the place of an entry in the middle of the others
+entry-before : (s : Bytes) (i : ℕ) (pre : List Entry) (e : Entry) (post : List Entry) (j k end : ℕ) → Entries s i pre j → EntryAt s j e k → Entries s i (pre ++ e ∷ post) end → k ≤ end
+entry-before s i _ e post _ k end (entries.over h) t (entries.more {j = m} {es = es} u r) =
+    let o = entry-one s i e e k m t u in omega (arith, o .1, (entries-to s m es end r) .0)
+entry-before s i _ e post j k end (entries.more {j = m} {e = x} {es = ps} v q) t (entries.more {j = m′} u r) =
+    let o = entry-one s i x x m m′ v u in
+    entry-before s m ps e post j k end q t (subst (λ (n : ℕ). Entries s n (ps ++ e ∷ post) end) (sym (o .1)) r)
+
+-- an entry that starts before another ends before it
+entry-apart : (s : Bytes) (ps qs : List Entry) (i j k : ℕ) (e : Entry) → Entries s openingLength ps i → EntryAt s i e k → Entries s openingLength qs j → i < j → k ≤ j
+entry-apart s ps qs i j k e p t q h =
+    let r = entries-split s openingLength qs ps i j (omega arith) p q in
+    let f = entries-front s i (r .rest) j h (r .stand) in
+    let o = entry-one s i e (f .one) k (f .place) t (f .stands) in
+    omega (arith, o .1, (entries-to s (f .place) (f .others) j (f .rest)) .0)
+
+-- a stored class has its place within its entry
+module _ (s : Bytes) (es : List Entry) (h : Home) (x : Installed) (t : Stored s es h x) where
+  stored-key : (n : ℕ) (k : Class) → at (x .pack .classes) n ≡ some k → h .before + n < h .to
+  stored-key n k e =
+      let b = class-below standard (part s (h .from) (h .to)) (x .pack) (t .reads) n k e in
+      omega (arith, b .0, part-length s (h .from) (h .to) (t .entry .to), t .inside, t .order)
+
+  -- and its entry ends where the entries end, or before
+  stored-end : (end : ℕ) → Entries s openingLength es end → h .to ≤ end
+  stored-end end r =
+      entry-before s openingLength (t .pre) (loaded (x .domain) (part s (h .from) (h .to))) (t .post) (h .before) (h .to) end (t .stand) (t .entry)
+      (subst (λ (zs : List Entry). Entries s openingLength zs end) (t .are) r)
+
+  -- two stored files whose entries start at one place lie at one home
+  stored-same : (fs : List Entry) (g : Home) (y : Installed) → Stored s fs g y → h .before ≡ g .before → h ≡ g
+  stored-same fs g y u e =
+      let o = entry-one s (h .before) _ _ (h .to) (g .to) (t .entry) (subst (λ (n : ℕ). EntryAt s n (loaded (y .domain) (part s (g .from) (g .to))) (g .to)) (sym e) (u .entry)) in
+      let l = ap length (loaded-file (x .domain) (y .domain) (part s (h .from) (h .to)) (part s (g .from) (g .to)) (o .0)) in
+      let z : h .from ≡ g .from = omega (arith, l, o .1, part-length s (h .from) (h .to) (t .entry .to), part-length s (g .from) (g .to) (u .entry .to), t .order, u .order) in
+      home-is h g z (o .1) e
+
+-- a class's place is below the memo's length
+pub key-small : (f s : Bytes) (end : ℕ) (es : List Entry) (self : Installed) → Setting f s end es self → length s ≤ 65535 →
+    (h : Home) (x : Installed) → HomeIs f s end es self h x → (n : ℕ) (k : Class) → at (x .pack .classes) n ≡ some k → h .before + n < 65568
+key-small f s end es self g b _ _ homes.own n k e =
+    omega (arith, (class-below standard f (self .pack) (g .reads) n k e) .1, (entries-to s openingLength es end (g .stand)) .1)
+key-small f s end es self g b h x (homes.stored t) n k e = omega (arith, stored-key s es h x t n k e, t .entry .to)
+
+-- two classes have two places, whatever the domain of the package being judged
+module _ (f s : Bytes) (end : ℕ) (es fs : List Entry) (self self′ : Installed) (a : Setting f s end es self) (b : Setting f s end fs self′) where
+  pub key-one : (h g : Home) (x y : Installed) → HomeIs f s end es self h x → HomeIs f s end fs self′ g y →
+      (n m : ℕ) (k l : Class) → at (x .pack .classes) n ≡ some k → at (y .pack .classes) m ≡ some l → h .before + n ≡ g .before + m → (h ≡ g) × (n ≡ m)
+  key-one _ _ _ _ homes.own homes.own n m k l p q e = (refl, omega arith)
+  key-one _ g _ y homes.own (homes.stored u) n m k l p q e = absurd (omega (arith, stored-key s fs g y u m l q, stored-end s fs g y u end (b .stand)))
+  key-one h _ x _ (homes.stored t) homes.own n m k l p q e = absurd (omega (arith, stored-key s es h x t n k p, stored-end s es h x t end (a .stand)))
+  key-one h g x y (homes.stored t) (homes.stored u) n m k l p q e =
+      elim (decLe (g .before) (h .before)) [
+        | no o ↦
+            let z = entry-apart s (t .pre) (u .pre) (h .before) (g .before) (h .to) _ (t .stand) (t .entry) (u .stand) (omega arith) in
+            absurd (omega (arith, stored-key s es h x t n k p))
+        | yes o ↦ elim (decLe (h .before) (g .before)) [
+          | no i ↦
+              let z = entry-apart s (u .pre) (t .pre) (g .before) (h .before) (g .to) _ (u .stand) (u .entry) (t .stand) (omega arith) in
+              absurd (omega (arith, stored-key s fs g y u m l q))
+          | yes i ↦
+              let z : h .before ≡ g .before = omega arith in
+              (stored-same s es h x t fs g y u z, omega arith)
+        ]
+      ]

@@ -1,0 +1,3 @@
+-- Laws about homes.
+pub mod Homes
+pub mod Lookups

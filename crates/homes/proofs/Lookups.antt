@@ -1,0 +1,123 @@
+-- Files, classes and packages looked up at a home: what the functions' returns say. Assumes nothing.
+use Prim.Native.Nat.{ℕ, zero, suc, _+_, _-_, _≤_}
+use native.Mathlib.Omega.{arith}
+use mathlib.Core.Path.{_≡_, refl, sym, _∙_, ap, subst, subst⁻¹}
+use mathlib.Core.List.{List·Memᴰ}
+use mathlib.Core.Option.{Option, some}
+use lib.ListN.{length, take, drop, getD, length-drop}
+use lib.Seq.{take-all}
+use borrow.Author.Tests.{eq-eqb, ne-eqb}
+use Rattle.rules.specs.Bytes.{Bytes, Aid, at, aid}
+use Rattle.rules.specs.Package.{standard, class, readFile}
+use Rattle.rules.specs.Classes.{Installed, installed, byAid, packageNumbered}
+use Rattle.rules.proofs.Lists.{at-mem}
+use Rattle.places.specs.Reads.{Reads, Ends, EndsAt, Placed}
+use Rattle.places.proofs.Parts.{aid-part}
+use Rattle.places.proofs.Track.{placed-at, placed-none}
+use Rattle.files.specs.Say.{spot, Readable, ImportsAt, AidNth}
+use Rattle.files.specs.Say as say
+use Rattle.files.specs.declared.Spot.{Spot}
+use Rattle.files.specs.declared.Spot.the-variants as spots
+use Rattle.files.proofs.Walks.{imports-read}
+use Rattle.store.specs.Entries.{part, FilesStand}
+use Rattle.store.specs.Answers.{FileSays, FileAt}
+use Rattle.store.specs.declared.FileSpot.{FileSpot}
+use Rattle.store.specs.declared.FileSpot.the-variants as FileSpots
+use Rattle.homes.specs.Homes.{fileOf, recordFrom, HomeThere, FoundIs, HomeSays, ByAid, ImportPlaced, NumberedIs, ClassPlaced, RecordIs}
+use Rattle.homes.specs.declared.HomeFound.{HomeFound}
+use Rattle.homes.specs.declared.HomeFound.the-variants.{At, Nothing}
+use Rattle.homes.specs.declared.Home.{Home}
+use Rattle.homes.proofs.Homes.{home-reads, home-bounds, Before, home-before, import-found, import-there}
+
+module _ (f s : Bytes) (h : Home) where
+  -- the file at a home
+  pub file-own : h .from ≡ 0 → f ≡ fileOf f s h
+  file-own e = rw (eq-eqb (h .from) 0 e)
+
+  pub file-part : (h .from ≡ 0 → ⊥) → part s (h .from) (h .to) ≡ fileOf f s h
+  file-part n = rw (ne-eqb (h .from) 0 n)
+
+  pub there-bounds : HomeThere f s h → (h .from ≤ h .to) × (h .to ≤ length s)
+  there-bounds t = home-bounds f s (t .0) (t .1) (t .2) h (t .4) (t .5)
+
+  module _ (g : Bytes) (e : g ≡ fileOf f s h) where
+    pub there-reads : HomeThere f s h → Readable g
+    there-reads t = (standard, t .4 .pack, ap (readFile standard) e ∙ home-reads f s (t .0) (t .1) (t .2) (t .3 .setting) h (t .4) (t .5))
+
+    -- a class's record in it
+    pub class-placed : (n : ℕ) (r : Spot) → say.ClassPlaced g n r → ClassPlaced f s h n r
+    class-placed n r p end es self i x t =
+        subst (λ (b : Bytes). Placed (class standard (x .pack .domains)) b (at (x .pack .classes) n) (spot r)) e
+        (p standard (x .pack) (ap (readFile standard) e ∙ home-reads f s end es self (i .setting) h x t))
+
+    -- and as a part
+    pub record-is : (n : ℕ) (r : Spot) (b : Bytes) → say.ClassPlaced g n r → b ≡ recordFrom g r → RecordIs f s h n b
+    record-is n r b p z end es self i x t = (r, class-placed n r p end es self i x t, z ∙ ap (λ (y : Bytes). recordFrom y r) e)
+
+-- a place that is told is within the bytes
+pub class-inside : (g : Bytes) (n c : ℕ) → Readable g → say.ClassPlaced g n (spots.At c) → c ≤ length g
+class-inside g n c r p = let q = placed-at (p (r .0) (r .1) (r .2)) in q .3 .from
+
+-- the bytes from a place to the end
+pub rest-is : (g : Bytes) (c : ℕ) → take (length g - c) (drop c g) ≡ drop c g
+rest-is g c = take-all (length g - c) (drop c g) (omega (arith, length-drop c g))
+
+-- import k of a file
+pub import-placed : (g : Bytes) (i k : ℕ) (r : Spot) → ImportsAt g i → AidNth g i k r → ImportPlaced g k r
+import-placed g i k r q n l p e = let t = imports-read q l p e in n _ (p .imports) (t .0) (t .1)
+
+-- the search for a package, as a home
+pub by-aid-file : (s : Bytes) (end : ℕ) (a : Aid) (r : FileSpot) (i j k : ℕ) → r ≡ FileSpots.File i j k → FileAt s end a r → ByAid s end a (At (record { from = j; to = k; before = i }))
+by-aid-file s end a r i j k e q es t u = subst (λ (x : FileSpot). FileSays s es a x) e (q es t u)
+
+pub by-aid-missing : (s : Bytes) (end : ℕ) (a : Aid) (r : FileSpot) → r ≡ FileSpots.Missing → FileAt s end a r → ByAid s end a Nothing
+by-aid-missing s end a r e q es t u = (subst (λ (x : FileSpot). FileSays s es a x) e (q es t u)) .1
+
+-- the package of import k of the file at a home
+module _ (f s : Bytes) (h : Home) where
+  pub there-files : HomeThere f s h → FilesStand s (h .before)
+  there-files t = let b = home-before f s (t .0) (t .1) (t .2) (t .3) h (t .4) (t .5) in (b .pre, b .stand, b .reads)
+
+  pub numbered-none : (g : Bytes) (k : ℕ) → g ≡ fileOf f s h → ImportPlaced g k spots.Nothing → NumberedIs f s h (suc k) Nothing
+  numbered-none g k e p end es self i x t =
+      let n = placed-none (p standard (x .pack) (ap (readFile standard) e ∙ home-reads f s end es self (i .setting) h x t)) in
+      rw n
+
+  pub numbered-at : (g : Bytes) (k c : ℕ) (a : Aid) → g ≡ fileOf f s h → ImportPlaced g k (spots.At c) → ((b : Aid) (j : ℕ) → Reads aid g c b j → b ≡ a) → (r : HomeFound) → ByAid s (h .before) a r → NumberedIs f s h (suc k) r
+  numbered-at g k c a e p q r w end es self i x t =
+      let n = placed-at (p standard (x .pack) (ap (readFile standard) e ∙ home-reads f s end es self (i .setting) h x t)) in
+      let z : n .0 ≡ a = q (n .0) (n .1) (n .3) in
+      let m : List·Memᴰ a (x .pack .imports) = at-mem (x .pack .imports) k a (n .2 ∙ ap some z) in
+      let b = home-before f s end es self i h x t in
+      let o : packageNumbered (installed standard es) x (suc k) ≡ byAid (installed standard es) a = rw (n .2 ∙ ap some z) in
+      subst⁻¹ (λ (v : Option Installed). FoundIs f s end es self h v r) o (found r m b (w (b .pre) (b .stand) (b .reads)))
+    where
+      found : (r : HomeFound) → List·Memᴰ a (x .pack .imports) → (b : Before f s end es self h x) → HomeSays s (b .pre) a r → FoundIs f s end es self h (byAid (installed standard es) a) r
+      found (At v) m b u = import-found f s end es self h x b a m (v .before) (v .from) (v .to) u
+      found Nothing m b u = absurd (import-there f s end es self h x b a m u)
+
+-- an import's AID stands at the place told
+pub import-ends : (g : Bytes) (k c : ℕ) → Readable g → ImportPlaced g k (spots.At c) → Ends aid g c
+import-ends g k c r p = let q = placed-at (p (r .0) (r .1) (r .2)) in (q .0, q .1, q .3)
+
+-- the bytes of an AID between its length and its end
+pub aid-slice : (g : Bytes) (c e : ℕ) → Ends aid g c → EndsAt aid g c e → (c + 1 ≤ e) × (e ≤ length g)
+aid-slice g c e t q =
+    let p = aid-part g c (t .0) (t .1) (t .2) in
+    let z : e ≡ t .1 = q (t .0) (t .1) (t .2) in
+    (omega (arith, p .next), omega (arith, p .to))
+
+pub aid-bytes : (g : Bytes) (c e : ℕ) → EndsAt aid g c e → (b : Aid) (j : ℕ) → Reads aid g c b j → b ≡ take (e - (c + 1)) (drop (c + 1) g)
+aid-bytes g c e q b j r =
+    let p = aid-part g c b j r in
+    let z : e ≡ j = q b j r in
+    let n : getD g c 0 ≡ e - (c + 1) = omega (arith, p .next) in
+    sym (ap (λ (m : ℕ). take m (drop (c + 1) g)) (sym n) ∙ p .bytes)
+
+-- a number that is not 0
+pub numbered-suc : (f s : Bytes) (h : Home) (k : ℕ) (r : HomeFound) → (k ≡ 0 → ⊥) → NumberedIs f s h (suc (k - 1)) r → NumberedIs f s h k r
+numbered-suc f s h zero r n q = absurd (n refl)
+numbered-suc f s h (suc k) r n q = let e : suc k - 1 ≡ k = omega arith in subst (λ (m : ℕ). NumberedIs f s h (suc m) r) e q
+
+pub numbered-zero : (f s : Bytes) (h : Home) (k : ℕ) → k ≡ 0 → NumberedIs f s h k (At h)
+numbered-zero f s h k e = subst⁻¹ (λ (m : ℕ). NumberedIs f s h m (At h)) e refl

@@ -1,0 +1,2 @@
+-- What the functions over homes require and ensure.
+pub mod Homes

@@ -1,0 +1,97 @@
+// Where the file of a package lies: the file being judged, or a part of the store. Packages by number, classes by number.
+use files::Spot;
+use store::FileSpot;
+ghost use mathlib.Core.Path.{_≡_};
+ghost use Prim.Native.Nat.{_≤_};
+ghost use lib.ListN.{length};
+ghost use Rattle.files.specs.Say.{Readable};
+ghost use Rattle.store.specs.Entries.{FilesStand};
+ghost use Rattle.homes.specs.Homes.{fileOf, HomeThere, ByAid, ImportPlaced, NumberedIs, ClassPlaced, RecordIs};
+
+// The bounds of a file in the store, and the place where the entries before it end; 0 and 0 for the file being judged.
+pub struct Home {
+    pub from: usize,
+    pub to: usize,
+    pub before: usize,
+}
+
+// A package's home, or that there is none.
+pub enum HomeFound {
+    At(Home),
+    Nothing,
+}
+
+// The file at a home, as a part of whichever holds it.
+pub fn file_of<'a>(f: &'a [u8], s: &'a [u8], h: Home) -> &'a [u8]
+    requires { ⌜ (h .from ≤ h .to) × (h .to ≤ length (now s)) ⌝ }
+    ensures { λ r. ⌜ now r ≡ fileOf (now (f .entry)) (now (s .entry)) h ⌝ }
+{
+    let from = h.from;
+    let to = h.to;
+    if from == 0 {
+        return f;
+    }
+    &s[from..to]
+}
+
+// The place of the AID of import k of a file, counted from 0.
+fn import_place(g: &[u8], k: usize) -> Spot
+    requires { ⌜ Readable (now g) ⌝ }
+    ensures { λ r. ⌜ ImportPlaced (now (g .entry)) k r ⌝ }
+{
+    files::nth_aid(g, files::imports_at(g), k)
+}
+
+// The home of the package of an AID among the entries that end at a place.
+pub fn by_aid<'a>(s: &'a [u8], before: usize, aid: &'a [u8]) -> HomeFound
+    requires { ⌜ FilesStand (now s) before ⌝ }
+    ensures { λ r. ⌜ ByAid (now (s .entry)) before (now (aid .entry)) r ⌝ }
+{
+    match store::find_package(s, before, aid) {
+        FileSpot::File(at, from, to) => HomeFound::At(Home {
+            from: from,
+            to: to,
+            before: at,
+        }),
+        FileSpot::Missing => HomeFound::Nothing,
+    }
+}
+
+// The home of the package that a package number stands for in the file at a home: 0 the same, k the k-th import's.
+pub fn numbered<'a>(f: &'a [u8], s: &'a [u8], h: Home, k: usize) -> HomeFound
+    requires { ⌜ HomeThere (now f) (now s) h ⌝ }
+    ensures { λ r. ⌜ NumberedIs (now (f .entry)) (now (s .entry)) h k r ⌝ }
+{
+    if k == 0 {
+        return HomeFound::At(h);
+    }
+    let g = file_of(f, s, h);
+    let before = h.before;
+    match import_place(g, k - 1) {
+        Spot::At(i) => {
+            let end = files::after_aid(g, i);
+            by_aid(s, before, &g[i + 1..end])
+        }
+        Spot::Nothing => HomeFound::Nothing,
+    }
+}
+
+// The place of the record of class n in the file at a home.
+pub fn class_place<'a>(f: &'a [u8], s: &'a [u8], h: Home, n: usize) -> Spot
+    requires { ⌜ HomeThere (now f) (now s) h ⌝ }
+    ensures { λ r. ⌜ ClassPlaced (now (f .entry)) (now (s .entry)) h n r ⌝ }
+{
+    files::class_place(file_of(f, s, h), n)
+}
+
+// The record of class n, as a part of whichever holds it, the file being judged or the store; no bytes where there is none.
+pub fn class_record<'a>(f: &'a [u8], s: &'a [u8], h: Home, n: usize) -> &'a [u8]
+    requires { ⌜ HomeThere (now f) (now s) h ⌝ }
+    ensures { λ r. ⌜ RecordIs (now (f .entry)) (now (s .entry)) h n (now r) ⌝ }
+{
+    let g = file_of(f, s, h);
+    match files::class_place(g, n) {
+        Spot::At(c) => &g[c..],
+        Spot::Nothing => &g[0..0],
+    }
+}

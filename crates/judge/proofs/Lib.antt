@@ -1,0 +1,5 @@
+-- Laws of judging.
+pub mod Creation
+pub mod Loading
+pub mod Stages
+pub mod Sounding

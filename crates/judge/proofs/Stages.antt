@@ -1,0 +1,175 @@
+-- A load from 12 on, from 15 on and from 18 on: each stage from the answers of its questions. Assumes nothing.
+use Prim.Native.Nat.{ℕ, _≤_}
+use native.Mathlib.Omega.{arith}
+use mathlib.Core.Path.{_≡_, refl, sym, _∙_, subst}
+use mathlib.Core.Bool.{Bool, true, false}
+use mathlib.Core.List.{List, [], _∷_}
+use mathlib.Core.Option.{some}
+use lib.Dec.{T}
+use lib.ListN.{length}
+use Rattle.rules.specs.Bytes.{Bytes, Aid, pick}
+use Rattle.rules.specs.Package.{standard, Package, readFile}
+use Rattle.rules.specs.Store.{Entry, loaded}
+use Rattle.rules.specs.Classes.{Installed, installed}
+use Rattle.rules.specs.Questions.{q12-new, q13-imports, q14-parents, q15-names, q16-splits, q17-targets, q18-calls, q19-allowed, q20-running, q21-fits}
+use Rattle.rules.specs.Operations.{Question, firstNo, deepest}
+use Rattle.rules.proofs.Tests.{of-true}
+use Rattle.rules.proofs.Asked.{parents-yes}
+use Rattle.store.specs.Answers.{Fits}
+use Rattle.homes.specs.Homes.{Setting, Imports, Parents}
+use Rattle.files.specs.Say.{Readable}
+use Rattle.names.specs.Say.{NamesIs}
+use Rattle.depths.specs.Depths.{SettingThere, ImportsThere, NewIs, ImportsIs, ParentedIs}
+use Rattle.depths.specs.declared.Parented.the-variants as parented
+use Rattle.calls.specs.Codes.{FileHere, FileNumberIs}
+use Rattle.calls.specs.Calls.{CodesSplit, CallsNamed, CallsAllowed}
+use Rattle.calls.specs.Named.{Judged}
+use Rattle.running.specs.Say.{JudgedThere, RunningIs}
+use Rattle.judge.specs.Says.{Over, AnswerIs, from12, from18, CallsSay, InsideSays, PackageSays, PackageSome, InsideSome}
+use Rattle.judge.specs.declared.LoadAnswer.{LoadAnswer}
+use Rattle.judge.specs.declared.LoadAnswer.the-variants.{Refused, Accepted}
+use Rattle.judge.proofs.Creation.{over-used}
+use Rattle.judge.proofs.Loading.{answer-no, answer-yes, answer-done, over-setting}
+
+module _ (s : Bytes) (end : ℕ) (d : Aid) (f : Bytes) where
+  -- a package in the domain that loads it
+  abbrev selfOf : Package → Installed
+  selfOf p = record { domain = d; pack = p }
+
+  -- the settings that the questions ask for
+  module _ (es : List Entry) (p : Package) (o : Over s end es) (e : readFile standard f ≡ some p) where
+    setting : Setting f s end es (selfOf p)
+    setting = over-setting s end es d f p o e
+
+    imports : T (q13-imports (installed standard es) p) → Imports f s end es (selfOf p)
+    imports h = record { setting = setting; imports = h }
+
+    parents : T (q13-imports (installed standard es) p) → T (q14-parents standard (installed standard es) (selfOf p)) → Parents f s end es (selfOf p)
+    parents h k = record { imported = imports h; exist = (parents-yes standard (installed standard es) (selfOf p) k) .exist }
+
+  -- what is required before each
+  pub setting-there : PackageSome s end f → SettingThere f s end
+  setting-there t = (t .0, selfOf (t .1), setting (t .0) (t .1) (t .2) (t .3))
+
+  pub imports-there : PackageSome s end f → ImportsIs f s end true → ImportsThere f s end
+  imports-there t i = (t .0, selfOf (t .1), imports (t .0) (t .1) (t .2) (t .3) (of-true (sym (i (t .0) (selfOf (t .1)) (setting (t .0) (t .1) (t .2) (t .3))))))
+
+  pub inside-some : (depth : ℕ) → PackageSome s end f → ImportsIs f s end true → ParentedIs f s end (parented.Yes depth) → InsideSome s end d f
+  inside-some depth t i q =
+      let g = setting (t .0) (t .1) (t .2) (t .3) in
+      let h : T (q13-imports (installed standard (t .0)) (t .1)) = of-true (sym (i (t .0) (selfOf (t .1)) g)) in
+      let k = q (t .0) (selfOf (t .1)) (imports (t .0) (t .1) (t .2) (t .3) h) in
+      (t .0, t .1, t .2, t .3, h, of-true (k .0))
+
+  pub judged : InsideSome s end d f → Judged f s end
+  judged t = (t .0, selfOf (t .1), imports (t .0) (t .1) (t .2) (t .3) (t .4))
+
+  pub judged-there : InsideSome s end d f → JudgedThere f s end
+  judged-there t = (t .0, selfOf (t .1), parents (t .0) (t .1) (t .2) (t .3) (t .4) (t .5), t .5)
+
+  pub readable : InsideSome s end d f → Readable f
+  readable t = (standard, t .1, t .3)
+
+  pub file-here : InsideSome s end d f → FileHere f
+  file-here t = (t .1, t .3)
+
+  -- from 12 on
+  pub stage-12 : NewIs f s end false → PackageSays s end d f (Refused 12)
+  stage-12 n es p o e = answer-no 12 (q12-new (installed standard es) p) _ _ tt (sym (n es (selfOf p) (setting es p o e)))
+
+  module _ (twelve : NewIs f s end true) where
+    pub stage-13 : ImportsIs f s end false → PackageSays s end d f (Refused 13)
+    stage-13 n es p o e =
+        answer-yes 12 (q12-new (installed standard es) p) _ _ _ (sym (twelve es (selfOf p) (setting es p o e))) (answer-no 13 (q13-imports (installed standard es) p) _ _ tt (sym (n es (selfOf p) (setting es p o e))))
+
+    module _ (thirteen : ImportsIs f s end true) where
+      has-imports : (es : List Entry) (p : Package) (o : Over s end es) (e : readFile standard f ≡ some p) → T (q13-imports (installed standard es) p)
+      has-imports es p o e = of-true (sym (thirteen es (selfOf p) (setting es p o e)))
+
+      first-two : (es : List Entry) (p : Package) (o : Over s end es) (e : readFile standard f ≡ some p) (qs : List Question) (depth : ℕ) (r : LoadAnswer) → AnswerIs qs depth r →
+          AnswerIs ((12, q12-new (installed standard es) p) ∷ (13, q13-imports (installed standard es) p) ∷ qs) depth r
+      first-two es p o e qs depth r a =
+          answer-yes 12 (q12-new (installed standard es) p) _ _ _ (sym (twelve es (selfOf p) (setting es p o e)))
+          (answer-yes 13 (q13-imports (installed standard es) p) _ _ _ (sym (thirteen es (selfOf p) (setting es p o e))) a)
+
+      pub stage-14 : ParentedIs f s end parented.No → PackageSays s end d f (Refused 14)
+      stage-14 n es p o e =
+          first-two es p o e _ _ _ (answer-no 14 (q14-parents standard (installed standard es) (selfOf p)) _ _ tt (n es (selfOf p) (imports es p o e (has-imports es p o e))))
+
+      pub stage-inside : (depth : ℕ) (r : LoadAnswer) → ParentedIs f s end (parented.Yes depth) → InsideSays s end d f depth r → PackageSays s end d f r
+      unfolding deepest
+      stage-inside depth r y a es p o e =
+          let h = has-imports es p o e in
+          let q = y es (selfOf p) (imports es p o e h) in
+          subst (λ (m : ℕ). AnswerIs (from12 (length s) es d f p) m r) (q .1)
+          (first-two es p o e _ _ r (answer-yes 14 (q14-parents standard (installed standard es) (selfOf p)) _ _ r (q .0) (a es p o e h (of-true (q .0)))))
+
+  -- from 15 on
+  module _ (depth : ℕ) where
+    pub stage-15 : NamesIs f false → InsideSays s end d f depth (Refused 15)
+    stage-15 n es p o e h k = answer-no 15 (q15-names p) _ _ tt (sym (n standard p e))
+
+    module _ (fifteen : NamesIs f true) where
+      pub stage-codes : (c : ℕ) → FileNumberIs f c → (c ≡ 0 → ⊥) → InsideSays s end d f depth (Refused c)
+      stage-codes c n z es p o e h k = answer-yes 15 (q15-names p) _ _ _ (sym (fifteen standard p e)) (go (q16-splits p) (q17-targets p) (n standard p e))
+        where
+          go : (a b : Bool) → c ≡ firstNo ((16, a) ∷ (17, b) ∷ []) → AnswerIs ((16, a) ∷ (17, b) ∷ from18 (length s) es d f p) depth (Refused c)
+          go false b q = subst (λ (m : ℕ). AnswerIs ((16, false) ∷ (17, b) ∷ from18 (length s) es d f p) depth (Refused m)) (sym q) (answer-no 16 false _ _ tt refl)
+          go true false q = subst (λ (m : ℕ). AnswerIs ((16, true) ∷ (17, false) ∷ from18 (length s) es d f p) depth (Refused m)) (sym q) (answer-yes 16 true _ _ _ refl (answer-no 17 false _ _ tt refl))
+          go true true q = absurd (z q)
+
+      pub stage-calls : (c : ℕ) → FileNumberIs f c → c ≡ 0 → (r : LoadAnswer) → CallsSay s end d f depth r → InsideSays s end d f depth r
+      stage-calls c n z r a es p o e h k =
+          answer-yes 15 (q15-names p) _ _ _ (sym (fifteen standard p e)) (go (q16-splits p) (q17-targets p) (sym z ∙ n standard p e))
+        where
+          go : (x y : Bool) → 0 ≡ firstNo ((16, x) ∷ (17, y) ∷ []) → AnswerIs ((16, x) ∷ (17, y) ∷ from18 (length s) es d f p) depth r
+          go false y q = absurd (omega (arith, q))
+          go true false q = absurd (omega (arith, q))
+          go true true q = answer-yes 16 true _ _ r refl (answer-yes 17 true _ _ r refl (a es p o e h k))
+
+  -- 16 was answered yes
+  pub codes-split : (c : ℕ) → FileNumberIs f c → c ≡ 0 → CodesSplit f
+  codes-split c n z l p e = go (q16-splits p) (q17-targets p) (sym z ∙ n l p e)
+    where
+      go : (x y : Bool) → 0 ≡ firstNo ((16, x) ∷ (17, y) ∷ []) → T x
+      go false y q = absurd (omega (arith, q))
+      go true y q = tt
+
+  -- its number is small
+  pub codes-small : (c : ℕ) → InsideSome s end d f → FileNumberIs f c → c ≤ 17
+  codes-small c t n = go (q16-splits (t .1)) (q17-targets (t .1)) (n standard (t .1) (t .3))
+    where
+      go : (x y : Bool) → c ≡ firstNo ((16, x) ∷ (17, y) ∷ []) → c ≤ 17
+      go false y q = omega (arith, q)
+      go true false q = omega (arith, q)
+      go true true q = omega (arith, q)
+
+  -- from 18 on
+  module _ (depth : ℕ) where
+    pub stage-18 : CallsNamed f s end false → CallsSay s end d f depth (Refused 18)
+    stage-18 n es p o e h k = answer-no 18 (q18-calls (installed standard es) (selfOf p)) _ _ tt (sym (n es (selfOf p) (imports es p o e h)))
+
+    module _ (eighteen : CallsNamed f s end true) where
+      pub stage-19 : CallsAllowed f s end d false → CallsSay s end d f depth (Refused 19)
+      stage-19 n es p o e h k =
+          answer-yes 18 (q18-calls (installed standard es) (selfOf p)) _ _ _ (sym (eighteen es (selfOf p) (imports es p o e h)))
+          (answer-no 19 (q19-allowed (installed standard es) (selfOf p)) _ _ tt (sym (n es (selfOf p) (imports es p o e h) refl)))
+
+      module _ (nineteen : CallsAllowed f s end d true) where
+        both : (es : List Entry) (p : Package) (o : Over s end es) (e : readFile standard f ≡ some p) → T (q13-imports (installed standard es) p) → (qs : List Question) (r : LoadAnswer) → AnswerIs qs depth r →
+            AnswerIs ((18, q18-calls (installed standard es) (selfOf p)) ∷ (19, q19-allowed (installed standard es) (selfOf p)) ∷ qs) depth r
+        both es p o e h qs r a =
+            answer-yes 18 (q18-calls (installed standard es) (selfOf p)) _ _ r (sym (eighteen es (selfOf p) (imports es p o e h)))
+            (answer-yes 19 (q19-allowed (installed standard es) (selfOf p)) _ _ r (sym (nineteen es (selfOf p) (imports es p o e h) refl)) a)
+
+        pub stage-20 : RunningIs f s end false → CallsSay s end d f depth (Refused 20)
+        stage-20 n es p o e h k =
+            both es p o e h _ _ (answer-no 20 (q20-running standard (installed standard es) (selfOf p)) _ _ tt (sym (n es (selfOf p) (parents es p o e h k) k)))
+
+        pub stage-21 : (b : Bool) → RunningIs f s end true → Fits s end (loaded d f) b → CallsSay s end d f depth (pick b (Accepted depth) (Refused 21))
+        stage-21 b twenty n es p o e h k =
+            both es p o e h _ _ (answer-yes 20 (q20-running standard (installed standard es) (selfOf p)) _ _ _ (sym (twenty es (selfOf p) (parents es p o e h k) k)) (go b (n es (over-used s end es o))))
+          where
+            go : (b : Bool) → b ≡ q21-fits (length s) es (loaded d f) → AnswerIs ((21, q21-fits (length s) es (loaded d f)) ∷ []) depth (pick b (Accepted depth) (Refused 21))
+            go true q = answer-yes 21 (q21-fits (length s) es (loaded d f)) _ _ _ (sym q) (answer-done depth)
+            go false q = answer-no 21 (q21-fits (length s) es (loaded d f)) _ _ tt (sym q)

@@ -1,0 +1,58 @@
+-- `judge::package_answer` meets its contract. Assumes nothing.
+use Rattle.depths.specs.Depths.{NewIs, ImportsIs, ParentedIs}
+use Rattle.judge.proofs.Creation as creation
+use Rattle.judge.proofs.Stages as stages
+use denote.Ref.{now}
+use mathlib.Core.Path.{refl, subst}
+use borrow.Author.Needs.{needs}
+use Rattle.judge.proofs.package_answer.Statement.{statement}
+use Rattle.judge.proofs.package_answer.Tie as tie
+
+package-new-requires : tie.Need-package-new-requires
+package-new-requires c κs = stages.setting-there (now (c .before .before .before .before .args .s)) (c .before .before .before .before .args .end) (now (c .before .before .before .before .args .domain)) (now (c .before .before .before .before .args .file)) (c .before .before .before .before .pre .0)
+
+returns : tie.Need-returns
+returns c = (stages.stage-12 (now (c .before .before .before .before .before .before .args .s)) (c .before .before .before .before .before .before .args .end) (now (c .before .before .before .before .before .before .args .domain)) (now (c .before .before .before .before .before .before .args .file)) (subst (NewIs (now (c .before .before .before .before .before .before .args .file)) (now (c .before .before .before .before .before .before .args .s)) (c .before .before .before .before .before .before .args .end)) (creation.not-yes (c .before .package-new .result) (c .if1 .taken)) (c .before .package-new .ensures)), refl)
+
+imports-there-requires : tie.Need-imports-there-requires
+imports-there-requires c κs = stages.setting-there (now (c .before .before .before .before .before .before .args .s)) (c .before .before .before .before .before .before .args .end) (now (c .before .before .before .before .before .before .args .domain)) (now (c .before .before .before .before .before .before .args .file)) (c .before .before .before .before .before .before .pre .0)
+
+returns-2 : tie.Need-returns-2
+returns-2 c = (stages.stage-13 (now (c .before .before .before .before .before .before .before .before .args .s)) (c .before .before .before .before .before .before .before .before .args .end) (now (c .before .before .before .before .before .before .before .before .args .domain)) (now (c .before .before .before .before .before .before .before .before .args .file)) (subst (NewIs (now (c .before .before .before .before .before .before .before .before .args .file)) (now (c .before .before .before .before .before .before .before .before .args .s)) (c .before .before .before .before .before .before .before .before .args .end)) (creation.not-no (c .before .before .before .package-new .result) (c .before .before .if1 .left)) (c .before .before .before .package-new .ensures)) (subst (ImportsIs (now (c .before .before .before .before .before .before .before .before .args .file)) (now (c .before .before .before .before .before .before .before .before .args .s)) (c .before .before .before .before .before .before .before .before .args .end)) (creation.not-yes (c .before .imports-there .result) (c .if2 .taken)) (c .before .imports-there .ensures)), refl)
+
+parents-ok-requires : tie.Need-parents-ok-requires
+parents-ok-requires c κs = (stages.imports-there (now (c .before .before .before .before .before .before .before .before .args .s)) (c .before .before .before .before .before .before .before .before .args .end) (now (c .before .before .before .before .before .before .before .before .args .domain)) (now (c .before .before .before .before .before .before .before .before .args .file)) (c .before .before .before .before .before .before .before .before .pre .0) (subst (ImportsIs (now (c .before .before .before .before .before .before .before .before .args .file)) (now (c .before .before .before .before .before .before .before .before .args .s)) (c .before .before .before .before .before .before .before .before .args .end)) (creation.not-no (c .before .imports-there .result) (c .if2 .left)) (c .before .imports-there .ensures)), c .before .before .before .before .before .before .before .before .pre .1 .0)
+
+enum-known-depth : tie.Need-enum-known-depth
+enum-known-depth c = search needs
+
+inside-answer-requires : tie.Need-inside-answer-requires
+inside-answer-requires c κs = (stages.inside-some (now (c .before .before .before .before .before .before .before .before .before .before .before .before .before .args .s)) (c .before .before .before .before .before .before .before .before .before .before .before .before .before .args .end) (now (c .before .before .before .before .before .before .before .before .before .before .before .before .before .args .domain)) (now (c .before .before .before .before .before .before .before .before .before .before .before .before .before .args .file)) (c .before .before .depth .given .0 .0) (c .before .before .before .before .before .before .before .before .before .before .before .before .before .pre .0) (subst (ImportsIs (now (c .before .before .before .before .before .before .before .before .before .before .before .before .before .args .file)) (now (c .before .before .before .before .before .before .before .before .before .before .before .before .before .args .s)) (c .before .before .before .before .before .before .before .before .before .before .before .before .before .args .end)) (creation.not-no (c .before .before .before .before .before .before .imports-there .result) (c .before .before .before .before .before .if2 .left)) (c .before .before .before .before .before .before .imports-there .ensures)) (subst (ParentedIs (now (c .before .before .before .before .before .before .before .before .before .before .before .before .before .args .file)) (now (c .before .before .before .before .before .before .before .before .before .before .before .before .before .args .s)) (c .before .before .before .before .before .before .before .before .before .before .before .before .before .args .end)) (c .before .before .depth .given .1) (c .before .before .before .before .parents-ok .ensures)), c .before .before .before .before .before .before .before .before .before .before .before .before .before .pre .1)
+
+enum-told : tie.Need-enum-told
+enum-told c = search needs
+
+same-length : tie.Need-same-length
+same-length c = search needs
+
+returns-3 : tie.Need-returns-3
+returns-3 c = (stages.stage-inside (now (c .before .before .before .before .before .before .before .before .before .before .before .before .before .before .before .before .args .s)) (c .before .before .before .before .before .before .before .before .before .before .before .before .before .before .before .before .args .end) (now (c .before .before .before .before .before .before .before .before .before .before .before .before .before .before .before .before .args .domain)) (now (c .before .before .before .before .before .before .before .before .before .before .before .before .before .before .before .before .args .file)) (subst (NewIs (now (c .before .before .before .before .before .before .before .before .before .before .before .before .before .before .before .before .args .file)) (now (c .before .before .before .before .before .before .before .before .before .before .before .before .before .before .before .before .args .s)) (c .before .before .before .before .before .before .before .before .before .before .before .before .before .before .before .before .args .end)) (creation.not-no (c .before .before .before .before .before .before .before .before .before .before .before .package-new .result) (c .before .before .before .before .before .before .before .before .before .before .if1 .left)) (c .before .before .before .before .before .before .before .before .before .before .before .package-new .ensures)) (subst (ImportsIs (now (c .before .before .before .before .before .before .before .before .before .before .before .before .before .before .before .before .args .file)) (now (c .before .before .before .before .before .before .before .before .before .before .before .before .before .before .before .before .args .s)) (c .before .before .before .before .before .before .before .before .before .before .before .before .before .before .before .before .args .end)) (creation.not-no (c .before .before .before .before .before .before .before .before .before .imports-there .result) (c .before .before .before .before .before .before .before .before .if2 .left)) (c .before .before .before .before .before .before .before .before .before .imports-there .ensures)) (c .before .before .before .before .before .depth .given .0 .0) (c .before .before .inside-answer .result) (subst (ParentedIs (now (c .before .before .before .before .before .before .before .before .before .before .before .before .before .before .before .before .args .file)) (now (c .before .before .before .before .before .before .before .before .before .before .before .before .before .before .before .before .args .s)) (c .before .before .before .before .before .before .before .before .before .before .before .before .before .before .before .before .args .end)) (c .before .before .before .before .before .depth .given .1) (c .before .before .before .before .before .before .before .parents-ok .ensures)) (c .before .before .inside-answer .ensures .0), c .before .before .inside-answer .ensures .1)
+
+returns-4 : tie.Need-returns-4
+returns-4 c = (stages.stage-14 (now (c .before .before .before .before .before .before .before .before .before .before .before .args .s)) (c .before .before .before .before .before .before .before .before .before .before .before .args .end) (now (c .before .before .before .before .before .before .before .before .before .before .before .args .domain)) (now (c .before .before .before .before .before .before .before .before .before .before .before .args .file)) (subst (NewIs (now (c .before .before .before .before .before .before .before .before .before .before .before .args .file)) (now (c .before .before .before .before .before .before .before .before .before .before .before .args .s)) (c .before .before .before .before .before .before .before .before .before .before .before .args .end)) (creation.not-no (c .before .before .before .before .before .before .package-new .result) (c .before .before .before .before .before .if1 .left)) (c .before .before .before .before .before .before .package-new .ensures)) (subst (ImportsIs (now (c .before .before .before .before .before .before .before .before .before .before .before .args .file)) (now (c .before .before .before .before .before .before .before .before .before .before .before .args .s)) (c .before .before .before .before .before .before .before .before .before .before .before .args .end)) (creation.not-no (c .before .before .before .before .imports-there .result) (c .before .before .before .if2 .left)) (c .before .before .before .before .imports-there .ensures)) (subst (ParentedIs (now (c .before .before .before .before .before .before .before .before .before .before .before .args .file)) (now (c .before .before .before .before .before .before .before .before .before .before .before .args .s)) (c .before .before .before .before .before .before .before .before .before .before .before .args .end)) (c .enum-told .given .1) (c .before .before .parents-ok .ensures)), refl)
+
+pub package-answer-spec : {M : Type 1} → statement M
+package-answer-spec =
+    tie.close
+    (tie.spec
+    package-new-requires
+    returns
+    imports-there-requires
+    returns-2
+    parents-ok-requires
+    enum-known-depth
+    inside-answer-requires
+    enum-told
+    same-length
+    returns-3
+    returns-4)

@@ -1,0 +1,2 @@
+-- What judging says.
+pub mod Says

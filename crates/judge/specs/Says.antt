@@ -1,0 +1,102 @@
+-- What judging a creation, a load and a whole store says: the questions of document 01 over the entries that end at a place. Assumes nothing.
+--
+-- Over s end es     == es stand in s up to place end, each accepted over the earlier ones in a buffer of that length
+-- CreateSays, LoadSays == the number of a creation or a load over them, and a load's depth
+-- SoundSays s r     == whether s is sound, and its used value
+use Prim.Native.Nat.{ℕ, _<_}
+use mathlib.Core.Path.{_≡_}
+use mathlib.Core.Bool.{Bool, true, false}
+use mathlib.Core.List.{List, [], _∷_}
+use mathlib.Core.Option.{some}
+use lib.Dec.{T}
+use lib.ListN.{length}
+use Rattle.rules.specs.Bytes.{Bytes, Aid}
+use Rattle.rules.specs.Package.{standard, Package, readFile}
+use Rattle.rules.specs.Store.{Entry, loaded, openingLength, used, entriesOf}
+use Rattle.rules.specs.Classes.{Installed, installed}
+use Rattle.rules.specs.Operations.{Question, firstNo, createQuestions, loadQuestions, acceptedAll, soundEntries, sound, deepest, deepestOf}
+use Rattle.rules.specs.Questions.{q5-created, q12-new, q13-imports, q14-parents, q15-names, q16-splits, q17-targets, q18-calls, q19-allowed, q20-running, q21-fits}
+use Rattle.store.specs.Entries.{Entries, Holds}
+use Rattle.judge.specs.declared.LoadAnswer.{LoadAnswer}
+use Rattle.judge.specs.declared.LoadAnswer.the-variants.{Refused, Accepted}
+use Rattle.judge.specs.declared.StoreAnswer.{StoreAnswer}
+use Rattle.judge.specs.declared.StoreAnswer.the-variants.{Unsound, Used}
+
+-- the number of a load's answer, and its depth figure
+abbrev pub numberOf : LoadAnswer → ℕ
+numberOf (Refused n) = n
+numberOf (Accepted d) = 0
+
+abbrev pub figureOf : LoadAnswer → ℕ
+figureOf (Refused n) = 0
+figureOf (Accepted d) = d
+
+-- sound entries that end at a place
+pub record Over (s : Bytes) (end : ℕ) (es : List Entry) : Type 0 where
+  pub stand : Entries s openingLength es end
+  pub sound : T (acceptedAll standard (length s) [] es)
+
+abbrev pub OverSome : Bytes → ℕ → Type 0
+OverSome s end = (es : List Entry) × Over s end es
+
+-- a domain has been created
+abbrev pub CreatedSays : Bytes → ℕ → Aid → Bool → Type 0
+CreatedSays s end a r = (es : List Entry) → Over s end es → r ≡ q5-created es a
+
+-- a creation's number
+abbrev pub CreateSays : Bytes → ℕ → Aid → ℕ → Type 0
+CreateSays s end a r = (es : List Entry) → Over s end es → r ≡ firstNo (createQuestions (length s) es a)
+
+-- an answer to a list of questions: its number, the depth figure where that is 0, and that a refusal has a number
+pub record AnswerIs (qs : List Question) (depth : ℕ) (r : LoadAnswer) : Type 0 where
+  pub number : numberOf r ≡ firstNo qs
+  pub figure : firstNo qs ≡ 0 → figureOf r ≡ depth
+  pub real : (n : ℕ) → r ≡ Refused n → 0 < n
+
+-- a load's questions from 18 on, from 15 on and from 12 on, of a file that reads as p
+abbrev pub from18 : ℕ → List Entry → Aid → Bytes → Package → List Question
+from18 n es d f p =
+    let is : List Installed = installed standard es in
+    let self : Installed = record { domain = d; pack = p } in
+    (18, q18-calls is self) ∷ (19, q19-allowed is self) ∷ (20, q20-running standard is self) ∷ (21, q21-fits n es (loaded d f)) ∷ []
+
+abbrev pub from15 : ℕ → List Entry → Aid → Bytes → Package → List Question
+from15 n es d f p = (15, q15-names p) ∷ (16, q16-splits p) ∷ (17, q17-targets p) ∷ from18 n es d f p
+
+abbrev pub from12 : ℕ → List Entry → Aid → Bytes → Package → List Question
+from12 n es d f p =
+    let is : List Installed = installed standard es in
+    let self : Installed = record { domain = d; pack = p } in
+    (12, q12-new is p) ∷ (13, q13-imports is p) ∷ (14, q14-parents standard is self) ∷ from15 n es d f p
+
+-- a load's answer, of a file that passed 3 to 17, 3 to 14, of one that reads, of any
+abbrev pub CallsSay : Bytes → ℕ → Aid → Bytes → ℕ → LoadAnswer → Type 0
+CallsSay s end d f depth r = (es : List Entry) (p : Package) → Over s end es → readFile standard f ≡ some p →
+    T (q13-imports (installed standard es) p) → T (q14-parents standard (installed standard es) (record { domain = d; pack = p })) → AnswerIs (from18 (length s) es d f p) depth r
+
+abbrev pub InsideSays : Bytes → ℕ → Aid → Bytes → ℕ → LoadAnswer → Type 0
+InsideSays s end d f depth r = (es : List Entry) (p : Package) → Over s end es → readFile standard f ≡ some p →
+    T (q13-imports (installed standard es) p) → T (q14-parents standard (installed standard es) (record { domain = d; pack = p })) → AnswerIs (from15 (length s) es d f p) depth r
+
+abbrev pub PackageSays : Bytes → ℕ → Aid → Bytes → LoadAnswer → Type 0
+PackageSays s end d f r = (es : List Entry) (p : Package) → Over s end es → readFile standard f ≡ some p → AnswerIs (from12 (length s) es d f p) (deepest standard es d p) r
+
+abbrev pub LoadSays : Bytes → ℕ → Aid → Bytes → LoadAnswer → Type 0
+LoadSays s end d f r = (es : List Entry) → Over s end es → AnswerIs (loadQuestions standard (length s) es d f) (deepestOf standard es d (readFile standard f)) r
+
+-- what they require
+abbrev pub PackageSome : Bytes → ℕ → Bytes → Type 0
+PackageSome s end f = (es : List Entry) × (p : Package) × Over s end es × (readFile standard f ≡ some p)
+
+abbrev pub InsideSome : Bytes → ℕ → Aid → Bytes → Type 0
+InsideSome s end d f = (es : List Entry) × (p : Package) × Over s end es × (readFile standard f ≡ some p) ×
+    T (q13-imports (installed standard es) p) × T (q14-parents standard (installed standard es) (record { domain = d; pack = p }))
+
+-- whether each entry up to a place would have been accepted
+abbrev pub AllAccepted : Bytes → ℕ → Bool → Type 0
+AllAccepted s end r = (es : List Entry) → Entries s openingLength es end → r ≡ soundEntries standard (length s) es
+
+-- question 2, and the used value of a sound store
+abbrev pub SoundSays : Bytes → StoreAnswer → Type 0
+SoundSays s Unsound = sound s ≡ false
+SoundSays s (Used u) = (sound s ≡ true) × ((es : List Entry) → entriesOf s ≡ some es → Holds s es × Over s u es × (used es ≡ u))

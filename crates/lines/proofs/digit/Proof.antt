@@ -1,0 +1,31 @@
+-- `lines::digit` meets its contract, by the law of each range of characters. Assumes nothing.
+use Rattle.lines.proofs.Digits.{digit-under, digit-figure, digit-between, digit-capital, digit-over}
+use native.Mathlib.Omega.{arith}
+use borrow.Author.Needs.{needs}
+use Rattle.lines.proofs.digit.Statement.{statement}
+use Rattle.lines.proofs.digit.Tie as tie
+
+wide-requires : tie.Need-wide-requires
+wide-requires c κs = search needs
+
+returns : tie.Need-returns
+returns c = (digit-under (c .before .before .args .c) (omega arith), omega arith)
+
+returns-2 : tie.Need-returns-2
+returns-2 c = (rw (c .before .before .wide .ensures .0) (digit-figure (c .before .before .before .args .c) (omega arith) (omega arith)), omega arith)
+
+returns-3 : tie.Need-returns-3
+returns-3 c = (digit-between (c .before .before .before .before .args .c) (omega arith) (omega arith), omega arith)
+
+add-result : tie.Need-add-result
+add-result c = search needs
+
+returns-4 : tie.Need-returns-4
+returns-4 c = (rw (c .before .before .before .before .wide .ensures .0) (digit-capital (c .before .before .before .before .before .args .c) (omega arith) (omega arith)), omega arith)
+
+returns-5 : tie.Need-returns-5
+returns-5 c = (digit-over (c .before .before .before .before .before .args .c) (omega arith), omega arith)
+
+pub digit-spec : {M : Type 1} → statement M
+digit-spec =
+    tie.close (tie.spec wide-requires returns returns-2 returns-3 add-result returns-4 returns-5)

@@ -1,0 +1,2 @@
+-- The laws of question 15 at places.
+pub mod Rules

@@ -1,0 +1,3 @@
+-- The laws about policies at places.
+pub mod Indexes
+pub mod Rules

@@ -1,0 +1,22 @@
+-- `policies::listed_as` meets its contract: the AID is compared first, then the number looked for. Assumes nothing.
+use mathlib.Core.Path.{sym, _∙_}
+use denote.Ref.{now}
+use borrow.Author.Tests.{not-true, not-false}
+use Rattle.policies.proofs.Rules as rules
+use Rattle.policies.proofs.listed_as.Statement.{statement}
+use Rattle.policies.proofs.listed_as.Tie as tie
+
+aid-is-requires : tie.Need-aid-is-requires
+aid-is-requires c κs = c .before .before .pre .0
+
+returns : tie.Need-returns
+returns c = rules.listed-other (now (c .before .before .before .before .args .x)) (c .before .before .before .before .args .at) (c .before .before .before .before .args .k) (λ a j p. sym (not-true (c .before .aid-is .result) (c .if1 .taken)) ∙ c .before .aid-is .ensures a j p)
+
+lists-requires : tie.Need-lists-requires
+lists-requires c κs = c .before .before .before .before .pre .1
+
+returns-2 : tie.Need-returns-2
+returns-2 c = rules.listed-this (now (c .before .before .before .before .before .args .x)) (c .before .before .before .before .before .args .at) (c .before .before .before .before .before .args .k) (λ a j p. sym (not-false (c .before .before .aid-is .result) (c .before .if1 .left)) ∙ c .before .before .aid-is .ensures a j p) (c .lists .ensures)
+
+pub listed-as-spec : {M : Type 1} → statement M
+listed-as-spec = tie.close (tie.spec aid-is-requires returns lists-requires returns-2)

@@ -1,0 +1,2 @@
+-- What the functions over policies require and ensure.
+pub mod Say

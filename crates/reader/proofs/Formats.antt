@@ -1,0 +1,169 @@
+-- Policies, codes, methods and classes at places: what is told of the parts is told of the whole. Assumes nothing.
+use Prim.Native.Nat.{ℕ, _≤_, _<_}
+use mathlib.Core.Path.{_≡_, refl}
+use mathlib.Core.Bool.{true, false}
+use mathlib.Core.List.{List, []}
+use mathlib.Core.Option.{none, some}
+use lib.Dec.{leb, ltb, eqb}
+use lib.ListN.{length, getD, replicate, length-replicate}
+use borrow.Author.Tests.{le-leb, lt-leb, lt-ltb, le-ltb, eq-eqb, ne-eqb}
+use Rattle.rules.specs.Bytes.{Bytes, Aid, pick, within, Reader, _>>=_, ret, when, u1, u2, span, many, counted}
+use Rattle.rules.specs.Package.{Limits, Policy, every, only, ClassNumber, Method, Class, mostMethods, mostAllowed, classNumber, reference, domainIndex, listed, policy, codeIf, bit, spareZero, methodOf, method, classOf, class}
+use Rattle.cursor.specs.Says.{Says, Stops, stops, itself}
+use Rattle.cursor.proofs.Steps.{Leads, said-inside, stopped-inside, stop-none, then-none, then-leads, then-any, made-leads, when-leads, when-none}
+use Rattle.cursor.proofs.Widths.{Wide, wide-u1, wide-u2, wide-made, wide-then}
+
+-- parents and references have one width
+pub wide-number : (s : Bytes) → Wide classNumber s 2
+unfolding classNumber
+wide-number s = wide-then (λ p. u1 >>= λ c. ret (record { pack = p; class = c })) (wide-u1 s) (λ p. wide-made (λ c. record { pack = p; class = c }) (wide-u1 s))
+
+pub wide-reference : (s : Bytes) → Wide reference s 4
+unfolding reference
+wide-reference s = wide-then (λ c. u2 >>= λ n. ret (record { class = c; name = n })) (wide-number s) (λ c. wide-made (λ n. record { class = c; name = n }) (wide-u2 s))
+
+-- an index below the domain count
+module _ (ds : List Aid) where
+  -- the AID that an index stands for
+  abbrev chosen : ℕ → Reader Aid
+  chosen n = when (ltb n (length ds)) (ret (getD ds n []))
+
+  module _ {s : Bytes} {i : ℕ} where
+    pub index-none : Says itself u1 s i none → Stops (domainIndex ds) s i none
+    unfolding domainIndex
+    index-none h = then-none chosen (stop-none h)
+
+    module _ {n j : ℕ} (h : Says itself u1 s i (some (n, j))) where
+      pub index-great : length ds ≤ n → Stops (domainIndex ds) s i none
+      unfolding domainIndex
+      index-great k = then-leads chosen h none (when-none (ret (getD ds n [])) (le-ltb n (length ds) k))
+
+      pub index-stops : n < length ds → Stops (domainIndex ds) s i (some j)
+      unfolding domainIndex
+      index-stops k = then-leads chosen h (some j) (when-leads (ret (getD ds n [])) (lt-ltb n (length ds) k) (some j) (stops refl (said-inside h)))
+
+-- a policy
+module _ (ds : List Aid) where
+  -- what a count stands for
+  abbrev counts : ℕ → Reader Policy
+  counts n = pick (eqb n 0xFF) (ret every) (listed ds n)
+
+  module _ {s : Bytes} {i : ℕ} where
+    pub policy-none : Says itself u1 s i none → Stops (policy ds) s i none
+    unfolding policy
+    policy-none h = then-none counts (stop-none h)
+
+    module _ {n j : ℕ} (h : Says itself u1 s i (some (n, j))) where
+      pub policy-every : n ≡ 0xFF → Stops (policy ds) s i (some j)
+      unfolding policy
+      policy-every e = then-leads counts h (some j) (rw (eq-eqb n 0xFF e) (stops refl (said-inside h)))
+
+      pub policy-many : (n ≡ 0xFF → ⊥) → mostAllowed < n → Stops (policy ds) s i none
+      unfolding policy listed
+      policy-many e k = then-leads counts h none (rw (ne-eqb n 0xFF e) (when-none (many n (domainIndex ds) >>= λ aids. ret (only aids)) (lt-leb n mostAllowed k)))
+
+      pub policy-leads : (n ≡ 0xFF → ⊥) → n ≤ mostAllowed → Leads (policy ds) (many n (domainIndex ds)) s i j
+      unfolding policy listed
+      policy-leads e k o p =
+          let q = made-leads (many n (domainIndex ds)) (λ aids. only aids) o p in
+          then-leads counts h o (rw (ne-eqb n 0xFF e) (when-leads (many n (domainIndex ds) >>= λ aids. ret (only aids)) (le-leb n mostAllowed k) o q))
+
+-- a code, if there is one
+module _ (l : Limits) where
+  -- a code of so many bytes
+  abbrev sizes : ℕ → Reader Bytes
+  sizes n = when (within 1 (l .code) n) (span n)
+
+  module _ {s : Bytes} {i : ℕ} where
+    pub code-absent : i ≤ length s → Stops (codeIf l false) s i (some i)
+    unfolding codeIf
+    code-absent h = stops refl h
+
+    pub code-none : Says itself u2 s i none → Stops (codeIf l true) s i none
+    unfolding codeIf
+    code-none h = then-none sizes (stop-none h)
+
+    module _ {n j : ℕ} (h : Says itself u2 s i (some (n, j))) where
+      pub code-empty : n < 1 → Stops (codeIf l true) s i none
+      unfolding codeIf
+      code-empty k = let t : within 1 (l .code) n ≡ false = rw (lt-leb 1 n k) in then-leads sizes h none (when-none (span n) t)
+
+      pub code-long : 1 ≤ n → l .code < n → Stops (codeIf l true) s i none
+      unfolding codeIf
+      code-long k m = let t : within 1 (l .code) n ≡ false = rw (le-leb 1 n k, lt-leb n (l .code) m) in then-leads sizes h none (when-none (span n) t)
+
+      pub code-leads : 1 ≤ n → n ≤ l .code → Leads (codeIf l true) (span n) s i j
+      unfolding codeIf
+      code-leads k m o p = let t : within 1 (l .code) n ≡ true = rw (le-leb 1 n k, le-leb n (l .code) m) in then-leads sizes h o (when-leads (span n) t o p)
+
+-- a method
+module _ (l : Limits) (ds : List Aid) where
+  -- what follows the policy, the name and the bitfield
+  abbrev afterPolicy : ℕ → ℕ → Policy → Reader Method
+  afterPolicy b n p = codeIf l (bit 0x40 b) >>= λ c. ret (methodOf b n p c)
+
+  abbrev afterName : ℕ → ℕ → Reader Method
+  afterName b n = policy ds >>= λ p. afterPolicy b n p
+
+  abbrev afterBits : ℕ → Reader Method
+  afterBits b = when (spareZero b) (u2 >>= λ n. afterName b n)
+
+  module _ {s : Bytes} {i : ℕ} where
+    pub method-none : Says itself u1 s i none → Stops (method l ds) s i none
+    unfolding method
+    method-none h = then-none afterBits (stop-none h)
+
+    module _ {b j : ℕ} (h : Says itself u1 s i (some (b, j))) where
+      pub method-spare : spareZero b ≡ false → Stops (method l ds) s i none
+      unfolding method
+      method-spare z = then-leads afterBits h none (when-none (u2 >>= λ n. afterName b n) z)
+
+      bits-lead : spareZero b ≡ true → Leads (method l ds) (u2 >>= λ n. afterName b n) s i j
+      unfolding method
+      bits-lead z o p = then-leads afterBits h o (when-leads (u2 >>= λ n. afterName b n) z o p)
+
+      pub method-name-none : spareZero b ≡ true → Says itself u2 s j none → Stops (method l ds) s i none
+      method-name-none z p = bits-lead z none (then-none (afterName b) (stop-none p))
+
+      module _ {n m : ℕ} (z : spareZero b ≡ true) (name : Says itself u2 s j (some (n, m))) where
+        pub method-policy-none : Stops (policy ds) s m none → Stops (method l ds) s i none
+        method-policy-none p = bits-lead z none (then-leads (afterName b) name none (then-none (afterPolicy b n) p))
+
+        pub method-leads : {e : ℕ} → Stops (policy ds) s m (some e) → Leads (method l ds) (codeIf l (bit 0x40 b)) s i e
+        method-leads p o q = bits-lead z o (then-leads (afterName b) name o (then-any (afterPolicy b n) p o (λ x. made-leads (codeIf l (bit 0x40 b)) (methodOf b n x) o q)))
+
+-- a class
+module _ (l : Limits) (ds : List Aid) where
+  -- what follows the parents and the kind; a class of a kind
+  abbrev afterParents : ℕ → List ClassNumber → Reader Class
+  afterParents k ps = counted mostMethods u1 (method l ds) >>= λ ms. ret (classOf k ps ms)
+
+  abbrev afterKind : ℕ → Reader Class
+  afterKind k = counted (l .parents) u1 classNumber >>= λ ps. afterParents k ps
+
+  abbrev ofKind : ℕ → Reader Class
+  ofKind k = when (leb k 1) (afterKind k)
+
+  module _ {s : Bytes} {i : ℕ} where
+    pub class-none : Says itself u1 s i none → Stops (class l ds) s i none
+    unfolding class
+    class-none h = then-none ofKind (stop-none h)
+
+    module _ {k j : ℕ} (h : Says itself u1 s i (some (k, j))) where
+      pub class-kind : 1 < k → Stops (class l ds) s i none
+      unfolding class
+      class-kind z = then-leads ofKind h none (when-none (afterKind k) (lt-leb k 1 z))
+
+      kind-leads : k ≤ 1 → Leads (class l ds) (afterKind k) s i j
+      unfolding class
+      kind-leads z o p = then-leads ofKind h o (when-leads (afterKind k) (le-leb k 1 z) o p)
+
+      pub class-parents-none : k ≤ 1 → Stops (counted (l .parents) u1 classNumber) s j none → Stops (class l ds) s i none
+      class-parents-none z p = kind-leads z none (then-none (afterParents k) p)
+
+      pub class-leads : {m : ℕ} → k ≤ 1 → Stops (counted (l .parents) u1 classNumber) s j (some m) → Leads (class l ds) (counted mostMethods u1 (method l ds)) s i m
+      class-leads z p o q = kind-leads z o (then-any (afterParents k) p o (λ ps. made-leads (counted mostMethods u1 (method l ds)) (classOf k ps) o q))
+
+-- what is told for every list of so many domains is inside the file
+pub inside-any : {A : Type 0} {r : List Aid → Reader A} {s : Bytes} {i j : ℕ} (n : ℕ) → ((ds : List Aid) → length ds ≡ n → Stops (r ds) s i (some j)) → j ≤ length s
+inside-any n h = stopped-inside (h (replicate n []) (length-replicate n []))

@@ -1,0 +1,133 @@
+-- `reader::read_package` meets its contract: mark, size, contents, and nothing left over. Assumes nothing.
+use native.Mathlib.Omega.{arith}
+use mathlib.Core.Path.{sym, _∙_}
+use mathlib.Core.Option.{none}
+use borrow.Author.Tests.{not-true, not-false}
+use borrow.Author.Needs.{needs}
+use Rattle.rules.specs.Bytes.{u2}
+use Rattle.cursor.specs.Limits.{limitsOf}
+use Rattle.cursor.proofs.Steps.{field-is, field-bad}
+use Rattle.reader.proofs.Files.{contents-stopped, contents-none, size-none, size-other, size-leads, size-ends, file-none, file-left, file-reads, unmarked, unreadable, package-read}
+use Rattle.reader.proofs.read_package.Statement.{statement}
+use Rattle.reader.proofs.read_package.Tie as tie
+
+marked-requires : tie.Need-marked-requires
+marked-requires c κs = search needs
+
+returns : tie.Need-returns
+returns c =
+    let at-marked = c .before .marked in
+    let at-if1 = c .if1 in
+    unmarked (sym (at-marked .ensures) ∙ not-true (at-marked .result) (at-if1 .taken))
+
+new-requires : tie.Need-new-requires
+new-requires c κs = search needs
+
+u2-requires : tie.Need-u2-requires
+u2-requires c κs = search needs
+
+enum-known-size : tie.Need-enum-known-size
+enum-known-size c = c .match .keys1
+
+enum-told : tie.Need-enum-told
+enum-told c = c .match .keys2
+
+returns-2 : tie.Need-returns-2
+returns-2 c =
+    let start = c .before .before .before .before .before .before .before in
+    let at-marked = c .before .before .before .before .before .marked in
+    let at-if1 = c .before .before .before .before .if1 in
+    let at-new = c .before .before .before .new in
+    let at-u2 = c .before .before .u2 in
+    let at-enum-told = c .enum-told in
+    let limits = limitsOf (start .args .limits) in
+    let mark = sym (at-marked .ensures) ∙ not-false (at-marked .result) (at-if1 .left) in
+    unreadable mark (file-none limits (size-none limits (rw (at-new .ensures) at (field-bad (at-enum-told .given .1) (at-u2 .ensures)))))
+
+returns-3 : tie.Need-returns-3
+returns-3 c =
+    let start = c .before .before .before .before .before .before .before .before .before in
+    let at-marked = c .before .before .before .before .before .before .before .marked in
+    let at-if1 = c .before .before .before .before .before .before .if1 in
+    let at-new = c .before .before .before .before .before .new in
+    let at-u2 = c .before .before .before .before .u2 in
+    let at-size = c .before .before .size in
+    let limits = limitsOf (start .args .limits) in
+    let mark = sym (at-marked .ensures) ∙ not-false (at-marked .result) (at-if1 .left) in
+    let size = rw (at-new .ensures) at (field-is (at-size .given .1) (at-u2 .ensures)) in
+    unreadable mark (file-none limits (size-other limits size (λ z. omega arith)))
+
+read-contents-requires : tie.Need-read-contents-requires
+read-contents-requires c κs = search needs
+
+enum-known-places : tie.Need-enum-known-places
+enum-known-places c = c .match2 .keys1
+
+enum-told-2 : tie.Need-enum-told-2
+enum-told-2 c = c .match2 .keys2
+
+returns-4 : tie.Need-returns-4
+returns-4 c =
+    let start = c .before .before .before .before .before .before .before .before .before .before .before .before in
+    let at-marked = c .before .before .before .before .before .before .before .before .before .before .marked in
+    let at-if1 = c .before .before .before .before .before .before .before .before .before .if1 in
+    let at-new = c .before .before .before .before .before .before .before .before .new in
+    let at-u2 = c .before .before .before .before .before .before .before .u2 in
+    let at-size = c .before .before .before .before .before .size in
+    let at-read-contents = c .before .before .read-contents in
+    let at-enum-told2 = c .enum-told2 in
+    let limits = limitsOf (start .args .limits) in
+    let mark = sym (at-marked .ensures) ∙ not-false (at-marked .result) (at-if1 .left) in
+    let size = rw (at-new .ensures) at (field-is (at-size .given .1) (at-u2 .ensures)) in
+    unreadable mark (file-none limits (size-leads limits size (omega arith) none (contents-none (at-enum-told2 .given .1) (at-read-contents .ensures))))
+
+returns-5 : tie.Need-returns-5
+returns-5 c =
+    let start = c .before .before .before .before .before .before .before .before .before .before .before .before .before .before in
+    let at-marked = c .before .before .before .before .before .before .before .before .before .before .before .before .marked in
+    let at-if1 = c .before .before .before .before .before .before .before .before .before .before .before .if1 in
+    let at-new = c .before .before .before .before .before .before .before .before .before .before .new in
+    let at-u2 = c .before .before .before .before .before .before .before .before .before .u2 in
+    let at-size = c .before .before .before .before .before .before .before .size in
+    let at-read-contents = c .before .before .before .before .read-contents in
+    let at-places = c .before .before .places in
+    let limits = limitsOf (start .args .limits) in
+    let mark = sym (at-marked .ensures) ∙ not-false (at-marked .result) (at-if1 .left) in
+    let size = rw (at-new .ensures) at (field-is (at-size .given .1) (at-u2 .ensures)) in
+    let contents = size-leads limits size (omega arith) _ (contents-stopped (at-places .given .1) (at-read-contents .ensures)) in
+    unreadable mark (file-left limits contents (omega arith))
+
+returns-6 : tie.Need-returns-6
+returns-6 c =
+    let start = c .before .before .before .before .before .before .before .before .before .before .before .before .before .before in
+    let at-marked = c .before .before .before .before .before .before .before .before .before .before .before .before .marked in
+    let at-if1 = c .before .before .before .before .before .before .before .before .before .before .before .if1 in
+    let at-new = c .before .before .before .before .before .before .before .before .before .before .new in
+    let at-u2 = c .before .before .before .before .before .before .before .before .before .u2 in
+    let at-size = c .before .before .before .before .before .before .before .size in
+    let at-read-contents = c .before .before .before .before .read-contents in
+    let at-places = c .before .before .places in
+    let limits = limitsOf (start .args .limits) in
+    let mark = sym (at-marked .ensures) ∙ not-false (at-marked .result) (at-if1 .left) in
+    let size = rw (at-new .ensures) at (field-is (at-size .given .1) (at-u2 .ensures)) in
+    let contents = size-leads limits size (omega arith) _ (contents-stopped (at-places .given .1) (at-read-contents .ensures)) in
+    package-read mark (file-reads limits contents (omega arith)) _ (rw (size-ends limits size) at (at-read-contents .ensures .stand _ _ (at-places .given .1)))
+
+pub read-package-spec : {M : Type 1} → statement M
+read-package-spec =
+    tie.close
+    (tie.spec
+    marked-requires
+    returns
+    new-requires
+    u2-requires
+    enum-known-size
+    enum-told
+    returns-2
+    returns-3
+    read-contents-requires
+    enum-known-places
+    enum-told-2
+    returns-4
+    returns-5
+    returns-6)

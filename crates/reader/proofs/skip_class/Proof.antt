@@ -1,0 +1,82 @@
+-- `reader::skip_class` meets its contract: by each of its parts. Assumes nothing.
+use native.Mathlib.Omega.{arith}
+use borrow.Author.Needs.{needs}
+use Rattle.rules.specs.Bytes.{u1}
+use Rattle.cursor.specs.Limits.{limitsOf}
+use Rattle.cursor.proofs.Steps.{field-is, field-bad, skip-is, skip-bad}
+use Rattle.reader.proofs.Formats.{class-none, class-kind, class-parents-none, class-leads}
+use Rattle.reader.proofs.skip_class.Statement.{statement}
+use Rattle.reader.proofs.skip_class.Tie as tie
+
+u1-requires : tie.Need-u1-requires
+u1-requires c κs = search needs
+
+enum-known-kind : tie.Need-enum-known-kind
+enum-known-kind c = c .match .keys1
+
+enum-told : tie.Need-enum-told
+enum-told c = c .match .keys2
+
+returns : tie.Need-returns
+returns c =
+    let start = c .before .before .before .before in
+    let at-u1 = c .before .before .u1 in
+    let at-enum-told = c .enum-told in
+    λ ds e. class-none (limitsOf (start .args .limits)) ds (field-bad (at-enum-told .given .1) (at-u1 .ensures))
+
+returns-2 : tie.Need-returns-2
+returns-2 c =
+    let start = c .before .before .before .before .before .before in
+    let at-u1 = c .before .before .before .before .u1 in
+    let at-kind = c .before .before .kind in
+    let kind = field-is (at-kind .given .1) (at-u1 .ensures) in
+    λ ds e. class-kind (limitsOf (start .args .limits)) ds kind (omega arith)
+
+skip-parents-requires : tie.Need-skip-parents-requires
+skip-parents-requires c κs = search needs
+
+enum-known-methods : tie.Need-enum-known-methods
+enum-known-methods c = c .match2 .keys1
+
+enum-told-2 : tie.Need-enum-told-2
+enum-told-2 c = c .match2 .keys2
+
+returns-3 : tie.Need-returns-3
+returns-3 c =
+    let start = c .before .before .before .before .before .before .before .before .before in
+    let at-u1 = c .before .before .before .before .before .before .before .u1 in
+    let at-kind = c .before .before .before .before .before .kind in
+    let at-skip-parents = c .before .before .skip-parents in
+    let at-enum-told2 = c .enum-told2 in
+    let kind = field-is (at-kind .given .1) (at-u1 .ensures) in
+    λ ds e. class-parents-none (limitsOf (start .args .limits)) ds kind (omega arith) (skip-bad (at-enum-told2 .given .1) (at-skip-parents .ensures))
+
+skip-methods-requires : tie.Need-skip-methods-requires
+skip-methods-requires c κs = search needs
+
+returns-4 : tie.Need-returns-4
+returns-4 c =
+    let start = c .before .before .before .before .before .before .before .before .before .before .before in
+    let at-u1 = c .before .before .before .before .before .before .before .before .before .u1 in
+    let at-kind = c .before .before .before .before .before .before .before .kind in
+    let at-skip-parents = c .before .before .before .before .skip-parents in
+    let at-methods = c .before .before .methods in
+    let at-skip-methods = c .skip-methods in
+    let kind = field-is (at-kind .given .1) (at-u1 .ensures) in
+    λ ds e. class-leads (limitsOf (start .args .limits)) ds kind (omega arith) (skip-is (at-methods .given .1) (at-skip-parents .ensures)) _ (at-skip-methods .ensures ds e)
+
+pub skip-class-spec : {M : Type 1} → statement M
+skip-class-spec =
+    tie.close
+    (tie.spec
+    u1-requires
+    enum-known-kind
+    enum-told
+    returns
+    returns-2
+    skip-parents-requires
+    enum-known-methods
+    enum-told-2
+    returns-3
+    skip-methods-requires
+    returns-4)

@@ -1,0 +1,2 @@
+-- The definitions that the contracts of the package reader cite.
+pub mod Answers

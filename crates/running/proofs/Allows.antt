@@ -1,0 +1,104 @@
+-- What one method allows beside another, and a method beside the one that runs. Assumes nothing.
+use Prim.Native.Nat.{ℕ, _≤_}
+use mathlib.Core.Path.{_≡_, sym, _∙_, ap, subst}
+use mathlib.Core.Bool.{Bool, true, false}
+use mathlib.Core.List.{List}
+use mathlib.Core.Option.{none, some}
+use lib.ListN.{length}
+use Rattle.rules.specs.Bytes.{Bytes}
+use Rattle.rules.specs.Package.{standard, method, policy, readFile}
+use Rattle.rules.specs.Store.{Entry}
+use Rattle.rules.specs.Classes.{Installed, installed, MethodAt, runsUpTo, allowsAllOf}
+use Rattle.rules.specs.Questions.{own}
+use Rattle.places.specs.Reads.{Reads}
+use Rattle.files.specs.Say.{Readable, PolicyAt, NameIs, StaticIs, DomainsAt}
+use Rattle.files.specs.Say as say
+use Rattle.files.proofs.Walks.{domains-read}
+use Rattle.policies.specs.Say.{PolicyOver, AdmitsAllOf}
+use Rattle.homes.specs.Homes.{Imports, fileOf}
+use Rattle.homes.specs.declared.Home.{Home}
+use Rattle.homes.proofs.Homes.{home-reads, home-bounds}
+use Rattle.running.specs.Say.{MethodIn, RunningThere, RunsIs, BothThere, AllowsAllOf, methodPasses, MethodThere, MethodPasses}
+use Rattle.running.specs.declared.RunsFound.the-variants.{At, Nothing}
+
+-- a method in its file g
+module _ (f s : Bytes) (h : Home) (i : ℕ) (g : Bytes) (z : g ≡ fileOf f s h) (end : ℕ) (es : List Entry) (self : Installed) (o : MethodAt) (m : MethodIn f s end es self h i o) where
+  file-method : Reads (method standard (o .class .home .pack .domains)) g i (o .method) (m .ends)
+  file-method = subst (λ (b : Bytes). Reads (method standard (o .class .home .pack .domains)) b i (o .method) (m .ends)) (sym z) (m .reads)
+
+  pub method-there : say.MethodThere g i
+  method-there = (standard, o .class .home .pack .domains, (o .method, m .ends, file-method))
+
+  module _ (a : Imports f s end es self) where
+    file-reads : readFile standard g ≡ some (o .class .home .pack)
+    file-reads = ap (readFile standard) z ∙ home-reads f s end es self (a .setting) h (o .class .home) (m .home)
+
+    pub method-file : Readable g
+    method-file = (standard, o .class .home .pack, file-reads)
+
+    pub policy-over : (d p : ℕ) → DomainsAt g d → PolicyAt g i p → PolicyOver g d p
+    policy-over d p q r =
+        let x = domains-read q standard (o .class .home .pack) file-reads in
+        let y = r standard (o .class .home .pack .domains) (o .method) (m .ends) file-method in
+        (o .class .home .pack .domains, x .0, x .1, (o .method .policy, y .0, y .1))
+
+module _ (f s : Bytes) (g : Home) (i : ℕ) (h : Home) (j : ℕ) where
+  pub both-bounds : BothThere f s g i h j → ((g .from ≤ g .to) × (g .to ≤ length s)) × ((h .from ≤ h .to) × (h .to ≤ length s))
+  both-bounds t = (home-bounds f s (t .0) (t .1) (t .2) g (t .4 .class .home) (t .5 .home), home-bounds f s (t .0) (t .1) (t .2) h (t .6 .class .home) (t .7 .home))
+
+  module _ (a b : Bytes) (za : a ≡ fileOf f s g) (zb : b ≡ fileOf f s h) (da pa db pb : ℕ) (ra : DomainsAt a da) (qa : PolicyAt a i pa) (rb : DomainsAt b db) (qb : PolicyAt b j pb) where
+    pub allows-is : (r : Bool) → AdmitsAllOf a da pa b db pb r → AllowsAllOf f s g i h j r
+    allows-is r q end es self u m x o y =
+        let ma = domains-read ra standard (m .class .home .pack) (file-reads f s g i a za end es self m x u) in
+        let mb = domains-read rb standard (o .class .home .pack) (file-reads f s h j b zb end es self o y u) in
+        let wa = qa standard (m .class .home .pack .domains) (m .method) (x .ends) (file-method f s g i a za end es self m x) in
+        let wb = qb standard (o .class .home .pack .domains) (o .method) (y .ends) (file-method f s h j b zb end es self o y) in
+        q (m .class .home .pack .domains) (ma .0) (ma .1) (m .method .policy) (wa .0) (wa .1) (o .class .home .pack .domains) (mb .0) (mb .1) (o .method .policy) (wb .0) (wb .1)
+
+-- a method beside the one that runs for own class b and its name
+passes-static : (is : List Installed) (b : _) (o : MethodAt) → o .method .static ≡ true → true ≡ methodPasses is b o
+passes-static is b o e = rw e
+
+passes-none : (is : List Installed) (b : _) (o : MethodAt) → o .method .static ≡ false → runsUpTo is (standard .depth) b (o .method .name) ≡ none → true ≡ methodPasses is b o
+passes-none is b o e n = rw (e, n)
+
+passes-runs : (is : List Installed) (b : _) (o r : MethodAt) → o .method .static ≡ false → runsUpTo is (standard .depth) b (o .method .name) ≡ some r → allowsAllOf r o ≡ methodPasses is b o
+passes-runs is b o r e n = rw (e, n)
+
+module _ (f s : Bytes) (end b : ℕ) (h : Home) (i : ℕ) where
+  pub method-bounds : MethodThere f s end b h i → (h .from ≤ h .to) × (h .to ≤ length s)
+  method-bounds t = home-bounds f s end (t .0) (t .1) h (t .3 .class .home) (t .4 .home)
+
+  pub method-running : MethodThere f s end b h i → RunningThere f s end b
+  method-running t = (t .0, t .1, t .2)
+
+  module _ (g : Bytes) (z : g ≡ fileOf f s h) where
+    pub here-method : MethodThere f s end b h i → say.MethodThere g i
+    here-method t = method-there f s h i g z end (t .0) (t .1) (t .3) (t .4)
+
+    pub method-static : StaticIs g i true → MethodPasses f s end b h i true
+    method-static q es self r o m =
+        passes-static (installed standard es) (own self b) o (sym (q standard (o .class .home .pack .domains) (o .method) (m .ends) (file-method f s h i g z end es self o m)))
+
+    module _ (q : StaticIs g i false) (name : ℕ) (n : NameIs g i name) where
+      static-not : (es : List Entry) (self : Installed) (o : MethodAt) → MethodIn f s end es self h i o → o .method .static ≡ false
+      static-not es self o m = sym (q standard (o .class .home .pack .domains) (o .method) (m .ends) (file-method f s h i g z end es self o m))
+
+      name-is : (es : List Entry) (self : Installed) (o : MethodAt) → MethodIn f s end es self h i o → name ≡ o .method .name
+      name-is es self o m = n standard (o .class .home .pack .domains) (o .method) (m .ends) (file-method f s h i g z end es self o m)
+
+      pub method-alone : RunsIs f s end b name Nothing → MethodPasses f s end b h i true
+      method-alone w es self r o m =
+          passes-none (installed standard es) (own self b) o (static-not es self o m)
+          (subst (λ (v : ℕ). runsUpTo (installed standard es) (standard .depth) (own self b) v ≡ none) (name-is es self o m) (w es self r))
+
+      module _ (x : Home) (k : ℕ) (w : RunsIs f s end b name (At x k)) where
+        pub method-both : MethodThere f s end b h i → BothThere f s x k h i
+        method-both t = let u = w (t .0) (t .1) (t .2) in (end, t .0, t .1, t .2 .judged .parents .imported, u .0, u .2, t .3, t .4)
+
+        pub method-beside : (v : Bool) → AllowsAllOf f s x k h i v → MethodPasses f s end b h i v
+        method-beside v y es self r o m =
+            let u = w es self r in
+            y end es self (r .judged .parents .imported) (u .0) (u .2) o m
+            ∙ passes-runs (installed standard es) (own self b) o (u .0) (static-not es self o m)
+            (subst (λ (v : ℕ). runsUpTo (installed standard es) (standard .depth) (own self b) v ≡ some (u .0)) (name-is es self o m) (u .1))

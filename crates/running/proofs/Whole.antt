@@ -1,0 +1,166 @@
+-- Question 20 of own classes, one after another. Assumes nothing.
+use Prim.Native.Nat.{ℕ, zero, suc, _+_, _≤_, _<_}
+use native.Mathlib.Omega.{arith}
+use native.Mathlib.Numerals.{add-one}
+use mathlib.Core.Path.{_≡_, refl, sym, _∙_, ap}
+use mathlib.Core.Bool.{Bool, true, false, _&&_, _||_}
+use mathlib.Core.List.{List, [], _∷_, List·Memᴰ, List·Memᴰ·head, List·Memᴰ·tail}
+use mathlib.Core.Option.{Option, none, some}
+use lib.ListN.{length, drop, getD, replicate, drop-of-length-le, length-replicate}
+use Rattle.rules.specs.Bytes.{Bytes, all, allFrom, at, noneOr, u1}
+use Rattle.rules.specs.Package.{standard, mostClasses, Method, Class, class}
+use Rattle.rules.specs.Store.{Entry}
+use Rattle.rules.specs.Classes.{Installed, installed, ClassAt, recordOf, ancestorsUpTo, isKind0, runsUpTo, allowsAllOf}
+use Rattle.rules.specs.Questions.{own, runningAllows, q20-running}
+use Rattle.rules.proofs.Tests.{of-true}
+use Rattle.rules.proofs.Bounds.{ancestors-below, below-ancestors}
+use Rattle.places.proofs.Steady.{steady-u1, steady-class}
+use Rattle.places.proofs.Inverse.{reads-counted, reads-u1}
+use Rattle.places.proofs.Track.{many-length, counted-inside}
+use Rattle.files.specs.Say.{Readable, ClassesAt}
+use Rattle.files.proofs.Walks.{classes-read}
+use Rattle.homes.specs.Homes.{ownHome}
+use Rattle.homes.specs.Homes as homes
+use Rattle.running.specs.Say.{Judged, Running, ClassThere, Kind0Is, WalkThere, Passes, Fails, Answers, ClassPasses, memoLength, Marks, Unmarked, OwnThere, OwnPasses, JudgedThere, RunningIs}
+use Rattle.running.proofs.Records.{at-split}
+use Rattle.running.proofs.Methods.{own-depth}
+
+-- all elements pass, or one does not
+all-true : {A : Type 0} (p : A → Bool) (xs : List A) → ((x : A) → List·Memᴰ x xs → p x ≡ true) → all p xs ≡ true
+all-true p [] h = refl
+all-true p (x ∷ xs) h = rw (h x (List·Memᴰ·head refl), all-true p xs (λ y m. h y (List·Memᴰ·tail m)))
+
+all-false : {A : Type 0} (p : A → Bool) (xs : List A) (x : A) → List·Memᴰ x xs → p x ≡ false → all p xs ≡ false
+all-false p _ x (List·Memᴰ·head {x = y} {xs = ys} e) h = let z : p y ≡ false = ap p (sym e) ∙ h in rw z
+all-false p _ x (List·Memᴰ·tail {x = y} {xs = ys} m) h = rest (p y) (all-false p ys x m h)
+  where
+    rest : (a : Bool) → all p ys ≡ false → (a && all p ys) ≡ false
+    rest true e = e
+    rest false e = refl
+
+-- for an interface nothing runs
+interface-allows : (is : List Installed) (b a : ClassAt) → isKind0 b ≡ false → runningAllows standard is b a ≡ true
+interface-allows is b a z = go (recordOf a) refl
+  where
+    none-runs : (n : ℕ) → runsUpTo is (standard .depth) b n ≡ none
+    none-runs n = rw z
+
+    or-true : (x : Bool) → (x || true) ≡ true
+    or-true true = refl
+    or-true false = refl
+
+    each : (k : Class) (m : Method) → (m .static || noneOr (runsUpTo is (standard .depth) b (m .name)) (λ r. allowsAllOf r (record { class = a; method = m }))) ≡ true
+    each k m = rw (none-runs (m .name)) (or-true (m .static))
+
+    go : (o : Option Class) → recordOf a ≡ o → runningAllows standard is b a ≡ true
+    go none e = rw e
+    go (some k) e = rw e (all-true _ (k .methods) (λ m i. each k m))
+
+module _ (f s : Bytes) (end b : ℕ) where
+  pub own-class-there : OwnThere f s end b → ClassThere f s (ownHome end) b
+  own-class-there t = (end, record { entries = t .0; self = t .1; asked = t .2; pack = t .1; home = homes.own; class = t .3; is = t .4 })
+
+  pub own-interface : Kind0Is f s (ownHome end) b false → OwnPasses f s end b true
+  own-interface q es self j k e =
+      sym (all-true (runningAllows standard (installed standard es) (own self b)) (ancestorsUpTo (installed standard es) (standard .depth) (own self b))
+      (λ a m. interface-allows (installed standard es) (own self b) a (sym (q end es self j self homes.own k e))))
+
+  module _ (q : Kind0Is f s (ownHome end) b true) where
+    own-running : (es : List Entry) (self : Installed) → Judged f s end es self → (k : Class) → at (self .pack .classes) b ≡ some k → Running f s end b es self
+    own-running es self j k e = record { judged = j; kind0 = of-true (sym (q end es self j self homes.own k e)) }
+
+    pub own-walk : OwnThere f s end b → WalkThere f s end b (ownHome end) b
+    own-walk t = record { entries = t .0; self = t .1; asked = own-running (t .0) (t .1) (t .2) (t .3) (t .4); pack = t .1; home = homes.own; class = t .3; is = t .4 }
+
+    -- the walk's answer
+    pub own-answer : (r : Bool) → ClassPasses f s end b (ownHome end) b r → OwnPasses f s end b r
+    own-answer r p es self j k e = go r (p es self (own-running es self j k e) self homes.own k e)
+      where
+        go : (r : Bool) → Answers (Passes (installed standard es) self b (own self b)) (Fails (installed standard es) self b (own self b)) r →
+            r ≡ all (runningAllows standard (installed standard es) (own self b)) (ancestorsUpTo (installed standard es) (standard .depth) (own self b))
+        go true w = sym (all-true _ (ancestorsUpTo (installed standard es) (standard .depth) (own self b)) (λ a m. w a (ancestors-below (installed standard es) (standard .depth) (own self b) a m)))
+        go false w = sym (all-false _ (ancestorsUpTo (installed standard es) (standard .depth) (own self b)) (w .0)
+            (below-ancestors (installed standard es) (standard .depth) (own self b) (w .0) (own-depth f s end b es self j k e) (w .1)) (w .2))
+
+  -- the memo between two own classes
+  pub marks-start : (memo : Bytes) → Unmarked b memo → Marks f s end b memo
+  marks-start memo u = record { size = u .size; small = λ i. omega (arith, u .small i); hold = λ h n e es self r x o k q. absurd (omega (arith, u .small (h .before + n))) }
+
+  pub marks-done : (memo : Bytes) → Marks f s end b memo → Unmarked (b + 1) memo
+  marks-done memo m = record { size = m .size; small = m .small }
+
+  pub unmarked-more : (memo : Bytes) → Unmarked b memo → Unmarked (b + 1) memo
+  unmarked-more memo u = record { size = u .size; small = λ i. omega (arith, u .small i) }
+
+-- a memo of zeros
+zeros-small : (n i : ℕ) → getD (replicate n 0) i 0 ≤ 0
+zeros-small zero i = omega arith
+zeros-small (suc n) zero = omega arith
+zeros-small (suc n) (suc i) = zeros-small n i
+
+pub unmarked-zeros : (n : ℕ) → n ≡ memoLength → Unmarked 0 (replicate n 0)
+unmarked-zeros n e = record { size = length-replicate n 0 ∙ e; small = zeros-small n }
+
+-- the test of own class i
+abbrev pub ownTest : List Entry → Installed → ℕ → Class → Bool
+ownTest es self i k = all (runningAllows standard (installed standard es) (own self i)) (ancestorsUpTo (installed standard es) (standard .depth) (own self i))
+
+-- question 20 is that of the own classes from b on, and so many there are
+pub record OwnLeft (f s : Bytes) (end count b : ℕ) : Type 0 where
+  pub few : b ≤ count
+  pub left : (es : List Entry) (self : Installed) → Judged f s end es self → q20-running standard (installed standard es) self ≡ allFrom (ownTest es self) b (drop b (self .pack .classes))
+  pub count-is : (es : List Entry) (self : Installed) → Judged f s end es self → count ≡ length (self .pack .classes)
+
+module _ (f s : Bytes) (end : ℕ) where
+  pub judged-reads : JudgedThere f s end → Readable f
+  judged-reads t = (standard, t .1 .pack, t .2 .imported .setting .reads)
+
+  judged-there : (t : JudgedThere f s end) → Judged f s end (t .0) (t .1)
+  judged-there t = record { parents = t .2; q14 = t .3 }
+
+  module _ (at-classes : ℕ) (q : ClassesAt f at-classes) where
+    pub classes-inside : JudgedThere f s end → at-classes < length f
+    classes-inside t =
+        let p = t .1 .pack in
+        counted-inside (class standard (p .domains)) f mostClasses at-classes (p .classes) (length f) (classes-read q standard p (t .2 .imported .setting .reads))
+
+    pub own-start : (count : ℕ) → count ≡ getD f at-classes 0 → OwnLeft f s end count 0
+    unfolding q20-running
+    own-start count z = record {
+      few = omega arith;
+      left = λ es self j. refl;
+      count-is = λ es self j.
+          let p = self .pack in
+          let c = reads-counted mostClasses u1 (class standard (p .domains)) steady-u1 f at-classes (p .classes) (length f) (classes-read q standard p (j .parents .imported .setting .reads)) in
+          let w = reads-u1 f at-classes (c .number) (c .place) (c .count) in
+          z ∙ w .byte ∙ sym (many-length (class standard (p .domains)) (steady-class standard (p .domains)) (c .number) f (c .place) (p .classes) (length f) (c .list));
+    }
+
+  module _ (count b : ℕ) (inv : OwnLeft f s end count b) where
+    pub own-done : count ≤ b → RunningIs f s end true
+    own-done z es self p q =
+        let j : Judged f s end es self = record { parents = p; q14 = q } in
+        let d : drop b (self .pack .classes) ≡ [] = drop-of-length-le (self .pack .classes) {i = b} (omega (arith, inv .count-is es self j)) in
+        sym (inv .left es self j ∙ ap (allFrom (ownTest es self) b) d)
+
+    module _ (z : b < count) where
+      pub own-there′ : JudgedThere f s end → OwnThere f s end b
+      own-there′ t =
+          let j = judged-there t in
+          let m = at-split (t .1 .pack .classes) b (omega (arith, inv .count-is (t .0) (t .1) j)) in
+          (t .0, t .1, j, m .0, m .1)
+
+      own-next : (es : List Entry) (self : Installed) (j : Judged f s end es self) (r : Bool) → OwnPasses f s end b r → q20-running standard (installed standard es) self ≡ (r && allFrom (ownTest es self) (suc b) (drop (suc b) (self .pack .classes)))
+      own-next es self j r q =
+          let m = at-split (self .pack .classes) b (omega (arith, inv .count-is es self j)) in
+          inv .left es self j ∙ ap (allFrom (ownTest es self) b) (m .2) ∙ ap (λ (v : Bool). v && allFrom (ownTest es self) (suc b) (drop (suc b) (self .pack .classes))) (sym (q es self j (m .0) (m .1)))
+
+      pub own-no : OwnPasses f s end b false → RunningIs f s end false
+      own-no q es self p w = sym (own-next es self (record { parents = p; q14 = w }) false q)
+
+      pub own-yes : OwnPasses f s end b true → OwnLeft f s end count (b + 1)
+      own-yes q = record {
+        few = omega arith;
+        left = λ es self j. rw (add-one b) (own-next es self j true q);
+        count-is = inv .count-is;
+      }

@@ -1,0 +1,114 @@
+-- What each test of the layout says: mark and version, zeros, kind and body, the entries up to a place. Assumes nothing.
+use Prim.Native.Nat.{ℕ, suc, _+_, _-_, _≤_, _<_}
+use native.Mathlib.Omega.{arith}
+use mathlib.Core.Path.{_≡_, refl, sym, _∙_, ap, ap₂, subst}
+use mathlib.Core.Bool.{Bool, true, false, _&&_}
+use mathlib.Core.List.{List, [], _∷_, _++_}
+use mathlib.Core.Option.{some}
+use lib.Dec.{leb, eqb}
+use lib.ListN.{length, take, drop, getD, length-drop, drop-of-length-le}
+use lib.Seq.{length-take-le}
+use borrow.Author.Tests.{eq-eqb, ne-eqb}
+use Rattle.rules.specs.Bytes.{Bytes, all, isSome, same}
+use Rattle.rules.specs.Code.{u2At}
+use Rattle.rules.specs.Store.{Entry, entryOf, opening, isZero}
+use Rattle.rules.proofs.Tests.{of-true}
+use Rattle.rules.proofs.Lists.{some-is}
+use Rattle.store.specs.Entries.{part, Entries, over, StandFrom}
+use Rattle.store.specs.Answers.{NextSays}
+use Rattle.store.specs.declared.Next.the-variants.{To, Never}
+use Rattle.store.proofs.Parts.{drop-one}
+use Rattle.store.proofs.Stand.{entry-by, by-entry, entry-later, entries-to, entries-more, entries-split, entries-front}
+
+-- mark and version, byte by byte
+pub opening-is : (s : Bytes) → 5 ≤ length s → same (take 5 s) opening ≡ (eqb (getD s 0 0) 0x42 && (eqb (getD s 1 0) 0x43 && (eqb (getD s 2 0) 0x53 && (eqb (getD s 3 0) 0 && (eqb (getD s 4 0) 1 && true)))))
+opening-is [] h = absurd (omega arith)
+opening-is (a ∷ []) h = absurd (omega arith)
+opening-is (a ∷ b ∷ []) h = absurd (omega arith)
+opening-is (a ∷ b ∷ c ∷ []) h = absurd (omega arith)
+opening-is (a ∷ b ∷ c ∷ d ∷ []) h = absurd (omega arith)
+opening-is (a ∷ b ∷ c ∷ d ∷ e ∷ s) h = refl
+
+pub and-true : (b : Bool) → (b && true) ≡ b
+and-true true = refl
+and-true false = refl
+
+-- zeros from a place on
+pub zero-more : (s : Bytes) (i : ℕ) → i < length s → getD s i 0 ≡ 0 → all isZero (drop i s) ≡ all isZero (drop (i + 1) s)
+zero-more s i h e = rw (drop-one s i h, eq-eqb (getD s i 0) 0 e)
+
+pub zero-other : (s : Bytes) (i : ℕ) → i < length s → (getD s i 0 ≡ 0 → ⊥) → all isZero (drop i s) ≡ false
+zero-other s i h e = rw (drop-one s i h, ne-eqb (getD s i 0) 0 e)
+
+pub zero-end : (s : Bytes) (i : ℕ) → length s ≤ i → all isZero (drop i s) ≡ true
+zero-end s i h = rw (drop-of-length-le s {i = i} h)
+
+-- kind and body
+pub body-domain : (k : ℕ) (b : Bytes) → k ≡ 1 → true ≡ isSome (entryOf k b)
+body-domain k b e = rw e
+
+pub body-other : (k : ℕ) (b : Bytes) → (k ≡ 1 → ⊥) → (k ≡ 2 → ⊥) → false ≡ isSome (entryOf k b)
+body-other k b e f = rw (ne-eqb k 1 e, ne-eqb k 2 f)
+
+pub body-nil : (k : ℕ) (s : Bytes) (n : ℕ) → (k ≡ 2) → n ≡ 0 → false ≡ isSome (entryOf k (take n s))
+body-nil k s n e h = rw (e, h)
+
+-- a kind-2 body reads where the domain's length lies inside
+loaded-reads : (m : ℕ) (b : Bytes) → isSome (entryOf 2 (m ∷ b)) ≡ leb m (length b)
+loaded-reads m b = go (leb m (length b)) refl
+  where
+    go : (t : Bool) → leb m (length b) ≡ t → isSome (entryOf 2 (m ∷ b)) ≡ t
+    go true e = rw e
+    go false e = rw e
+
+pub body-loaded : (s : Bytes) (at n m : ℕ) → at + 3 + n ≤ length s → getD s at 0 ≡ 2 → (n ≡ 0 → ⊥) → m ≡ getD s (at + 3) 0 → leb m (n - 1) ≡ isSome (entryOf (getD s at 0) (take n (drop (at + 3) s)))
+body-loaded s at n m h k z e =
+    let p : n ≡ suc (n - 1) = omega arith in
+    let l : at + 3 < length s = omega arith in
+    let b : take n (drop (at + 3) s) ≡ getD s (at + 3) 0 ∷ take (n - 1) (drop (at + 3 + 1) s) = ap₂ take p (drop-one s (at + 3) l) in
+    let q : length (take (n - 1) (drop (at + 3 + 1) s)) ≡ n - 1 = length-take-le (n - 1) (drop (at + 3 + 1) s) (omega (arith, length-drop (at + 3 + 1) s)) in
+    sym (ap₂ (λ (x : ℕ) (y : Bytes). isSome (entryOf x y)) k b ∙ loaded-reads (getD s (at + 3) 0) (take (n - 1) (drop (at + 3 + 1) s)) ∙ ap₂ leb (sym e) q)
+
+-- the place behind an entry
+part-of : (s : Bytes) (i n : ℕ) → part s i (i + n) ≡ take n (drop i s)
+part-of s i n = let m : i + n - i ≡ n = omega arith in rw m
+
+pub next-short : (s : Bytes) (i k : ℕ) → k - i < 3 → i ≤ k → NextSays s i k Never
+next-short s i k h g e j t l = omega (arith, entry-later s i e j t)
+
+module _ (s : Bytes) (i k n : ℕ) (h : n ≡ u2At s (i + 1)) (g : k ≤ length s) where
+  pub next-long : k - i - 3 < n → NextSays s i k Never
+  next-long m e j t l = omega (arith, (entry-by s i e j t) .next)
+
+  pub next-body : i + 3 ≤ k → n ≤ k - i - 3 → isSome (entryOf (getD s i 0) (take n (drop (i + 3) s))) ≡ true → NextSays s i k (To (i + 3 + n))
+  next-body l m b =
+      let x = some-is (entryOf (getD s i 0) (take n (drop (i + 3) s))) (of-true b) in
+      (x .0, by-entry s i (x .0) (i + 3 + n) (record { next = ap (λ (v : ℕ). i + 3 + v) (sym h); to = omega arith; is = ap (entryOf (getD s i 0)) (part-of s (i + 3) n) ∙ x .1 }), omega arith)
+
+  pub next-other : isSome (entryOf (getD s i 0) (take n (drop (i + 3) s))) ≡ false → NextSays s i k Never
+  next-other b e j t l =
+      let y = entry-by s i e j t in
+      let z : j ≡ i + 3 + n = sym (y .next) ∙ ap (λ (v : ℕ). i + 3 + v) (sym h) in
+      let w : entryOf (getD s i 0) (take n (drop (i + 3) s)) ≡ some e = ap (entryOf (getD s i 0)) (sym (ap (part s (i + 3)) z ∙ part-of s (i + 3) n)) ∙ y .is in
+      let v : _≡_ {A = Bool} true false = sym (ap isSome w) ∙ b in
+      let u : _≡_ {A = ℕ} 0 1 = cc in omega arith
+
+-- entries up to a place: a step, the end, and where none can follow
+pub fill-start : (s : Bytes) → 7 ≤ length s → StandFrom s 7 7
+fill-start s h = ([], over h)
+
+pub fill-more : (s : Bytes) (i j k : ℕ) → StandFrom s 7 i → NextSays s i k (To j) → StandFrom s 7 j × (i < j) × (j ≤ k)
+fill-more s i j k f t = (((f .0 ++ t .0 ∷ []), entries-more s 7 (f .0) i (t .0) j (f .1) (t .1)), omega (arith, entry-later s i (t .0) j (t .1)), t .2)
+
+pub fill-never : (s : Bytes) (i k : ℕ) → i < k → StandFrom s 7 i → NextSays s i k Never → (es : List Entry) → Entries s 7 es k → ⊥
+fill-never s i k l f h es r =
+    let x = entries-split s 7 es (f .0) i k (omega arith) (f .1) r in
+    let y = entries-front s i (x .rest) k l (x .stand) in
+    h (y .one) (y .place) (y .stands) ((entries-to s (y .place) (y .others) k (y .rest)) .0)
+
+pub fill-done : (s : Bytes) (i k : ℕ) → i ≡ k → StandFrom s 7 i → StandFrom s 7 k
+fill-done s i k e f = subst (λ (n : ℕ). StandFrom s 7 n) e f
+
+-- a test does not both fail and pass
+pub not-both : (b : Bool) → b ≡ false → b ≡ true → ⊥
+not-both b e f = let z : _≡_ {A = ℕ} 0 1 = cc in omega arith

@@ -1,0 +1,12 @@
+-- The laws of the store by its bytes.
+pub mod Parts
+pub mod Stand
+pub mod Laid
+pub mod Walk
+pub mod Checks
+pub mod Own
+pub mod Find
+pub mod Asked
+pub mod Paste
+pub mod Change
+pub mod Files

@@ -1,0 +1,97 @@
+-- The entries of a buffer at their places. Assumes nothing.
+--
+-- part s i j          == the bytes from place i up to place j
+-- EntryAt s i e j     == the entry e stands from place i up to place j
+-- Entries s i es j    == the entries es stand back to back from place i up to place j
+-- StandFrom s i j     == entries stand from place i up to place j
+-- Holds s es          == the buffer s is the layout of es
+-- Laid s u            == s is the layout of entries that end at place u
+-- placeOf q i es      == of entries that stand from place i: from where up to where the first one stands that the test finds
+-- AllRead es          == the file of each loaded entry reads
+-- ownAid f            == a file's own AID, by its place
+-- liesIn a e          == e is a package that lies in the domain a
+use Prim.Native.Nat.{ℕ, _+_, _-_, _≤_, _<_}
+use mathlib.Core.Path.{_≡_}
+use mathlib.Core.Bool.{Bool, false}
+use mathlib.Core.List.{List, [], _∷_}
+use mathlib.Core.Option.{Option, none, some}
+use lib.ListN.{length, take, drop, getD}
+use Rattle.rules.specs.Bytes.{Bytes, Aid, pick, same}
+use Rattle.rules.specs.Package.{standard, Package, readFile}
+use Rattle.rules.specs.Store.{Entry, domain, loaded, entryBytes, used, openingLength, write, entry, entriesOf}
+use Rattle.rules.specs.Classes.{Installed, installed, byAid}
+use Rattle.rules.specs.Operations.{isPackage}
+
+-- the bytes from place i up to place j
+abbrev pub part : Bytes → ℕ → ℕ → Bytes
+part s i j = take (j - i) (drop i s)
+
+-- the entry e stands from place i up to place j
+pub record EntryAt (s : Bytes) (i : ℕ) (e : Entry) (j : ℕ) : Type 0 where
+  pub is : entry (drop i s) ≡ some (e, drop j s)
+  pub to : j ≤ length s
+
+-- the entries stand back to back from place i up to place j
+pub data Entries (s : Bytes) : ℕ → List Entry → ℕ → Type 0 where
+  over : {i : ℕ} → i ≤ length s → Entries s i [] i
+  more : {i j k : ℕ} {e : Entry} {es : List Entry} → EntryAt s i e j → Entries s j es k → Entries s i (e ∷ es) k
+
+-- entries stand from place i up to place j
+abbrev pub StandFrom : Bytes → ℕ → ℕ → Type 0
+StandFrom s i j = (es : List Entry) × Entries s i es j
+
+-- e is the first of the entries es from place i on; it ends at place j, and the others end at place k
+pub record FirstIs (s : Bytes) (i : ℕ) (e : Entry) (j k : ℕ) (es : List Entry) : Type 0 where
+  pub rest : List Entry
+  pub are : es ≡ e ∷ rest
+  pub stands : EntryAt s i e j
+  pub after : Entries s j rest k
+
+-- the buffer s is the layout of the entries es
+pub record Holds (s : Bytes) (es : List Entry) : Type 0 where
+  pub reads : entriesOf s ≡ some es
+  pub bytes : s ≡ write (length s) es
+  pub stand : Entries s openingLength es (used es)
+
+-- s is the layout of entries that end at place u
+abbrev pub Laid : Bytes → ℕ → Type 0
+Laid s u = (es : List Entry) × Holds s es × (u ≡ used es)
+
+-- of entries that stand from place i: from where up to where the first one stands that the test finds
+abbrev pub placeOf : (Entry → Bool) → ℕ → List Entry → Option (ℕ × ℕ)
+placeOf q i [] = none
+placeOf q i (e ∷ es) = pick (q e) (some (i, i + length (entryBytes e))) (placeOf q (i + length (entryBytes e)) es)
+
+-- the file of a loaded entry reads
+abbrev pub FileReads : Entry → Type 0
+FileReads (domain a) = Unit {0}
+FileReads (loaded d f) = (p : Package) × (readFile standard f ≡ some p)
+
+-- the file of each loaded entry reads
+abbrev pub AllRead : List Entry → Type 0
+AllRead [] = Unit {0}
+AllRead (e ∷ es) = FileReads e × AllRead es
+
+-- entries whose files read stand from the opening bytes up to place k
+abbrev pub FilesStand : Bytes → ℕ → Type 0
+FilesStand s k = (es : List Entry) × Entries s openingLength es k × AllRead es
+
+-- a file's own AID, by its place
+abbrev pub ownAid : Bytes → Aid
+ownAid f = part f 8 (8 + getD f 7 0)
+
+-- a package that lies in the domain a
+abbrev pub liesIn : Aid → Entry → Bool
+liesIn a (domain b) = false
+liesIn a (loaded d f) = same a d
+
+-- the package of an AID: its entry stands from place i, its file from place j up to place k
+pub record PackageAt (s : Bytes) (es : List Entry) (a : Aid) (i j k : ℕ) : Type 0 where
+  pub place : placeOf (isPackage standard a) openingLength es ≡ some (i, k)
+  pub home : Installed
+  pub stands : EntryAt s i (loaded (home .domain) (part s j k)) k
+  pub inside : i < j
+  pub is : byAid (installed standard es) a ≡ some home
+  pub reads : readFile standard (part s j k) ≡ some (home .pack)
+  pub from : j ≤ k
+  pub to : k ≤ length s

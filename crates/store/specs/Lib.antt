@@ -1,0 +1,3 @@
+-- What the functions over a store require and ensure.
+pub mod Entries
+pub mod Answers

@@ -1,0 +1,399 @@
+// The store by its bytes: layout, entries at their places, what is appended and cut.
+ghost use mathlib.Core.Path.{_≡_};
+ghost use mathlib.Core.List.{List, [], _∷_};
+ghost use mathlib.Core.Option.{some};
+ghost use Prim.Native.Nat.{_+_, _<_, _≤_};
+ghost use lib.ListN.{length, getD, take, drop, replicate};
+ghost use lib.Seq.{paste};
+ghost use Rattle.rules.specs.Bytes.{all, isSome, _andThen_, same, high, low};
+ghost use Rattle.rules.specs.Store.{Entry, domain, loaded, used, opening, write, isZero, entryOf, entriesOf};
+ghost use Rattle.rules.specs.Questions.{q1-size};
+ghost use Rattle.rules.specs.Operations.{isDomain};
+ghost use Rattle.store.specs.Entries.{StandFrom, Holds, FilesStand, ownAid};
+ghost use Rattle.store.specs.Answers.{usedTold, NextSays, FillSays, PartAt, SpotAt, FileAt, InUse, Fits, Room, Appended, CutAt, CutOut};
+
+// The used value of a store's layout, or that there is no such layout.
+pub enum Layout {
+    Used(usize),
+    Broken,
+}
+
+// The place behind an entry, or that none reads.
+enum Next {
+    To(usize),
+    Never,
+}
+
+// An entry by its places: the AID's first byte and its end; the domain's first byte, the file's first byte and its end.
+pub enum EntryPart {
+    Domain(usize, usize),
+    Package(usize, usize, usize),
+    AtEnd,
+}
+
+// From where up to where an entry stands.
+pub enum Spot {
+    At(usize, usize),
+    Nothing,
+}
+
+// A package: its entry's place, its file's first byte, the end of both.
+pub enum FileSpot {
+    File(usize, usize, usize),
+    Missing,
+}
+
+// 1. Has the store 64 to 65,535 bytes?
+pub fn size_ok(s: &[u8]) -> bool
+    ensures { λ r. ⌜ r ≡ q1-size (now (s .entry)) ⌝ }
+{
+    if s.len() < 64 {
+        return false;
+    }
+    s.len() <= 65535
+}
+
+// Does the buffer begin with mark and version?
+fn opens(s: &[u8]) -> bool
+    requires { ⌜ 5 ≤ length (now s) ⌝ }
+    ensures { λ r. ⌜ r ≡ same (take 5 (now (s .entry))) opening ⌝ }
+{
+    if s[0] != 0x42 {
+        return false;
+    }
+    if s[1] != 0x43 {
+        return false;
+    }
+    if s[2] != 0x53 {
+        return false;
+    }
+    if s[3] != 0 {
+        return false;
+    }
+    s[4] == 1
+}
+
+// Are all bytes from a place on zero?
+fn zeros_from(s: &[u8], from: usize) -> bool
+    requires { ⌜ from ≤ length (now s) ⌝ }
+    ensures { λ r. ⌜ r ≡ all isZero (drop from (now (s .entry))) ⌝ }
+{
+    let mut i = from;
+    while i < s.len() {
+        if s[i] != 0 {
+            return false;
+        }
+        i += 1;
+    }
+    true
+}
+
+// Do kind and body of an entry whose body has n bytes read?
+fn body_reads(s: &[u8], at: usize, n: usize) -> bool
+    requires { ⌜ at + 3 + n ≤ length (now s) ⌝ }
+    ensures { λ r. ⌜ r ≡ isSome (entryOf (getD (now (s .entry)) at 0) (take n (drop (at + 3) (now (s .entry))))) ⌝ }
+{
+    if s[at] == 1 {
+        return true;
+    }
+    if s[at] != 2 {
+        return false;
+    }
+    if n == 0 {
+        return false;
+    }
+    fields::wide(s[at + 3]) <= n - 1
+}
+
+// The place behind the entry at a place, where one reads that does not pass `end`.
+fn next_place(s: &[u8], at: usize, end: usize) -> Next
+    requires { ⌜ (at ≤ end) × (end ≤ length (now s)) ⌝ }
+    ensures { λ r. ⌜ NextSays (now (s .entry)) at end r ⌝ }
+{
+    if end - at < 3 {
+        return Next::Never;
+    }
+    let n = fields::u2_at(s, at + 1);
+    if n > end - at - 3 {
+        return Next::Never;
+    }
+    if body_reads(s, at, n) {
+        return Next::To(at + 3 + n);
+    }
+    Next::Never
+}
+
+// Do entries stand back to back from the opening bytes exactly up to `end`?
+fn filled(s: &[u8], end: usize) -> bool
+    requires { ⌜ (7 ≤ end) × (end ≤ length (now s)) ⌝ }
+    ensures { λ r. ⌜ FillSays (now (s .entry)) 7 end r ⌝ }
+{
+    let mut at = 7;
+    while at < end {
+        match next_place(s, at, end) {
+            Next::To(next) => {
+                at = next;
+            }
+            Next::Never => {
+                return false;
+            }
+        }
+    }
+    true
+}
+
+// The layout of a buffer: its used value, where the buffer is laid out as a store.
+pub fn laid_out(s: &[u8]) -> Layout
+    ensures { λ r. ⌜ usedTold r ≡ (entriesOf (now (s .entry)) andThen λ es. some (used es)) ⌝ }
+    ensures { λ _. ⌜ ((es : List Entry) → entriesOf (now (s .entry)) ≡ some es → Holds (now (s .entry)) es) ⌝ }
+{
+    if s.len() < 7 {
+        return Layout::Broken;
+    }
+    if !opens(s) {
+        return Layout::Broken;
+    }
+    let end = fields::u2_at(s, 5);
+    if end < 7 {
+        return Layout::Broken;
+    }
+    if end > s.len() {
+        return Layout::Broken;
+    }
+    if !zeros_from(s, end) {
+        return Layout::Broken;
+    }
+    if !filled(s, end) {
+        return Layout::Broken;
+    }
+    Layout::Used(end)
+}
+
+// The entry at a place of the entries that end at `end`.
+pub fn entry_at(s: &[u8], at: usize, end: usize) -> EntryPart
+    requires { ⌜ StandFrom (now s) at end ⌝ }
+    ensures { λ r. ⌜ PartAt (now (s .entry)) at end r ⌝ }
+{
+    if at == end {
+        return EntryPart::AtEnd;
+    }
+    let next = at + 3 + fields::u2_at(s, at + 1);
+    if s[at] == 1 {
+        return EntryPart::Domain(at + 3, next);
+    }
+    EntryPart::Package(at + 4, at + 4 + fields::wide(s[at + 3]), next)
+}
+
+// Where a domain's entry stands, of the entries that end at `end`.
+pub fn find_domain(s: &[u8], end: usize, aid: &[u8]) -> Spot
+    requires { ⌜ StandFrom (now s) 7 end ⌝ }
+    ensures { λ r. ⌜ SpotAt (isDomain (now (aid .entry))) (now (s .entry)) end r ⌝ }
+{
+    let mut at = 7;
+    loop {
+        match entry_at(s, at, end) {
+            EntryPart::Domain(from, next) => {
+                if fields::same_bytes(aid, &s[from..next]) {
+                    return Spot::At(at, next);
+                }
+                at = next;
+            }
+            EntryPart::Package(_, _, next) => {
+                at = next;
+            }
+            EntryPart::AtEnd => {
+                return Spot::Nothing;
+            }
+        }
+    }
+}
+
+// Is a file's own AID the one given?
+fn own_is(f: &[u8], aid: &[u8]) -> bool
+    requires { ⌜ (7 < length (now f)) × (8 + getD (now f) 7 0 ≤ length (now f)) ⌝ }
+    ensures { λ r. ⌜ r ≡ same (now (aid .entry)) (ownAid (now (f .entry))) ⌝ }
+{
+    let end = 8 + fields::wide(f[7]);
+    fields::same_bytes(aid, &f[8..end])
+}
+
+// Where a package stands, of the entries that end at `end`.
+pub fn find_package(s: &[u8], end: usize, aid: &[u8]) -> FileSpot
+    requires { ⌜ FilesStand (now s) end ⌝ }
+    ensures { λ r. ⌜ FileAt (now (s .entry)) end (now (aid .entry)) r ⌝ }
+{
+    let mut at = 7;
+    loop {
+        match entry_at(s, at, end) {
+            EntryPart::Domain(_, next) => {
+                at = next;
+            }
+            EntryPart::Package(_, file, next) => {
+                if own_is(&s[file..next], aid) {
+                    return FileSpot::File(at, file, next);
+                }
+                at = next;
+            }
+            EntryPart::AtEnd => {
+                return FileSpot::Missing;
+            }
+        }
+    }
+}
+
+// Does a package lie in the domain, of the entries that end at `end`?
+pub fn domain_in_use(s: &[u8], end: usize, aid: &[u8]) -> bool
+    requires { ⌜ StandFrom (now s) 7 end ⌝ }
+    ensures { λ r. ⌜ InUse (now (s .entry)) end (now (aid .entry)) r ⌝ }
+{
+    let mut at = 7;
+    loop {
+        match entry_at(s, at, end) {
+            EntryPart::Domain(_, next) => {
+                at = next;
+            }
+            EntryPart::Package(from, file, next) => {
+                if fields::same_bytes(aid, &s[from..file]) {
+                    return true;
+                }
+                at = next;
+            }
+            EntryPart::AtEnd => {
+                return false;
+            }
+        }
+    }
+}
+
+// Writes a u2 at a place.
+fn put_u2(store: &mut [u8], at: usize, n: usize)
+    requires { ⌜ (at + 1 < length (now store)) × (n < 65536) ⌝ }
+    ensures { λ _. ⌜ now (store .exit) ≡ paste (now (store .entry)) at (high n ∷ low n ∷ []) 2 ⌝ }
+{
+    store[at] = (n / 256) as u8;
+    store[at + 1] = (n % 256) as u8;
+}
+
+// Writes an entry's kind and body length at a place.
+fn put_head(store: &mut [u8], at: usize, kind: u8, n: usize)
+    requires { ⌜ (at + 2 < length (now store)) × (n < 65536) ⌝ }
+    ensures { λ _. ⌜ now (store .exit) ≡ paste (now (store .entry)) at (kind ∷ high n ∷ low n ∷ []) 3 ⌝ }
+{
+    store[at] = kind;
+    put_u2(store, at + 1, n);
+}
+
+// Copies bytes to a place.
+fn copy_in(store: &mut [u8], at: usize, from: &[u8])
+    requires { ⌜ at + length (now from) ≤ length (now store) ⌝ }
+    ensures { λ _. ⌜ now (store .exit) ≡ paste (now (store .entry)) at (now (from .entry)) (length (now (from .entry))) ⌝ }
+{
+    let mut i = 0;
+    while i < from.len() {
+        store[at + i] = from[i];
+        i += 1;
+    }
+}
+
+// Moves n bytes up from one place to an earlier one.
+fn move_up(store: &mut [u8], to: usize, from: usize, n: usize)
+    requires { ⌜ (to ≤ from) × (from + n ≤ length (now store)) ⌝ }
+    ensures { λ _. ⌜ now (store .exit) ≡ paste (now (store .entry)) to (drop from (now (store .entry))) n ⌝ }
+{
+    let mut i = 0;
+    while i < n {
+        store[to + i] = store[from + i];
+        i += 1;
+    }
+}
+
+// Zeros n bytes from a place on.
+fn zero_out(store: &mut [u8], at: usize, n: usize)
+    requires { ⌜ at + n ≤ length (now store) ⌝ }
+    ensures { λ _. ⌜ now (store .exit) ≡ paste (now (store .entry)) at (replicate n 0) n ⌝ }
+{
+    let mut i = 0;
+    while i < n {
+        store[at + i] = 0;
+        i += 1;
+    }
+}
+
+// Writes an empty store over the whole buffer.
+pub fn write_fresh(store: &mut [u8])
+    requires { ⌜ 7 ≤ length (now store) ⌝ }
+    ensures { λ _. ⌜ now (store .exit) ≡ write (length (now (store .entry))) [] ⌝ }
+{
+    let n = store.len();
+    store[0] = 0x42;
+    store[1] = 0x43;
+    store[2] = 0x53;
+    store[3] = 0;
+    store[4] = 1;
+    store[5] = 0;
+    store[6] = 7;
+    zero_out(store, 7, n - 7);
+}
+
+// 21. Does a domain's entry fit?
+pub fn domain_fits(s: &[u8], end: usize, aid: &[u8]) -> bool
+    requires { ⌜ end ≤ length (now s) ⌝ }
+    ensures { λ r. ⌜ Fits (now (s .entry)) end (domain (now (aid .entry))) r ⌝ }
+{
+    let free = s.len() - end;
+    if free < 3 {
+        return false;
+    }
+    aid.len() <= free - 3
+}
+
+// 21. Does a package's entry fit?
+pub fn package_fits(s: &[u8], end: usize, domain: &[u8], file: &[u8]) -> bool
+    requires { ⌜ end ≤ length (now s) ⌝ }
+    ensures { λ r. ⌜ Fits (now (s .entry)) end (loaded (now (domain .entry)) (now (file .entry))) r ⌝ }
+{
+    let free = s.len() - end;
+    if free < 4 {
+        return false;
+    }
+    if domain.len() > free - 4 {
+        return false;
+    }
+    file.len() <= free - 4 - domain.len()
+}
+
+// Writes a domain's entry behind the others.
+pub fn append_domain(store: &mut [u8], end: usize, aid: &[u8])
+    requires { ⌜ Room (now store) end (domain (now aid)) ⌝ }
+    ensures { λ _. ⌜ Appended (now (store .entry)) (now (store .exit)) (domain (now (aid .entry))) ⌝ }
+{
+    let n = aid.len();
+    put_head(store, end, 1, n);
+    copy_in(store, end + 3, aid);
+    put_u2(store, 5, end + 3 + n);
+}
+
+// Writes a package's entry behind the others.
+pub fn append_package(store: &mut [u8], end: usize, domain: &[u8], file: &[u8])
+    requires { ⌜ Room (now store) end (loaded (now domain) (now file)) × (length (now domain) < 256) ⌝ }
+    ensures { λ _. ⌜ Appended (now (store .entry)) (now (store .exit)) (loaded (now (domain .entry)) (now (file .entry))) ⌝ }
+{
+    let d = domain.len();
+    let n = 1 + d + file.len();
+    put_head(store, end, 2, n);
+    store[end + 3] = d as u8;
+    copy_in(store, end + 4, domain);
+    copy_in(store, end + 4 + d, file);
+    put_u2(store, 5, end + 3 + n);
+}
+
+// Cuts out the entry from `at` up to `next`: the later ones move up, and the freed end is zeroed.
+pub fn cut_entry(store: &mut [u8], end: usize, at: usize, next: usize)
+    requires { ⌜ CutAt (now store) end at next ⌝ }
+    ensures { λ _. ⌜ CutOut (now (store .entry)) (now (store .exit)) at next ⌝ }
+{
+    let k = next - at;
+    move_up(store, at, next, end - next);
+    zero_out(store, end - k, k);
+    put_u2(store, 5, end - k);
+}
