@@ -10,15 +10,16 @@ fn main() {
     };
     let archive = folder.join("libloader.a");
     println!("cargo:rerun-if-changed={}", archive.display());
-    let Ok(folder) = folder.canonicalize().and_then(|f| {
-        archive.metadata()?;
-        Ok(f)
-    }) else {
-        panic!(
-            "there is no {}: run `rt staticlib loader`",
-            archive.display()
-        );
-    };
-    println!("cargo:rustc-link-search=native={}", folder.display());
-    println!("cargo:rustc-link-lib=static=loader");
+    match archive.canonicalize() {
+        Ok(found) => {
+            let folder = found.parent().unwrap_or(&folder);
+            println!("cargo:rustc-link-search=native={}", folder.display());
+            println!("cargo:rustc-link-lib=static=loader");
+        }
+        Err(_) => {
+            let name = archive.display();
+            eprintln!("there is no {name}: run `rt staticlib loader`");
+            std::process::exit(1);
+        }
+    }
 }

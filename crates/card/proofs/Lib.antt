@@ -1,0 +1,2 @@
+-- The laws of the simulated card's forms.
+pub mod Forms

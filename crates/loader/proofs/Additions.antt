@@ -1,0 +1,105 @@
+-- Fresh, a creation and a load: what they write fits, and what they leave. Assumes nothing.
+use Prim.Native.Nat.{ℕ, _*_, _≤_, _<_}
+use native.Mathlib.Omega.{arith}
+use mathlib.Core.Path.{_≡_, sym, _∙_, subst}
+use mathlib.Core.Bool.{true, false}
+use mathlib.Core.List.{[]}
+use lib.Dec.{leb, leb→le}
+use lib.ListN.{length}
+use Rattle.rules.specs.Bytes.{Bytes, Aid, aidLength}
+use Rattle.rules.specs.Package.{standard, readFile}
+use Rattle.rules.specs.Store.{domain, loaded, write}
+use Rattle.rules.specs.Questions.{q1-size, q3-lengths}
+use Rattle.rules.specs.Operations.{create, load, firstNo, loadQuestions, number, after, deepestOf, leastDepth, mostDepth, freshNumber, freshBytes}
+use Rattle.rules.proofs.Tests.{and-l, and-r, is-true}
+use Rattle.rules.proofs.Asked.{create-yes, load-yes, deepest-limit}
+use Rattle.store.specs.Answers.{Room, Appended}
+use Rattle.store.proofs.Asked.{size-is}
+use Rattle.judge.specs.Says.{numberOf, figureOf, LoadSays}
+use Rattle.judge.specs.declared.LoadAnswer.{LoadAnswer}
+use Rattle.loader.specs.Promises.{LoadPromise}
+use Rattle.loader.specs.Answers.{SoundAt, Asked, OpenedSays}
+use Rattle.loader.specs.declared.Opened.{Opened}
+use Rattle.loader.specs.declared.Opened.the-variants as opened
+use Rattle.loader.proofs.Numbers.{kept, opening, laid, small, asked-number, asked-done, refused-after, refused-number}
+
+-- fresh
+pub fresh-room : (s : Bytes) → q1-size s ≡ true → 7 ≤ length s
+fresh-room s h = omega (arith, (size-is s h) .0)
+
+pub fresh-refused : (s : Bytes) → q1-size s ≡ false → (1 ≡ freshNumber s) × (s ≡ freshBytes s)
+unfolding freshNumber freshBytes
+fresh-refused s h = (rw h, rw h)
+
+pub fresh-done : (s t : Bytes) → q1-size s ≡ true → t ≡ write (length s) [] → (0 ≡ freshNumber s) × (t ≡ freshBytes s)
+unfolding freshNumber freshBytes
+fresh-done s t h e = (rw h, e ∙ rw h)
+
+-- a load's refusal
+pub refused-promise : (s : Bytes) (d : Aid) (f : Bytes) (n : ℕ) → (n ≡ 0 → ⊥) → n ≡ number s (load d f) → LoadPromise s d f n
+unfolding leastDepth mostDepth
+refused-promise s d f n z e =
+    let l : leastDepth s d f ≡ 0 = kept (number s (load d f)) _ 0 (λ y. z (e ∙ y)) in
+    let m : mostDepth s d f ≡ 0 = kept (number s (load d f)) _ 0 (λ y. z (e ∙ y)) in
+    record { figure = 0; result = omega (arith, e); least = omega (arith, l); most = omega (arith, m) }
+
+pub load-unopened : (s : Bytes) (d : Aid) (f : Bytes) (r : Opened) (n : ℕ) → r ≡ opened.Refused n → OpenedSays s r → LoadPromise s d f n × (s ≡ after s (load d f))
+load-unopened s d f r n z q =
+    let p = subst (OpenedSays s) z q in
+    let e = refused-number s (load d f) r n z q in
+    (refused-promise s d f n (p .0) (e .0), e .1)
+
+module _ (s : Bytes) (u : ℕ) (h : SoundAt s u) where
+  -- a creation with all questions yes
+  pub create-room : (a : Aid) → Asked s u (create a) 0 → Room s u (domain a)
+  create-room a q =
+      let x = opening s u h in
+      record { laid = laid s u h; small = small s u h; fits = is-true _ ((create-yes (length s) (x .es) a (sym (q (x .es) (x .over)))) .q21) }
+
+  module _ (d : Aid) (f : Bytes) (r : LoadAnswer) (q : LoadSays s u d f r) where
+    -- the answer's number is the load's
+    load-asked : Asked s u (load d f) (numberOf r)
+    load-asked es o = (q es o) .number
+
+    pub load-number : numberOf r ≡ number s (load d f)
+    load-number = asked-number s u h (load d f) (numberOf r) load-asked
+
+    -- a refused load carries 0
+    pub load-refused : (n : ℕ) → n ≡ numberOf r → (n ≡ 0 → ⊥) → LoadPromise s d f n × (s ≡ after s (load d f))
+    load-refused n e z = (refused-promise s d f n z (e ∙ load-number), refused-after s (load d f) n z (e ∙ load-number))
+
+    module _ (z : numberOf r ≡ 0) where
+      yes : firstNo (loadQuestions standard (length s) ((opening s u h) .es) d f) ≡ 0
+      yes = let x = opening s u h in sym (load-asked (x .es) (x .over)) ∙ z
+
+      -- what is written fits
+      pub load-room : Room s u (loaded d f) × (length d < 256)
+      unfolding q3-lengths
+      load-room =
+          let x = opening s u h in
+          let y = load-yes standard (length s) (x .es) d f yes in
+          let l = leb→le (length d) 16 (and-r (leb 5 (length d)) (leb (length d) 16) (and-l (aidLength (length d)) true (y .1 .q3))) in
+          (record { laid = laid s u h; small = small s u h; fits = is-true _ (y .1 .q21) }, omega arith)
+
+      -- the depth figure
+      figure-is : figureOf r ≡ deepestOf standard ((opening s u h) .es) d (readFile standard f)
+      figure-is = let x = opening s u h in (q (x .es) (x .over)) .figure yes
+
+      pub figure-within : figureOf r ≤ 8
+      unfolding standard
+      figure-within =
+          let x = opening s u h in
+          let y = load-yes standard (length s) (x .es) d f yes in
+          rw (figure-is, y .1 .q11) (deepest-limit standard (length s) (x .es) d f (y .0) (y .1))
+
+      pub load-done : (m : ℕ) (t : Bytes) → m ≡ figureOf r → Appended s t (loaded d f) → LoadPromise s d f (256 * m) × (t ≡ after s (load d f))
+      unfolding leastDepth mostDepth standard
+      load-done m t i w =
+          let x = opening s u h in
+          let e : number s (load d f) ≡ 0 = sym load-number ∙ z in
+          let l : leastDepth s d f ≡ figureOf r = rw (e, x .reads) (sym figure-is) in
+          let k : mostDepth s d f ≡ 8 = rw e in
+          let b = figure-within in (
+            record { figure = m; result = omega (arith, e); least = omega (arith, l, i); most = omega (arith, k, i, b) },
+            (asked-done s u h (load d f) t (λ es o. sym z ∙ load-asked es o) w) .1,
+          )

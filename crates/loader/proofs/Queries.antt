@@ -1,0 +1,120 @@
+-- A query of a sound store, question by question, and its yes or no. Assumes nothing.
+use Prim.Native.Nat.{ℕ, _*_, _≤_}
+use native.Mathlib.Omega.{arith}
+use mathlib.Core.Path.{_≡_, refl, sym, _∙_, ap, subst}
+use mathlib.Core.Bool.{Bool, true, false}
+use mathlib.Core.Option.{Option, none, some}
+use lib.ListN.{length}
+use Rattle.rules.specs.Bytes.{Bytes, Aid, pick, at, isSome, someAnd, _andThen_, aidLength}
+use Rattle.rules.specs.Package.{standard, Class, Method}
+use Rattle.rules.specs.Classes.{Installed, installed, recordOf, declared, MethodAt, admits, allows}
+use Rattle.rules.specs.Questions.{q3-lengths, q7-installed, methodQueried, q9-declared}
+use Rattle.rules.specs.Operations.{firstNo, queryQuestions, entries, queryNumber, queryYes}
+use Rattle.files.specs.Say.{Readable}
+use Rattle.store.specs.Entries.{part}
+use Rattle.store.specs.Answers.{FileAt, FileSays}
+use Rattle.store.specs.declared.FileSpot.{FileSpot}
+use Rattle.store.specs.declared.FileSpot.the-variants.{File, Missing}
+use Rattle.loader.specs.Promises.{QueryPromise}
+use Rattle.loader.specs.Answers.{SoundAt, OpenedSays, FileAllows, allowed}
+use Rattle.loader.specs.declared.Opened.{Opened}
+use Rattle.loader.specs.declared.Opened.the-variants as opened
+use Rattle.loader.specs.declared.Allowed.{Allowed}
+use Rattle.loader.specs.declared.Allowed.the-variants.{Undeclared}
+use Rattle.loader.proofs.Numbers.{kept, opening, over-reads}
+
+-- a method where it stands; the method of a class and a name in a package, and what it says of a domain
+abbrev standing : Installed → ℕ → Method → MethodAt
+standing i c m = record { class = record { home = i; number = c }; method = m }
+
+abbrev methodIn : Installed → ℕ → ℕ → Option MethodAt
+methodIn i c n = recordOf (record { home = i; number = c }) andThen λ k. declared k n andThen λ m. some (standing i c m)
+
+abbrev saysIn : Installed → ℕ → ℕ → Aid → Option Bool
+saysIn i c n d = at (i .pack .classes) c andThen λ k. declared k n andThen λ m. some (admits (m .policy) d)
+
+-- they are there together, and say the same
+abbrev Agree : Aid → Option MethodAt → Option Bool → Type 0
+Agree d o v = (isSome o ≡ isSome v) × (someAnd o (λ m. allows m d) ≡ someAnd v (λ b. b))
+
+method-says : (i : Installed) (c n : ℕ) (d : Aid) → Agree d (methodIn i c n) (saysIn i c n d)
+method-says i c n d = of-class (at (i .pack .classes) c)
+  where
+    of-method : (o : Option Method) → Agree d (o andThen λ m. some (standing i c m)) (o andThen λ m. some (admits (m .policy) d))
+    of-method none = (refl, refl)
+    of-method (some m) = (refl, refl)
+
+    of-class : (o : Option Class) → Agree d (o andThen λ k. declared k n andThen λ m. some (standing i c m)) (o andThen λ k. declared k n andThen λ m. some (admits (m .policy) d))
+    of-class none = (refl, refl)
+    of-class (some k) = of-method (declared k n)
+
+module _ (s : Bytes) (d a : Aid) (c n : ℕ) where
+  -- a refusal says no
+  pub query-refused : (k : ℕ) → (k ≡ 0 → ⊥) → k ≡ queryNumber s d a c n → QueryPromise s d a c n k
+  unfolding queryYes
+  query-refused k h e =
+      let z : queryYes s d a c n ≡ false = kept (queryNumber s d a c n) _ false (λ y. h (e ∙ y)) in
+      rw z (omega (arith, e))
+
+  pub query-unopened : (r : Opened) (k : ℕ) → r ≡ opened.Refused k → OpenedSays s r → QueryPromise s d a c n k
+  unfolding queryNumber
+  query-unopened r k z q =
+      let p = subst (OpenedSays s) z q in
+      query-refused k (p .0) (p .1 (queryQuestions standard (entries s) d a c n))
+
+  module _ (u : ℕ) (h : SoundAt s u) where
+    -- the number by the questions from 3 on
+    query-number : queryNumber s d a c n ≡ firstNo (queryQuestions standard ((opening s u h) .es) d a c n)
+    unfolding queryNumber
+    query-number = let x = opening s u h in rw (x .size, x .is, x .reads)
+
+    pub query-3-domain : aidLength (length d) ≡ false → QueryPromise s d a c n 3
+    unfolding queryQuestions q3-lengths
+    query-3-domain q = query-refused 3 (λ e. omega arith) (sym (query-number ∙ rw q))
+
+    pub query-3-package : aidLength (length d) ≡ true → aidLength (length a) ≡ false → QueryPromise s d a c n 3
+    unfolding queryQuestions q3-lengths
+    query-3-package p q = query-refused 3 (λ e. omega arith) (sym (query-number ∙ rw (p, q)))
+
+    module _ (p : aidLength (length d) ≡ true) (q : aidLength (length a) ≡ true) (r : FileSpot) (f : FileAt s u a r) where
+      -- what the search for the package says
+      found : (x : FileSpot) → r ≡ x → FileSays s ((opening s u h) .es) a x
+      found x z = let y = opening s u h in subst (FileSays s (y .es) a) z (f (y .es) (y .over .stand) (over-reads s u (y .es) (y .over)))
+
+      pub query-7 : r ≡ Missing → QueryPromise s d a c n 7
+      unfolding queryQuestions q3-lengths q7-installed
+      query-7 z = query-refused 7 (λ e. omega arith) (sym (query-number ∙ rw (p, q, (found Missing z) .1)))
+
+      module _ (i j k : ℕ) (z : r ≡ File i j k) where
+        -- the package's file
+        pub query-file : (j ≤ k) × (k ≤ length s) × Readable (part s j k)
+        query-file = let y = found (File i j k) z in (y .from, y .to, (standard, y .home .pack, y .reads))
+
+        -- its answer
+        says : (v : Allowed) → FileAllows (part s j k) c n d v → allowed v ≡ saysIn ((found (File i j k) z) .home) c n d
+        says v w = let y = found (File i j k) z in w standard (y .home .pack) (y .reads)
+
+        queried : methodQueried (installed standard ((opening s u h) .es)) a c n ≡ methodIn ((found (File i j k) z) .home) c n
+        unfolding methodQueried
+        queried = rw ((found (File i j k) z) .is)
+
+        declared-is : (v : Allowed) → FileAllows (part s j k) c n d v → q9-declared (installed standard ((opening s u h) .es)) a c n ≡ isSome (allowed v)
+        unfolding q9-declared
+        declared-is v w = ap isSome queried ∙ (method-says ((found (File i j k) z) .home) c n d) .0 ∙ sym (ap isSome (says v w))
+
+        asked : (v : Allowed) → FileAllows (part s j k) c n d v → queryNumber s d a c n ≡ pick (isSome (allowed v)) 0 9
+        unfolding queryQuestions q3-lengths q7-installed
+        asked v w = query-number ∙ rw (p, q, (found (File i j k) z) .is, declared-is v w)
+
+        pub query-9 : FileAllows (part s j k) c n d Undeclared → QueryPromise s d a c n 9
+        query-9 w = query-refused 9 (λ e. omega arith) (sym (asked Undeclared w))
+
+        pub query-done : (v : Allowed) (b : Bool) → allowed v ≡ some b → FileAllows (part s j k) c n d v → QueryPromise s d a c n (256 * pick b 1 0)
+        unfolding queryYes
+        query-done v b t w =
+            let y = opening s u h in
+            let e : queryNumber s d a c n ≡ 0 = asked v w ∙ rw t in
+            let x : someAnd (methodQueried (installed standard (y .es)) a c n) (λ m. allows m d) ≡ b =
+            ap (λ (o : Option MethodAt). someAnd o (λ m. allows m d)) queried ∙ (method-says ((found (File i j k) z) .home) c n d) .1 ∙ sym (ap (λ (o : Option Bool). someAnd o (λ m. m)) (says v w)) ∙ rw t in
+            let l : queryYes s d a c n ≡ b = rw (e, y .reads) x in
+            rw l (omega (arith, e))

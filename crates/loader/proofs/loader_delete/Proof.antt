@@ -1,0 +1,54 @@
+-- `loader::loader_delete` keeps its promise. Assumes nothing.
+use Rattle.loader.specs.Answers.{OpenedSays}
+use Rattle.rules.specs.Operations.{delete}
+use Rattle.loader.proofs.Numbers as numbers
+use denote.Ref.{now}
+use mathlib.Core.Path.{subst}
+use borrow.Author.Needs.{needs}
+use Rattle.loader.proofs.loader_delete.Statement.{statement}
+use Rattle.loader.proofs.loader_delete.Tie as tie
+
+opened-by-requires : tie.Need-opened-by-requires
+opened-by-requires c κs = search needs
+
+enum-known-n : tie.Need-enum-known-n
+enum-known-n c = search needs
+
+enum-known-used : tie.Need-enum-known-used
+enum-known-used c = search needs
+
+delete-on-requires : tie.Need-delete-on-requires
+delete-on-requires c κs =
+    let start = c .before .before .before .before .before .before .before .before in
+    let opened = c .before .before .before .before .opened-by in
+    let known = c .before .before .used in
+    subst (OpenedSays (now (start .args .store))) (known .given .1) (opened .ensures)
+
+same-length : tie.Need-same-length
+same-length c = search needs
+
+returns : tie.Need-returns
+returns c =
+    let start = c .before .before .before .before .before .before .before in
+    let opened = c .before .before .before .opened-by in
+    let known = c .before .n in
+    numbers.refused-number (now (start .args .store)) (delete (now (start .args .domain))) (opened .result) (known .given .0 .0) (known .given .1) (opened .ensures)
+
+same-length-2 : tie.Need-same-length-2
+same-length-2 c = search needs
+
+returns-2 : tie.Need-returns-2
+returns-2 c = search needs
+
+pub loader-delete-spec : {M : Type 1} → statement M
+loader-delete-spec =
+    tie.close
+    (tie.spec
+    opened-by-requires
+    enum-known-n
+    enum-known-used
+    delete-on-requires
+    same-length
+    returns
+    same-length-2
+    returns-2)

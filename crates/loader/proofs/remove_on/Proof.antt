@@ -1,0 +1,62 @@
+-- `loader::remove_on` leaves what a removal in a sound store does. Assumes nothing.
+use Rattle.rules.specs.Package.{standard}
+use Rattle.rules.specs.Operations.{remove, isPackage}
+use Rattle.loader.proofs.Cuts as cuts
+use denote.Ref.{now}
+use mathlib.Core.Path.{refl}
+use borrow.Author.Needs.{needs}
+use Rattle.loader.proofs.remove_on.Statement.{statement}
+use Rattle.loader.proofs.remove_on.Tie as tie
+
+remove-answer-requires : tie.Need-remove-answer-requires
+remove-answer-requires c κs = search needs
+
+enum-known-n : tie.Need-enum-known-n
+enum-known-n c = search needs
+
+enum-known-at : tie.Need-enum-known-at
+enum-known-at c = search needs
+
+cut-entry-requires : tie.Need-cut-entry-requires
+cut-entry-requires c κs =
+    let start = c .before .before .before .before .before .before .before .before in
+    let aid = now (start .args .«package») in
+    let answer = c .before .before .before .before .remove-answer in
+    let known = c .before .before .at in
+    cuts.cut-at (now (start .args .store)) (start .args .used) (start .pre) (remove aid) (isPackage standard aid) (answer .result) (answer .ensures) (known .given .0 .0) (known .given .0 .1 .0) (known .given .1)
+
+same-length : tie.Need-same-length
+same-length c = search needs
+
+returns : tie.Need-returns
+returns c =
+    let start = c .before .before .before .before .before .before .before in
+    let aid = now (start .args .«package») in
+    let answer = c .before .before .before .remove-answer in
+    let known = c .before .n in
+    cuts.cut-refused (now (start .args .store)) (start .args .used) (start .pre) (remove aid) (isPackage standard aid) (answer .result) (answer .ensures) (known .given .0 .0) (known .given .1)
+
+same-length-2 : tie.Need-same-length-2
+same-length-2 c = search needs
+
+returns-2 : tie.Need-returns-2
+returns-2 c =
+    let start = c .before .before .before .before .before .before .before .before .before .before .before in
+    let aid = now (start .args .«package») in
+    let answer = c .before .before .before .before .before .before .before .remove-answer in
+    let known = c .before .before .before .before .before .at in
+    let cut = c .before .before .cut-entry in
+    cuts.cut-done (now (start .args .store)) (start .args .used) (start .pre) (remove aid) (isPackage standard aid) (answer .result) (answer .ensures) (known .given .0 .0) (known .given .0 .1 .0) _ (known .given .1) (λ es. refl) (cut .ensures)
+
+pub remove-on-spec : {M : Type 1} → statement M
+remove-on-spec =
+    tie.close
+    (tie.spec
+    remove-answer-requires
+    enum-known-n
+    enum-known-at
+    cut-entry-requires
+    same-length
+    returns
+    same-length-2
+    returns-2)

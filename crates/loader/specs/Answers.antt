@@ -1,0 +1,92 @@
+-- What the functions behind the six operations answer. Assumes nothing.
+--
+-- SoundAt s u          == the store s is sound, and its entries end at place u
+-- Asked s u o n        == n is the operation's number by its questions behind 1 and 2
+-- OpenedSays s r       == questions 1 and 2: the number of the first no, or where the entries end
+-- CutSays s u o q r    == a deletion or removal: its number, or the place of the entry that the test q finds
+-- ImportsSays g a r    == the file g imports the AID a
+-- importer a e         == e is a package of another AID that imports a
+-- ImportedSays s k a r == question 8 is answered no, among the entries that end at place k
+-- OtherSays g a r      == it does and has another AID
+-- allowed r            == what an answer says of a domain, if there is such a method
+-- ClassOf g c          == a class of the file's package stands at place c
+-- ClassAllows, FileAllows == the answer is that of a class's or a file's method of a name
+use Prim.Native.Nat.{ℕ}
+use mathlib.Core.Path.{_≡_}
+use mathlib.Core.Bool.{Bool, true, false, _&&_, not}
+use mathlib.Core.List.{List}
+use mathlib.Core.Option.{Option, none, some}
+use Rattle.rules.specs.Bytes.{Bytes, Aid, any, at, someAnd, _andThen_, same}
+use Rattle.rules.specs.Package.{Limits, standard, Class, Package, class, readFile}
+use Rattle.rules.specs.Store.{Entry, domain, loaded, openingLength}
+use Rattle.rules.specs.Classes.{installed, declared, admits}
+use Rattle.rules.specs.Questions.{q8-unused}
+use Rattle.rules.specs.Operations.{Question, firstNo, onStore, Operation, questions}
+use lib.ListN.{length}
+use Rattle.store.specs.Entries.{Entries, AllRead, placeOf}
+use Rattle.places.specs.Reads.{Reads, Ends}
+use Rattle.judge.specs.Says.{Over, SoundSays}
+use Rattle.judge.specs.declared.StoreAnswer.the-variants as answers
+use Rattle.loader.specs.declared.Opened.{Opened}
+use Rattle.loader.specs.declared.Opened.the-variants as opened
+use Rattle.loader.specs.declared.Cut.{Cut}
+use Rattle.loader.specs.declared.Cut.the-variants as cut
+use Rattle.loader.specs.declared.Allowed.{Allowed}
+use Rattle.loader.specs.declared.Allowed.the-variants.{Yes, No, Undeclared}
+
+-- a sound store, whose entries end at place u
+abbrev pub SoundAt : Bytes → ℕ → Type 0
+SoundAt s u = SoundSays s (answers.Used u)
+
+-- the operation's number by its questions behind 1 and 2
+abbrev pub Asked : Bytes → ℕ → Operation → ℕ → Type 0
+Asked s u o n = (es : List Entry) → Over s u es → n ≡ firstNo (questions (length s) es o)
+
+-- questions 1 and 2, whatever is asked behind them
+abbrev pub OpenedSays : Bytes → Opened → Type 0
+OpenedSays s (opened.Refused n) = (n ≡ 0 → ⊥) × ((qs : List Question) → n ≡ onStore s qs)
+OpenedSays s (opened.Used u) = SoundAt s u
+
+-- a refusal, or from where up to where the entry stands that goes
+abbrev pub CutSays : Bytes → ℕ → Operation → (Entry → Bool) → Cut → Type 0
+CutSays s u o q (cut.Refused n) = (n ≡ 0 → ⊥) × Asked s u o n
+CutSays s u o q (cut.Entry i j) = Asked s u o 0 × ((es : List Entry) → Over s u es → placeOf q openingLength es ≡ some (i, j))
+
+-- a file imports an AID
+abbrev pub ImportsSays : Bytes → Aid → Bool → Type 0
+ImportsSays g a r = (l : Limits) (p : Package) → readFile l g ≡ some p → r ≡ any (same a) (p .imports)
+
+-- a package of another AID that imports it
+abbrev pub otherImports : Aid → Package → Bool
+otherImports a p = not (same a (p .aid)) && any (same a) (p .imports)
+
+abbrev pub OtherSays : Bytes → Aid → Bool → Type 0
+OtherSays g a r = (l : Limits) (p : Package) → readFile l g ≡ some p → r ≡ otherImports a p
+
+abbrev pub importer : Aid → Entry → Bool
+importer a (domain b) = false
+importer a (loaded d f) = someAnd (readFile standard f) (otherImports a)
+
+-- 8, of whatever entries whose files read end at place k
+abbrev pub ImportedSays : Bytes → ℕ → Aid → Bool → Type 0
+ImportedSays s k a r = (es : List Entry) → Entries s openingLength es k → AllRead es → r ≡ not (q8-unused (installed standard es) a)
+
+-- what an answer says of the domain, if there is such a method
+abbrev pub allowed : Allowed → Option Bool
+allowed Undeclared = none
+allowed Yes = some true
+allowed No = some false
+
+-- a class of the package that a file reads as stands at place c
+abbrev pub ClassOf : Bytes → ℕ → Type 0
+ClassOf g c = (l : Limits) × (p : Package) × (readFile l g ≡ some p) × Ends (class l (p .domains)) g c
+
+-- a class's method of a name allows the domain, of whatever class stands at place c
+abbrev pub ClassAllows : Bytes → ℕ → ℕ → Aid → Allowed → Type 0
+ClassAllows g c n d r = (l : Limits) (p : Package) → readFile l g ≡ some p → (k : Class) (j : ℕ) →
+    Reads (class l (p .domains)) g c k j → allowed r ≡ (declared k n andThen λ m. some (admits (m .policy) d))
+
+-- the method of a class and a name allows the domain
+abbrev pub FileAllows : Bytes → ℕ → ℕ → Aid → Allowed → Type 0
+FileAllows g c n d r = (l : Limits) (p : Package) → readFile l g ≡ some p →
+    allowed r ≡ (at (p .classes) c andThen λ k. declared k n andThen λ m. some (admits (m .policy) d))
