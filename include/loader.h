@@ -45,12 +45,12 @@
  *
  * Peak stack in bytes, measured on x86-64:
  *
- *     loader_fresh      @STACK@
- *     loader_create     @STACK@
- *     loader_delete     @STACK@
- *     loader_load       @STACK@
- *     loader_remove     @STACK@
- *     loader_query      @STACK@
+ *     loader_fresh      259
+ *     loader_create     76,747
+ *     loader_delete     76,747
+ *     loader_load       76,843
+ *     loader_remove     76,491
+ *     loader_query      76,523
  */
 #ifndef LOADER_H
 #define LOADER_H

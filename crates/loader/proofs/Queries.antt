@@ -3,15 +3,17 @@ use Prim.Native.Nat.{ℕ, _*_, _≤_}
 use native.Mathlib.Omega.{arith}
 use mathlib.Core.Path.{_≡_, refl, sym, _∙_, ap, subst}
 use mathlib.Core.Bool.{Bool, true, false}
+use mathlib.Core.List.{List}
 use mathlib.Core.Option.{Option, none, some}
 use lib.ListN.{length}
 use Rattle.rules.specs.Bytes.{Bytes, Aid, pick, at, isSome, someAnd, _andThen_, aidLength}
 use Rattle.rules.specs.Package.{standard, Class, Method}
+use Rattle.rules.specs.Store.{Entry}
 use Rattle.rules.specs.Classes.{Installed, installed, recordOf, declared, MethodAt, admits, allows}
 use Rattle.rules.specs.Questions.{q3-lengths, q7-installed, methodQueried, q9-declared}
 use Rattle.rules.specs.Operations.{firstNo, queryQuestions, entries, queryNumber, queryYes}
 use Rattle.files.specs.Say.{Readable}
-use Rattle.store.specs.Entries.{part}
+use Rattle.store.specs.Entries.{part, PackageAt}
 use Rattle.store.specs.Answers.{FileAt, FileSays}
 use Rattle.store.specs.declared.FileSpot.{FileSpot}
 use Rattle.store.specs.declared.FileSpot.the-variants.{File, Missing}
@@ -48,6 +50,15 @@ method-says i c n d = of-class (at (i .pack .classes) c)
     of-class none = (refl, refl)
     of-class (some k) = of-method (declared k n)
 
+-- the package of a query, found in a sound store; both AIDs have 5 to 16 bytes
+pub record Found (s : Bytes) (d a : Aid) (u i j k : ℕ) : Type 0 where
+  pub sound : SoundAt s u
+  pub domain-length : aidLength (length d) ≡ true
+  pub aid-length : aidLength (length a) ≡ true
+  pub spot : FileSpot
+  pub told : FileAt s u a spot
+  pub is : spot ≡ File i j k
+
 module _ (s : Bytes) (d a : Aid) (c n : ℕ) where
   -- a refusal says no
   pub query-refused : (k : ℕ) → (k ≡ 0 → ⊥) → k ≡ queryNumber s d a c n → QueryPromise s d a c n k
@@ -76,45 +87,54 @@ module _ (s : Bytes) (d a : Aid) (c n : ℕ) where
     unfolding queryQuestions q3-lengths
     query-3-package p q = query-refused 3 (λ e. omega arith) (sym (query-number ∙ rw (p, q)))
 
-    module _ (p : aidLength (length d) ≡ true) (q : aidLength (length a) ≡ true) (r : FileSpot) (f : FileAt s u a r) where
-      -- what the search for the package says
-      found : (x : FileSpot) → r ≡ x → FileSays s ((opening s u h) .es) a x
-      found x z = let y = opening s u h in subst (FileSays s (y .es) a) z (f (y .es) (y .over .stand) (over-reads s u (y .es) (y .over)))
+    -- what the search for the package says
+    found : (r x : FileSpot) → FileAt s u a r → r ≡ x → FileSays s ((opening s u h) .es) a x
+    found r x f z = let y = opening s u h in subst (FileSays s (y .es) a) z (f (y .es) (y .over .stand) (over-reads s u (y .es) (y .over)))
 
-      pub query-7 : r ≡ Missing → QueryPromise s d a c n 7
-      unfolding queryQuestions q3-lengths q7-installed
-      query-7 z = query-refused 7 (λ e. omega arith) (sym (query-number ∙ rw (p, q, (found Missing z) .1)))
+    pub query-7 : aidLength (length d) ≡ true → aidLength (length a) ≡ true → (r : FileSpot) → FileAt s u a r → r ≡ Missing → QueryPromise s d a c n 7
+    unfolding queryQuestions q3-lengths q7-installed
+    query-7 p q r f z = query-refused 7 (λ e. omega arith) (sym (query-number ∙ rw (p, q, (found r Missing f z) .1)))
 
-      module _ (i j k : ℕ) (z : r ≡ File i j k) where
-        -- the package's file
-        pub query-file : (j ≤ k) × (k ≤ length s) × Readable (part s j k)
-        query-file = let y = found (File i j k) z in (y .from, y .to, (standard, y .home .pack, y .reads))
+  module _ (u i j k : ℕ) (x : Found s d a u i j k) where
+    -- the entries, and the package among them
+    abbrev es : List Entry
+    es = (opening s u (x .sound)) .es
 
-        -- its answer
-        says : (v : Allowed) → FileAllows (part s j k) c n d v → allowed v ≡ saysIn ((found (File i j k) z) .home) c n d
-        says v w = let y = found (File i j k) z in w standard (y .home .pack) (y .reads)
+    at-place : PackageAt s es a i j k
+    at-place = found u (x .sound) (x .spot) (File i j k) (x .told) (x .is)
 
-        queried : methodQueried (installed standard ((opening s u h) .es)) a c n ≡ methodIn ((found (File i j k) z) .home) c n
-        unfolding methodQueried
-        queried = rw ((found (File i j k) z) .is)
+    abbrev home : Installed
+    home = at-place .home
 
-        declared-is : (v : Allowed) → FileAllows (part s j k) c n d v → q9-declared (installed standard ((opening s u h) .es)) a c n ≡ isSome (allowed v)
-        unfolding q9-declared
-        declared-is v w = ap isSome queried ∙ (method-says ((found (File i j k) z) .home) c n d) .0 ∙ sym (ap isSome (says v w))
+    -- the package's file
+    pub query-file : (j ≤ k) × (k ≤ length s) × Readable (part s j k)
+    query-file = let y = at-place in (y .from, y .to, (standard, y .home .pack, y .reads))
 
-        asked : (v : Allowed) → FileAllows (part s j k) c n d v → queryNumber s d a c n ≡ pick (isSome (allowed v)) 0 9
-        unfolding queryQuestions q3-lengths q7-installed
-        asked v w = query-number ∙ rw (p, q, (found (File i j k) z) .is, declared-is v w)
+    -- its answer
+    says : (v : Allowed) → FileAllows (part s j k) c n d v → allowed v ≡ saysIn home c n d
+    says v w = let y = at-place in w standard (y .home .pack) (y .reads)
 
-        pub query-9 : FileAllows (part s j k) c n d Undeclared → QueryPromise s d a c n 9
-        query-9 w = query-refused 9 (λ e. omega arith) (sym (asked Undeclared w))
+    queried : methodQueried (installed standard es) a c n ≡ methodIn home c n
+    unfolding methodQueried
+    queried = rw (at-place .is)
 
-        pub query-done : (v : Allowed) (b : Bool) → allowed v ≡ some b → FileAllows (part s j k) c n d v → QueryPromise s d a c n (256 * pick b 1 0)
-        unfolding queryYes
-        query-done v b t w =
-            let y = opening s u h in
-            let e : queryNumber s d a c n ≡ 0 = asked v w ∙ rw t in
-            let x : someAnd (methodQueried (installed standard (y .es)) a c n) (λ m. allows m d) ≡ b =
-            ap (λ (o : Option MethodAt). someAnd o (λ m. allows m d)) queried ∙ (method-says ((found (File i j k) z) .home) c n d) .1 ∙ sym (ap (λ (o : Option Bool). someAnd o (λ m. m)) (says v w)) ∙ rw t in
-            let l : queryYes s d a c n ≡ b = rw (e, y .reads) x in
-            rw l (omega (arith, e))
+    declared-is : (v : Allowed) → FileAllows (part s j k) c n d v → q9-declared (installed standard es) a c n ≡ isSome (allowed v)
+    unfolding q9-declared
+    declared-is v w = ap isSome queried ∙ (method-says home c n d) .0 ∙ sym (ap isSome (says v w))
+
+    asked : (v : Allowed) → FileAllows (part s j k) c n d v → queryNumber s d a c n ≡ pick (isSome (allowed v)) 0 9
+    unfolding queryQuestions q3-lengths q7-installed
+    asked v w = query-number u (x .sound) ∙ rw (x .domain-length, x .aid-length, at-place .is, declared-is v w)
+
+    pub query-9 : FileAllows (part s j k) c n d Undeclared → QueryPromise s d a c n 9
+    query-9 w = query-refused 9 (λ e. omega arith) (sym (asked Undeclared w))
+
+    pub query-done : (v : Allowed) (b : Bool) → allowed v ≡ some b → FileAllows (part s j k) c n d v → QueryPromise s d a c n (256 * pick b 1 0)
+    unfolding queryYes
+    query-done v b t w =
+        let y = opening s u (x .sound) in
+        let e : queryNumber s d a c n ≡ 0 = asked v w ∙ rw t in
+        let m : someAnd (methodQueried (installed standard (y .es)) a c n) (λ m. allows m d) ≡ b =
+        ap (λ (o : Option MethodAt). someAnd o (λ m. allows m d)) queried ∙ (method-says home c n d) .1 ∙ sym (ap (λ (o : Option Bool). someAnd o (λ m. m)) (says v w)) ∙ rw t in
+        let l : queryYes s d a c n ≡ b = rw (e, y .reads) m in
+        rw l (omega (arith, e))
