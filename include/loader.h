@@ -46,11 +46,11 @@
  * Peak stack in bytes, measured on x86-64:
  *
  *     loader_fresh      259
- *     loader_create     76,747
- *     loader_delete     76,747
- *     loader_load       76,843
- *     loader_remove     76,491
- *     loader_query      76,523
+ *     loader_create     78,315
+ *     loader_delete     78,315
+ *     loader_load       78,411
+ *     loader_remove     77,995
+ *     loader_query      78,027
  */
 #ifndef LOADER_H
 #define LOADER_H

@@ -25,7 +25,8 @@ use Rattle.homes.specs.Homes.{fileOf, ownHome, HomeIs, ClassPlaced}
 use Rattle.homes.specs.Homes as homes
 use Rattle.homes.specs.declared.Home.{Home}
 use Rattle.homes.proofs.Homes.{home-bounds}
-use Rattle.running.specs.Say.{Judged, Running, ClassThere, rank, Kind0ParentIs, InstanceAt, MethodsIn, FirstFound, FirstIs, RunningThere, RunsIs, MethodThere}
+use Rattle.running.specs.Say.{Judged, Running, ClassThere, rank, Kind0ParentIs, InstanceAt, MethodsIn, FirstFound, FirstIs, RunningThere, OwnIs, RunsIs, MethodThere}
+use Rattle.running.specs.declared.ClassFound.{ClassFound}
 use Rattle.running.specs.declared.ClassFound.the-variants as classes
 use Rattle.running.specs.declared.ClassSpot.{ClassSpot}
 use Rattle.running.specs.declared.RunsFound.{RunsFound}
@@ -43,7 +44,7 @@ module _ (f s : Bytes) (h : Home) (n : ℕ) where
       let z : y .0 ≡ k = Option·some-injective _ _ (sym (y .2) ∙ e) in
       (y .1, subst (λ (a : Class). Reads (class standard (x .pack .domains)) (fileOf f s h) i a (y .1)) z (y .3))
 
-  class-nowhere : ClassPlaced f s h n spots.Nothing → (end : ℕ) (es : List Entry) (self : Installed) → Judged f s end es self → (x : Installed) → HomeIs f s end es self h x →
+  pub class-nowhere : ClassPlaced f s h n spots.Nothing → (end : ℕ) (es : List Entry) (self : Installed) → Judged f s end es self → (x : Installed) → HomeIs f s end es self h x →
       (k : Class) → at (x .pack .classes) n ≡ some k → ⊥
   class-nowhere p end es self j x o k e = none-some (sym (placed-none (p end es self (j .parents .imported) x o)) ∙ e)
 
@@ -130,6 +131,29 @@ module _ (f s : Bytes) (end b : ℕ) where
   own-there t =
       let y = own-class (t .0) (t .1) (t .2) in
       (end, record { entries = t .0; self = t .1; asked = t .2 .judged; pack = t .1; home = homes.own; class = y .0; is = y .1 })
+
+  -- its record at the place told
+  module _ (i : ℕ) (up : ClassFound) (p : OwnIs f s end b i up) where
+    pub own-record : RunningThere f s end b → say.ClassThere f i
+    own-record t = class-there f s (ownHome end) b f i refl (p .0) (own-there t)
+
+    own-at : (name : ℕ) (r : Spot) → InstancePlaced f i name r → InstanceAt f s (ownHome end) b name r
+    own-at name r q = instance-is f s (ownHome end) b f i name r refl (p .0) q
+
+    -- the class declares the method
+    pub own-here : (name j : ℕ) (h : Home) → h ≡ ownHome end → InstancePlaced f i name (spots.At j) → FirstIs f s (ownHome end) b name (At h j)
+    own-here name j h z q = subst (λ (a : Home). FirstIs f s (ownHome end) b name (At a j)) (sym z) (first-here f s (ownHome end) b name j (own-at name (spots.At j) q))
+
+    -- or its kind-0 parent has it
+    module _ (name : ℕ) (q : InstancePlaced f i name spots.Nothing) where
+      pub own-above-there : (d : ClassSpot) → up ≡ classes.At d → RunningThere f s end b → ClassThere f s (d .home) (d .number)
+      own-above-there d z t = above-there f s (ownHome end) b name (own-at name spots.Nothing q) d (subst (Kind0ParentIs f s (ownHome end) b) z (p .1)) (own-there t)
+
+      pub own-above : (d : ClassSpot) → up ≡ classes.At d → (r : RunsFound) → FirstIs f s (d .home) (d .number) name r → FirstIs f s (ownHome end) b name r
+      own-above d z r w = first-above f s (ownHome end) b name (own-at name spots.Nothing q) d r (subst (Kind0ParentIs f s (ownHome end) b) z (p .1)) w
+
+      pub own-nowhere : up ≡ classes.Nothing → FirstIs f s (ownHome end) b name Nothing
+      own-nowhere z = first-nowhere f s (ownHome end) b name (own-at name spots.Nothing q) (subst (Kind0ParentIs f s (ownHome end) b) z (p .1))
 
   -- its depth is within the limit
   pub own-depth : (es : List Entry) (self : Installed) → Judged f s end es self → (k : Class) → at (self .pack .classes) b ≡ some k →

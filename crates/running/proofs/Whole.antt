@@ -18,12 +18,13 @@ use Rattle.places.proofs.Steady.{steady-u1, steady-class}
 use Rattle.places.proofs.Inverse.{reads-counted, reads-u1}
 use Rattle.places.proofs.Track.{many-length, counted-inside}
 use Rattle.files.specs.Say.{Readable, ClassesAt}
+use Rattle.files.specs.declared.Spot.the-variants as spots
 use Rattle.files.proofs.Walks.{classes-read}
-use Rattle.homes.specs.Homes.{ownHome}
+use Rattle.homes.specs.Homes.{ownHome, ClassPlaced}
 use Rattle.homes.specs.Homes as homes
 use Rattle.running.specs.Say.{Judged, Running, ClassThere, Kind0Is, WalkThere, Passes, Fails, Answers, ClassPasses, memoLength, Marks, Unmarked, OwnThere, OwnPasses, JudgedThere, RunningIs}
 use Rattle.running.proofs.Records.{at-split}
-use Rattle.running.proofs.Methods.{own-depth}
+use Rattle.running.proofs.Methods.{own-depth, class-nowhere}
 
 -- all elements pass, or one does not
 all-true : {A : Type 0} (p : A → Bool) (xs : List A) → ((x : A) → List·Memᴰ x xs → p x ≡ true) → all p xs ≡ true
@@ -64,6 +65,10 @@ module _ (f s : Bytes) (end b : ℕ) where
   own-interface q es self j k e =
       sym (all-true (runningAllows standard (installed standard es) (own self b)) (ancestorsUpTo (installed standard es) (standard .depth) (own self b))
       (λ a m. interface-allows (installed standard es) (own self b) a (sym (q end es self j self homes.own k e))))
+
+  -- its record has a place
+  pub own-nothing : ClassPlaced f s (ownHome end) b spots.Nothing → OwnPasses f s end b true
+  own-nothing p es self j k e = absurd (class-nowhere f s (ownHome end) b p end es self j self homes.own k e)
 
   module _ (q : Kind0Is f s (ownHome end) b true) where
     own-running : (es : List Entry) (self : Installed) → Judged f s end es self → (k : Class) → at (self .pack .classes) b ≡ some k → Running f s end b es self

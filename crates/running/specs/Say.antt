@@ -6,6 +6,7 @@
 -- MethodIn              == a method stands at a place of the file at home h
 -- ParentIs              == the class told is the parent with a number, and stands before the class of which it is one
 -- FirstIs, RunsIs       == the method told is the first non-static one of a name, the one that runs
+-- OwnIs f s end b i up  == own class b's record stands at place i, and up is its first parent of kind 0
 -- Passes, Fails         == of a class and its ancestors all, or not all, have `runningAllows` for own class b
 -- Marks f s end b memo  == where the memo holds b + 1 the class and all its ancestors pass for own class b
 use Prim.Native.Nat.{ℕ, _+_, _*_, _<_, _≤_}
@@ -25,7 +26,8 @@ use Rattle.places.specs.Reads.{Reads, Placed}
 use Rattle.files.specs.Say.{spot}
 use Rattle.files.specs.Say as files
 use Rattle.files.specs.declared.Spot.{Spot}
-use Rattle.homes.specs.Homes.{Imports, Parents, fileOf, HomeIs}
+use Rattle.files.specs.declared.Spot.the-variants as spots
+use Rattle.homes.specs.Homes.{Imports, Parents, fileOf, ownHome, HomeIs, ClassPlaced}
 use Rattle.homes.specs.declared.Home.{Home}
 use Rattle.running.specs.declared.ClassSpot.{ClassSpot}
 use Rattle.running.specs.declared.ClassFound.{ClassFound}
@@ -134,6 +136,10 @@ RunsAt f s end es self o methods.Nothing = o ≡ none
 -- own class b of kind 0
 abbrev pub RunningThere : Bytes → Bytes → ℕ → ℕ → Type 0
 RunningThere f s end b = (es : List Entry) × (self : Installed) × Running f s end b es self
+
+-- its record stands at place i of the file, and its first parent of kind 0 is the class told
+abbrev pub OwnIs : Bytes → Bytes → ℕ → ℕ → ℕ → ClassFound → Type 0
+OwnIs f s end b i up = ClassPlaced f s (ownHome end) b (spots.At i) × Kind0ParentIs f s (ownHome end) b up
 
 abbrev pub RunsIs : Bytes → Bytes → ℕ → ℕ → ℕ → RunsFound → Type 0
 RunsIs f s end b name r = (es : List Entry) (self : Installed) → Running f s end b es self →

@@ -9,7 +9,7 @@ ghost use Prim.Native.Nat.{_+_, _<_, _≤_};
 ghost use lib.ListN.{length, set};
 ghost use Rattle.files.specs.Say.{InstancePlaced};
 ghost use Rattle.homes.specs.Homes.{ownHome};
-ghost use Rattle.running.specs.Say.{ClassThere, CountIs, ParentThere, ParentIs, Kind0Is, Kind0ParentIs, InstanceAt, MethodsIn, FirstIs, RunningThere, RunsIs, BothThere, AllowsAllOf, MethodThere, MethodPasses, WalkThere, MethodsPass, ClassPasses, ParentsPass, ParentsThere, memoLength, Marks, Unmarked, OwnThere, OwnPasses, JudgedThere, RunningIs, SeenIs, RecordThere};
+ghost use Rattle.running.specs.Say.{ClassThere, CountIs, ParentThere, ParentIs, Kind0Is, Kind0ParentIs, InstanceAt, MethodsIn, FirstIs, RunningThere, RunsIs, BothThere, AllowsAllOf, MethodThere, MethodPasses, WalkThere, MethodsPass, ClassPasses, ParentsPass, ParentsThere, memoLength, Marks, Unmarked, OwnThere, OwnIs, OwnPasses, JudgedThere, RunningIs, SeenIs, RecordThere};
 
 // A class by its package's home and its number there.
 pub struct ClassSpot {
@@ -144,13 +144,48 @@ fn first_instance<'a>(f: &'a [u8], s: &'a [u8], h: Home, n: usize, name: usize) 
     }
 }
 
-// The method that runs for own class b, of kind 0, and a name.
-fn running_method<'a>(f: &'a [u8], s: &'a [u8], end: usize, b: usize, name: usize) -> RunsFound
+// The same from own class b, whose record stands at place own of the file, and whose first parent of kind 0 is up.
+fn own_instance<'a>(
+    f: &'a [u8],
+    s: &'a [u8],
+    end: usize,
+    b: usize,
+    own: usize,
+    up: ClassFound,
+    name: usize,
+) -> RunsFound
     requires { ⌜ RunningThere (now f) (now s) end b ⌝ }
+    requires { ⌜ OwnIs (now f) (now s) end b own up ⌝ }
+    ensures { λ r. ⌜ FirstIs (now (f .entry)) (now (s .entry)) (ownHome end) b name r ⌝ }
+{
+    match instance_in(f, own, name) {
+        Spot::At(m) => RunsFound::At(own_home(end), m),
+        Spot::Nothing => match up {
+            ClassFound::At(d) => {
+                let g = d.home;
+                let k = d.number;
+                first_instance(f, s, g, k, name)
+            }
+            ClassFound::Nothing => RunsFound::Nothing,
+        },
+    }
+}
+
+// The method that runs for own class b, of kind 0, and a name.
+fn running_method<'a>(
+    f: &'a [u8],
+    s: &'a [u8],
+    end: usize,
+    b: usize,
+    own: usize,
+    up: ClassFound,
+    name: usize,
+) -> RunsFound
+    requires { ⌜ RunningThere (now f) (now s) end b ⌝ }
+    requires { ⌜ OwnIs (now f) (now s) end b own up ⌝ }
     ensures { λ r. ⌜ RunsIs (now (f .entry)) (now (s .entry)) end b name r ⌝ }
 {
-    let h = own_home(end);
-    match first_instance(f, s, h, b, name) {
+    match own_instance(f, s, end, b, own, up, name) {
         RunsFound::At(g, m) => {
             if !files::is_implemented(homes::file_of(f, s, g), m) {
                 return RunsFound::Nothing;
@@ -174,23 +209,43 @@ pub fn allows_all_of<'a>(f: &'a [u8], s: &'a [u8], g: Home, i: usize, h: Home, j
 }
 
 // Is the method at a place static, or does what runs for own class b and its name allow all that it allows?
-fn method_passes<'a>(f: &'a [u8], s: &'a [u8], end: usize, b: usize, h: Home, at: usize) -> bool
+fn method_passes<'a>(
+    f: &'a [u8],
+    s: &'a [u8],
+    end: usize,
+    b: usize,
+    own: usize,
+    up: ClassFound,
+    h: Home,
+    at: usize,
+) -> bool
     requires { ⌜ MethodThere (now f) (now s) end b h at ⌝ }
+    requires { ⌜ OwnIs (now f) (now s) end b own up ⌝ }
     ensures { λ r. ⌜ MethodPasses (now (f .entry)) (now (s .entry)) end b h at r ⌝ }
 {
     let g = homes::file_of(f, s, h);
     if files::is_static(g, at) {
         return true;
     }
-    match running_method(f, s, end, b, files::name_of(g, at)) {
+    match running_method(f, s, end, b, own, up, files::name_of(g, at)) {
         RunsFound::At(x, m) => allows_all_of(f, s, x, m, h, at),
         RunsFound::Nothing => true,
     }
 }
 
 // Do all methods of class n of the package at a home pass for own class b?
-fn class_methods_pass<'a>(f: &'a [u8], s: &'a [u8], end: usize, b: usize, h: Home, n: usize) -> bool
+fn class_methods_pass<'a>(
+    f: &'a [u8],
+    s: &'a [u8],
+    end: usize,
+    b: usize,
+    own: usize,
+    up: ClassFound,
+    h: Home,
+    n: usize,
+) -> bool
     requires { ⌜ WalkThere (now f) (now s) end b h n ⌝ }
+    requires { ⌜ OwnIs (now f) (now s) end b own up ⌝ }
     ensures { λ r. ⌜ MethodsPass (now (f .entry)) (now (s .entry)) end b h n r ⌝ }
 {
     let g = homes::file_of(f, s, h);
@@ -198,7 +253,7 @@ fn class_methods_pass<'a>(f: &'a [u8], s: &'a [u8], end: usize, b: usize, h: Hom
     let mut left = wide(g[start]);
     let mut c = start + 1;
     while 0 < left {
-        if !method_passes(f, s, end, b, h, c) {
+        if !method_passes(f, s, end, b, own, up, h, c) {
             return false;
         }
         c = files::after_method(g, c);
@@ -230,12 +285,15 @@ fn class_passes<'a>(
     memo: &mut [u8; 65568],
     end: usize,
     b: usize,
+    own: usize,
+    up: ClassFound,
     h: Home,
     n: usize,
 ) -> bool
     requires { ⌜ WalkThere (now f) (now s) end b h n ⌝ }
     requires { ⌜ Marks (now f) (now s) end b (now memo) ⌝ }
     requires { ⌜ length (now s) ≤ 65535 ⌝ }
+    requires { ⌜ OwnIs (now f) (now s) end b own up ⌝ }
     ensures { λ r. ⌜ ClassPasses (now (f .entry)) (now (s .entry)) end b h n r ⌝ }
     ensures { λ r. ⌜ Marks (now (f .entry)) (now (s .entry)) end b (now (memo .exit)) ⌝ }
 {
@@ -243,11 +301,11 @@ fn class_passes<'a>(
     if is_marked(memo, at, b) {
         return true;
     }
-    if !class_methods_pass(f, s, end, b, h, n) {
+    if !class_methods_pass(f, s, end, b, own, up, h, n) {
         return false;
     }
     let count = parent_count(f, s, h, n);
-    if !parents_pass(f, s, memo, end, b, h, n, count) {
+    if !parents_pass(f, s, memo, end, b, own, up, h, n, count) {
         return false;
     }
     set_mark(memo, at, b);
@@ -261,6 +319,8 @@ fn parents_pass<'a>(
     memo: &mut [u8; 65568],
     end: usize,
     b: usize,
+    own: usize,
+    up: ClassFound,
     h: Home,
     n: usize,
     left: usize,
@@ -268,6 +328,7 @@ fn parents_pass<'a>(
     requires { ⌜ ParentsThere (now f) (now s) end b h n left ⌝ }
     requires { ⌜ Marks (now f) (now s) end b (now memo) ⌝ }
     requires { ⌜ (length (now s) ≤ 65535) × (left ≤ 4) ⌝ }
+    requires { ⌜ OwnIs (now f) (now s) end b own up ⌝ }
     ensures { λ r. ⌜ ParentsPass (now (f .entry)) (now (s .entry)) end b h n left r ⌝ }
     ensures { λ r. ⌜ Marks (now (f .entry)) (now (s .entry)) end b (now (memo .exit)) ⌝ }
 {
@@ -277,10 +338,10 @@ fn parents_pass<'a>(
     let p = parent_at(f, s, h, n, left - 1);
     let g = p.home;
     let m = p.number;
-    if !class_passes(f, s, memo, end, b, g, m) {
+    if !class_passes(f, s, memo, end, b, own, up, g, m) {
         return false;
     }
-    parents_pass(f, s, memo, end, b, h, n, left - 1)
+    parents_pass(f, s, memo, end, b, own, up, h, n, left - 1)
 }
 
 // Question 20 of own class b. For an interface nothing runs.
@@ -301,7 +362,11 @@ fn own_class_passes<'a>(
     if !is_kind0(f, s, h, b) {
         return true;
     }
-    class_passes(f, s, memo, end, b, h, b)
+    let up = kind0_parent(f, s, h, b);
+    match homes::class_place(f, s, h, b) {
+        Spot::At(own) => class_passes(f, s, memo, end, b, own, up, h, b),
+        Spot::Nothing => true,
+    }
 }
 
 // Question 20 of a file, over the entries of the store that end at a place.

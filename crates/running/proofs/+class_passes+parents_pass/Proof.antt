@@ -26,10 +26,10 @@ use Rattle.running.proofs.+class_passes+parents_pass.{statement}
 use Rattle.running.proofs.+class_passes+parents_pass.Tie.{close}
 
 abbrev μ-class-passes : Measures 2 class-passes-kinds.ps ℕ
-μ-class-passes κs a = 16 * (256 * a .1 .1 .1 .1 .1 .0 .before + a .1 .1 .1 .1 .1 .1 .0) + 15
+μ-class-passes κs a = 16 * (256 * a .1 .1 .1 .1 .1 .1 .1 .0 .before + a .1 .1 .1 .1 .1 .1 .1 .1 .0) + 15
 
 abbrev μ-parents-pass : Measures 2 parents-pass-kinds.ps ℕ
-μ-parents-pass κs a = 16 * (256 * a .1 .1 .1 .1 .1 .0 .before + a .1 .1 .1 .1 .1 .1 .0) + a .1 .1 .1 .1 .1 .1 .1 .0
+μ-parents-pass κs a = 16 * (256 * a .1 .1 .1 .1 .1 .1 .1 .0 .before + a .1 .1 .1 .1 .1 .1 .1 .1 .0) + a .1 .1 .1 .1 .1 .1 .1 .1 .1 .0
 
 abbrev class-passes-at : ℕ → In 2 class-passes-kinds.ps
 class-passes-at t =
@@ -67,7 +67,7 @@ class-passes-add-at : (t : ℕ) → class-passes-lts.Need-add-at (
   set-mark-reads.Asked,
   set-mark-reads.Learnt,
 ) (class-passes-at t) class-passes.Post
-class-passes-add-at t c = omega (arith, walk.key-inside (now (c .before .before .before .args .f)) (now (c .before .before .before .args .s)) (c .before .before .before .args .end) (c .before .before .before .args .b) (c .before .before .before .args .h) (c .before .before .before .args .n) (c .before .before .before .pre .1 .1 .1) (c .before .before .before .pre .1 .0))
+class-passes-add-at t c = omega (arith, walk.key-inside (now (c .before .before .before .args .f)) (now (c .before .before .before .args .s)) (c .before .before .before .args .end) (c .before .before .before .args .b) (c .before .before .before .args .h) (c .before .before .before .args .n) (c .before .before .before .pre .1 .1 .1 .0) (c .before .before .before .pre .1 .0))
 
 class-passes-is-marked-requires : (t : ℕ) → class-passes-lts.Need-is-marked-requires (
   is-marked-reads.Asked,
@@ -81,7 +81,7 @@ class-passes-is-marked-requires : (t : ℕ) → class-passes-lts.Need-is-marked-
   set-mark-reads.Asked,
   set-mark-reads.Learnt,
 ) (class-passes-at t) class-passes.Post
-class-passes-is-marked-requires t c κs = ((c .before .before .before .before .pre .1 .1 .0) .size, walk.key-inside (now (c .before .before .before .before .args .f)) (now (c .before .before .before .before .args .s)) (c .before .before .before .before .args .end) (c .before .before .before .before .args .b) (c .before .before .before .before .args .h) (c .before .before .before .before .args .n) (c .before .before .before .before .pre .1 .1 .1) (c .before .before .before .before .pre .1 .0), walk.own-small (now (c .before .before .before .before .args .f)) (now (c .before .before .before .before .args .s)) (c .before .before .before .before .args .end) (c .before .before .before .before .args .b) (c .before .before .before .before .args .h) (c .before .before .before .before .args .n) (c .before .before .before .before .pre .1 .0))
+class-passes-is-marked-requires t c κs = ((c .before .before .before .before .pre .1 .1 .0) .size, walk.key-inside (now (c .before .before .before .before .args .f)) (now (c .before .before .before .before .args .s)) (c .before .before .before .before .args .end) (c .before .before .before .before .args .b) (c .before .before .before .before .args .h) (c .before .before .before .before .args .n) (c .before .before .before .before .pre .1 .1 .1 .0) (c .before .before .before .before .pre .1 .0), walk.own-small (now (c .before .before .before .before .args .f)) (now (c .before .before .before .before .args .s)) (c .before .before .before .before .args .end) (c .before .before .before .before .args .b) (c .before .before .before .before .args .h) (c .before .before .before .before .args .n) (c .before .before .before .before .pre .1 .0))
 
 class-passes-returns : (t : ℕ) → class-passes-lts.Need-returns (
   is-marked-reads.Asked,
@@ -110,7 +110,7 @@ class-passes-class-methods-pass-requires :
       set-mark-reads.Asked,
       set-mark-reads.Learnt,
     ) (class-passes-at t) class-passes.Post
-class-passes-class-methods-pass-requires t c κs = (c .before .before .before .before .before .before .pre .1 .0)
+class-passes-class-methods-pass-requires t c κs = ((c .before .before .before .before .before .before .pre .1 .0), (c .before .before .before .before .before .before .pre .1 .1 .1 .1))
 
 class-passes-returns-2 : (t : ℕ) → class-passes-lts.Need-returns-2 (
   is-marked-reads.Asked,
@@ -152,7 +152,7 @@ class-passes-parents-pass-requires : (t : ℕ) → class-passes-lts.Need-parents
   set-mark-reads.Asked,
   set-mark-reads.Learnt,
 ) (class-passes-at t) class-passes.Post
-class-passes-parents-pass-requires t c κs = (omega (arith, c .before .before .before .before .before .before .before .before .before .before .pre .0, c .before .parent-count .ensures .1), (walk.parents-all (now (c .before .before .before .before .before .before .before .before .before .before .args .f)) (now (c .before .before .before .before .before .before .before .before .before .before .args .s)) (c .before .before .before .before .before .before .before .before .before .before .args .end) (c .before .before .before .before .before .before .before .before .before .before .args .b) (c .before .before .before .before .before .before .before .before .before .before .args .h) (c .before .before .before .before .before .before .before .before .before .before .args .n) (c .before .parent-count .result) (c .before .parent-count .ensures .0) (c .before .before .before .before .before .before .before .before .before .before .pre .1 .0), ((c .before .before .before .before .before .before .before .before .before .before .pre .1 .1 .0), ((c .before .before .before .before .before .before .before .before .before .before .pre .1 .1 .1), c .before .parent-count .ensures .1))))
+class-passes-parents-pass-requires t c κs = (omega (arith, c .before .before .before .before .before .before .before .before .before .before .pre .0, c .before .parent-count .ensures .1), (walk.parents-all (now (c .before .before .before .before .before .before .before .before .before .before .args .f)) (now (c .before .before .before .before .before .before .before .before .before .before .args .s)) (c .before .before .before .before .before .before .before .before .before .before .args .end) (c .before .before .before .before .before .before .before .before .before .before .args .b) (c .before .before .before .before .before .before .before .before .before .before .args .h) (c .before .before .before .before .before .before .before .before .before .before .args .n) (c .before .parent-count .result) (c .before .parent-count .ensures .0) (c .before .before .before .before .before .before .before .before .before .before .pre .1 .0), ((c .before .before .before .before .before .before .before .before .before .before .pre .1 .1 .0), (((c .before .before .before .before .before .before .before .before .before .before .pre .1 .1 .1 .0), c .before .parent-count .ensures .1), c .before .before .before .before .before .before .before .before .before .before .pre .1 .1 .1 .1))))
 
 class-passes-returns-3 : (t : ℕ) → class-passes-lts.Need-returns-3 (
   is-marked-reads.Asked,
@@ -180,7 +180,7 @@ class-passes-set-mark-requires : (t : ℕ) → class-passes-lts.Need-set-mark-re
   set-mark-reads.Asked,
   set-mark-reads.Learnt,
 ) (class-passes-at t) class-passes.Post
-class-passes-set-mark-requires t c κs = (c .before .before .parents-pass .ensures .1 .size, walk.key-inside (now (c .before .before .before .before .before .before .before .before .before .before .before .before .before .args .f)) (now (c .before .before .before .before .before .before .before .before .before .before .before .before .before .args .s)) (c .before .before .before .before .before .before .before .before .before .before .before .before .before .args .end) (c .before .before .before .before .before .before .before .before .before .before .before .before .before .args .b) (c .before .before .before .before .before .before .before .before .before .before .before .before .before .args .h) (c .before .before .before .before .before .before .before .before .before .before .before .before .before .args .n) (c .before .before .before .before .before .before .before .before .before .before .before .before .before .pre .1 .1 .1) (c .before .before .before .before .before .before .before .before .before .before .before .before .before .pre .1 .0), walk.own-small (now (c .before .before .before .before .before .before .before .before .before .before .before .before .before .args .f)) (now (c .before .before .before .before .before .before .before .before .before .before .before .before .before .args .s)) (c .before .before .before .before .before .before .before .before .before .before .before .before .before .args .end) (c .before .before .before .before .before .before .before .before .before .before .before .before .before .args .b) (c .before .before .before .before .before .before .before .before .before .before .before .before .before .args .h) (c .before .before .before .before .before .before .before .before .before .before .before .before .before .args .n) (c .before .before .before .before .before .before .before .before .before .before .before .before .before .pre .1 .0))
+class-passes-set-mark-requires t c κs = (c .before .before .parents-pass .ensures .1 .size, walk.key-inside (now (c .before .before .before .before .before .before .before .before .before .before .before .before .before .args .f)) (now (c .before .before .before .before .before .before .before .before .before .before .before .before .before .args .s)) (c .before .before .before .before .before .before .before .before .before .before .before .before .before .args .end) (c .before .before .before .before .before .before .before .before .before .before .before .before .before .args .b) (c .before .before .before .before .before .before .before .before .before .before .before .before .before .args .h) (c .before .before .before .before .before .before .before .before .before .before .before .before .before .args .n) (c .before .before .before .before .before .before .before .before .before .before .before .before .before .pre .1 .1 .1 .0) (c .before .before .before .before .before .before .before .before .before .before .before .before .before .pre .1 .0), walk.own-small (now (c .before .before .before .before .before .before .before .before .before .before .before .before .before .args .f)) (now (c .before .before .before .before .before .before .before .before .before .before .before .before .before .args .s)) (c .before .before .before .before .before .before .before .before .before .before .before .before .before .args .end) (c .before .before .before .before .before .before .before .before .before .before .before .before .before .args .b) (c .before .before .before .before .before .before .before .before .before .before .before .before .before .args .h) (c .before .before .before .before .before .before .before .before .before .before .before .before .before .args .n) (c .before .before .before .before .before .before .before .before .before .before .before .before .before .pre .1 .0))
 
 class-passes-returns-4 : (t : ℕ) → class-passes-lts.Need-returns-4 (
   is-marked-reads.Asked,
@@ -194,7 +194,7 @@ class-passes-returns-4 : (t : ℕ) → class-passes-lts.Need-returns-4 (
   set-mark-reads.Asked,
   set-mark-reads.Learnt,
 ) (class-passes-at t) class-passes.Post
-class-passes-returns-4 t c = ((walk.class-yes (now (c .before .before .before .before .before .before .before .before .before .before .before .before .before .before .args .f)) (now (c .before .before .before .before .before .before .before .before .before .before .before .before .before .before .args .s)) (c .before .before .before .before .before .before .before .before .before .before .before .before .before .before .args .end) (c .before .before .before .before .before .before .before .before .before .before .before .before .before .before .args .b) (c .before .before .before .before .before .before .before .before .before .before .before .before .before .before .args .h) (c .before .before .before .before .before .before .before .before .before .before .before .before .before .before .args .n) (c .before .before .before .before .before .parent-count .result) (subst (λ (v : Bool). MethodsPass (now (c .before .before .before .before .before .before .before .before .before .before .before .before .before .before .args .f)) (now (c .before .before .before .before .before .before .before .before .before .before .before .before .before .before .args .s)) (c .before .before .before .before .before .before .before .before .before .before .before .before .before .before .args .end) (c .before .before .before .before .before .before .before .before .before .before .before .before .before .before .args .b) (c .before .before .before .before .before .before .before .before .before .before .before .before .before .before .args .h) (c .before .before .before .before .before .before .before .before .before .before .before .before .before .before .args .n) v) (records.not-no (c .before .before .before .before .before .before .before .class-methods-pass .result) (c .before .before .before .before .before .before .if2 .left)) (c .before .before .before .before .before .before .before .class-methods-pass .ensures)) (c .before .before .before .before .before .parent-count .ensures .0) (subst (λ (v : Bool). ParentsPass (now (c .before .before .before .before .before .before .before .before .before .before .before .before .before .before .args .f)) (now (c .before .before .before .before .before .before .before .before .before .before .before .before .before .before .args .s)) (c .before .before .before .before .before .before .before .before .before .before .before .before .before .before .args .end) (c .before .before .before .before .before .before .before .before .before .before .before .before .before .before .args .b) (c .before .before .before .before .before .before .before .before .before .before .before .before .before .before .args .h) (c .before .before .before .before .before .before .before .before .before .before .before .before .before .before .args .n) (c .before .before .before .before .before .parent-count .result) v) (records.not-no (c .before .before .before .parents-pass .result) (c .before .before .if3 .left)) (c .before .before .before .parents-pass .ensures .0))), walk.mark-after (now (c .before .before .before .before .before .before .before .before .before .before .before .before .before .before .args .f)) (now (c .before .before .before .before .before .before .before .before .before .before .before .before .before .before .args .s)) (c .before .before .before .before .before .before .before .before .before .before .before .before .before .before .args .end) (c .before .before .before .before .before .before .before .before .before .before .before .before .before .before .args .b) (c .before .before .before .before .before .before .before .before .before .before .before .before .before .before .args .h) (c .before .before .before .before .before .before .before .before .before .before .before .before .before .before .args .n) _ (c .before .before .before .parents-pass .ensures .1) (c .before .before .before .before .before .before .before .before .before .before .before .before .before .before .pre .1 .1 .1) (c .before .before .before .before .before .before .before .before .before .before .before .before .before .before .pre .1 .0) (walk.class-yes (now (c .before .before .before .before .before .before .before .before .before .before .before .before .before .before .args .f)) (now (c .before .before .before .before .before .before .before .before .before .before .before .before .before .before .args .s)) (c .before .before .before .before .before .before .before .before .before .before .before .before .before .before .args .end) (c .before .before .before .before .before .before .before .before .before .before .before .before .before .before .args .b) (c .before .before .before .before .before .before .before .before .before .before .before .before .before .before .args .h) (c .before .before .before .before .before .before .before .before .before .before .before .before .before .before .args .n) (c .before .before .before .before .before .parent-count .result) (subst (λ (v : Bool). MethodsPass (now (c .before .before .before .before .before .before .before .before .before .before .before .before .before .before .args .f)) (now (c .before .before .before .before .before .before .before .before .before .before .before .before .before .before .args .s)) (c .before .before .before .before .before .before .before .before .before .before .before .before .before .before .args .end) (c .before .before .before .before .before .before .before .before .before .before .before .before .before .before .args .b) (c .before .before .before .before .before .before .before .before .before .before .before .before .before .before .args .h) (c .before .before .before .before .before .before .before .before .before .before .before .before .before .before .args .n) v) (records.not-no (c .before .before .before .before .before .before .before .class-methods-pass .result) (c .before .before .before .before .before .before .if2 .left)) (c .before .before .before .before .before .before .before .class-methods-pass .ensures)) (c .before .before .before .before .before .parent-count .ensures .0) (subst (λ (v : Bool). ParentsPass (now (c .before .before .before .before .before .before .before .before .before .before .before .before .before .before .args .f)) (now (c .before .before .before .before .before .before .before .before .before .before .before .before .before .before .args .s)) (c .before .before .before .before .before .before .before .before .before .before .before .before .before .before .args .end) (c .before .before .before .before .before .before .before .before .before .before .before .before .before .before .args .b) (c .before .before .before .before .before .before .before .before .before .before .before .before .before .before .args .h) (c .before .before .before .before .before .before .before .before .before .before .before .before .before .before .args .n) (c .before .before .before .before .before .parent-count .result) v) (records.not-no (c .before .before .before .parents-pass .result) (c .before .before .if3 .left)) (c .before .before .before .parents-pass .ensures .0))) _ (c .set-mark .ensures))
+class-passes-returns-4 t c = ((walk.class-yes (now (c .before .before .before .before .before .before .before .before .before .before .before .before .before .before .args .f)) (now (c .before .before .before .before .before .before .before .before .before .before .before .before .before .before .args .s)) (c .before .before .before .before .before .before .before .before .before .before .before .before .before .before .args .end) (c .before .before .before .before .before .before .before .before .before .before .before .before .before .before .args .b) (c .before .before .before .before .before .before .before .before .before .before .before .before .before .before .args .h) (c .before .before .before .before .before .before .before .before .before .before .before .before .before .before .args .n) (c .before .before .before .before .before .parent-count .result) (subst (λ (v : Bool). MethodsPass (now (c .before .before .before .before .before .before .before .before .before .before .before .before .before .before .args .f)) (now (c .before .before .before .before .before .before .before .before .before .before .before .before .before .before .args .s)) (c .before .before .before .before .before .before .before .before .before .before .before .before .before .before .args .end) (c .before .before .before .before .before .before .before .before .before .before .before .before .before .before .args .b) (c .before .before .before .before .before .before .before .before .before .before .before .before .before .before .args .h) (c .before .before .before .before .before .before .before .before .before .before .before .before .before .before .args .n) v) (records.not-no (c .before .before .before .before .before .before .before .class-methods-pass .result) (c .before .before .before .before .before .before .if2 .left)) (c .before .before .before .before .before .before .before .class-methods-pass .ensures)) (c .before .before .before .before .before .parent-count .ensures .0) (subst (λ (v : Bool). ParentsPass (now (c .before .before .before .before .before .before .before .before .before .before .before .before .before .before .args .f)) (now (c .before .before .before .before .before .before .before .before .before .before .before .before .before .before .args .s)) (c .before .before .before .before .before .before .before .before .before .before .before .before .before .before .args .end) (c .before .before .before .before .before .before .before .before .before .before .before .before .before .before .args .b) (c .before .before .before .before .before .before .before .before .before .before .before .before .before .before .args .h) (c .before .before .before .before .before .before .before .before .before .before .before .before .before .before .args .n) (c .before .before .before .before .before .parent-count .result) v) (records.not-no (c .before .before .before .parents-pass .result) (c .before .before .if3 .left)) (c .before .before .before .parents-pass .ensures .0))), walk.mark-after (now (c .before .before .before .before .before .before .before .before .before .before .before .before .before .before .args .f)) (now (c .before .before .before .before .before .before .before .before .before .before .before .before .before .before .args .s)) (c .before .before .before .before .before .before .before .before .before .before .before .before .before .before .args .end) (c .before .before .before .before .before .before .before .before .before .before .before .before .before .before .args .b) (c .before .before .before .before .before .before .before .before .before .before .before .before .before .before .args .h) (c .before .before .before .before .before .before .before .before .before .before .before .before .before .before .args .n) _ (c .before .before .before .parents-pass .ensures .1) (c .before .before .before .before .before .before .before .before .before .before .before .before .before .before .pre .1 .1 .1 .0) (c .before .before .before .before .before .before .before .before .before .before .before .before .before .before .pre .1 .0) (walk.class-yes (now (c .before .before .before .before .before .before .before .before .before .before .before .before .before .before .args .f)) (now (c .before .before .before .before .before .before .before .before .before .before .before .before .before .before .args .s)) (c .before .before .before .before .before .before .before .before .before .before .before .before .before .before .args .end) (c .before .before .before .before .before .before .before .before .before .before .before .before .before .before .args .b) (c .before .before .before .before .before .before .before .before .before .before .before .before .before .before .args .h) (c .before .before .before .before .before .before .before .before .before .before .before .before .before .before .args .n) (c .before .before .before .before .before .parent-count .result) (subst (λ (v : Bool). MethodsPass (now (c .before .before .before .before .before .before .before .before .before .before .before .before .before .before .args .f)) (now (c .before .before .before .before .before .before .before .before .before .before .before .before .before .before .args .s)) (c .before .before .before .before .before .before .before .before .before .before .before .before .before .before .args .end) (c .before .before .before .before .before .before .before .before .before .before .before .before .before .before .args .b) (c .before .before .before .before .before .before .before .before .before .before .before .before .before .before .args .h) (c .before .before .before .before .before .before .before .before .before .before .before .before .before .before .args .n) v) (records.not-no (c .before .before .before .before .before .before .before .class-methods-pass .result) (c .before .before .before .before .before .before .if2 .left)) (c .before .before .before .before .before .before .before .class-methods-pass .ensures)) (c .before .before .before .before .before .parent-count .ensures .0) (subst (λ (v : Bool). ParentsPass (now (c .before .before .before .before .before .before .before .before .before .before .before .before .before .before .args .f)) (now (c .before .before .before .before .before .before .before .before .before .before .before .before .before .before .args .s)) (c .before .before .before .before .before .before .before .before .before .before .before .before .before .before .args .end) (c .before .before .before .before .before .before .before .before .before .before .before .before .before .before .args .b) (c .before .before .before .before .before .before .before .before .before .before .before .before .before .before .args .h) (c .before .before .before .before .before .before .before .before .before .before .before .before .before .before .args .n) (c .before .before .before .before .before .parent-count .result) v) (records.not-no (c .before .before .before .parents-pass .result) (c .before .before .if3 .left)) (c .before .before .before .parents-pass .ensures .0))) _ (c .set-mark .ensures))
 
 parents-pass-returns : (t : ℕ) → parents-pass-lts.Need-returns (
   parent-at-reads.Asked,
@@ -234,7 +234,7 @@ parents-pass-class-passes-requires : (t : ℕ) → parents-pass-lts.Need-class-p
   parents-pass-below t,
   parents-pass.Post,
 ) (parents-pass-at t) parents-pass.Post
-parents-pass-class-passes-requires t c κs = (omega (arith, c .before .before .before .before .before .before .pre .0, walk.parent-rank (now (c .before .before .before .before .before .before .args .f)) (now (c .before .before .before .before .before .before .args .s)) (c .before .before .before .before .before .before .args .end) (c .before .before .before .before .before .before .args .b) (c .before .before .before .before .before .before .args .h) (c .before .before .before .before .before .before .args .n) (c .before .before .before .before .before .before .args .left) (c .before .before .before .if1 .left) (c .before .before .parent-at .result) (c .before .before .parent-at .ensures) (c .before .before .before .before .before .before .pre .1 .0)), (walk.parent-walk (now (c .before .before .before .before .before .before .args .f)) (now (c .before .before .before .before .before .before .args .s)) (c .before .before .before .before .before .before .args .end) (c .before .before .before .before .before .before .args .b) (c .before .before .before .before .before .before .args .h) (c .before .before .before .before .before .before .args .n) (c .before .before .before .before .before .before .args .left) (c .before .before .before .if1 .left) (c .before .before .parent-at .result) (c .before .before .parent-at .ensures) (c .before .before .before .before .before .before .pre .1 .0), ((c .before .before .before .before .before .before .pre .1 .1 .0), (c .before .before .before .before .before .before .pre .1 .1 .1 .0))))
+parents-pass-class-passes-requires t c κs = (omega (arith, c .before .before .before .before .before .before .pre .0, walk.parent-rank (now (c .before .before .before .before .before .before .args .f)) (now (c .before .before .before .before .before .before .args .s)) (c .before .before .before .before .before .before .args .end) (c .before .before .before .before .before .before .args .b) (c .before .before .before .before .before .before .args .h) (c .before .before .before .before .before .before .args .n) (c .before .before .before .before .before .before .args .left) (c .before .before .before .if1 .left) (c .before .before .parent-at .result) (c .before .before .parent-at .ensures) (c .before .before .before .before .before .before .pre .1 .0)), (walk.parent-walk (now (c .before .before .before .before .before .before .args .f)) (now (c .before .before .before .before .before .before .args .s)) (c .before .before .before .before .before .before .args .end) (c .before .before .before .before .before .before .args .b) (c .before .before .before .before .before .before .args .h) (c .before .before .before .before .before .before .args .n) (c .before .before .before .before .before .before .args .left) (c .before .before .before .if1 .left) (c .before .before .parent-at .result) (c .before .before .parent-at .ensures) (c .before .before .before .before .before .before .pre .1 .0), ((c .before .before .before .before .before .before .pre .1 .1 .0), ((c .before .before .before .before .before .before .pre .1 .1 .1 .0 .0), (c .before .before .before .before .before .before .pre .1 .1 .1 .1)))))
 
 parents-pass-returns-2 : (t : ℕ) → parents-pass-lts.Need-returns-2 (
   parent-at-reads.Asked,
@@ -264,7 +264,7 @@ parents-pass-parents-pass-requires : (t : ℕ) → parents-pass-lts.Need-parents
   parents-pass-below t,
   parents-pass.Post,
 ) (parents-pass-at t) parents-pass.Post
-parents-pass-parents-pass-requires t c κs = (omega (arith, c .before .before .before .before .before .before .before .before .before .pre .0, c .before .before .before .before .before .before .if1 .left), (walk.rest-there (now (c .before .before .before .before .before .before .before .before .before .args .f)) (now (c .before .before .before .before .before .before .before .before .before .args .s)) (c .before .before .before .before .before .before .before .before .before .args .end) (c .before .before .before .before .before .before .before .before .before .args .b) (c .before .before .before .before .before .before .before .before .before .args .h) (c .before .before .before .before .before .before .before .before .before .args .n) (c .before .before .before .before .before .before .before .before .before .args .left) (c .before .before .before .before .before .before .if1 .left) (c .before .before .before .before .before .before .before .before .before .pre .1 .0), (c .before .before .class-passes .ensures .1, ((c .before .before .before .before .before .before .before .before .before .pre .1 .1 .1 .0), omega (arith, c .before .before .before .before .before .before .before .before .before .pre .1 .1 .1 .1)))))
+parents-pass-parents-pass-requires t c κs = (omega (arith, c .before .before .before .before .before .before .before .before .before .pre .0, c .before .before .before .before .before .before .if1 .left), (walk.rest-there (now (c .before .before .before .before .before .before .before .before .before .args .f)) (now (c .before .before .before .before .before .before .before .before .before .args .s)) (c .before .before .before .before .before .before .before .before .before .args .end) (c .before .before .before .before .before .before .before .before .before .args .b) (c .before .before .before .before .before .before .before .before .before .args .h) (c .before .before .before .before .before .before .before .before .before .args .n) (c .before .before .before .before .before .before .before .before .before .args .left) (c .before .before .before .before .before .before .if1 .left) (c .before .before .before .before .before .before .before .before .before .pre .1 .0), (c .before .before .class-passes .ensures .1, (((c .before .before .before .before .before .before .before .before .before .pre .1 .1 .1 .0 .0), omega (arith, c .before .before .before .before .before .before .before .before .before .pre .1 .1 .1 .0 .1)), c .before .before .before .before .before .before .before .before .before .pre .1 .1 .1 .1))))
 
 parents-pass-returns-3 : (t : ℕ) → parents-pass-lts.Need-returns-3 (
   parent-at-reads.Asked,
