@@ -1,22 +1,21 @@
 -- Questions 18 and 19 over the calls of a code, the methods of a class, the classes of a file: start, turn and end. Assumes nothing.
 use Prim.Native.Nat.{ℕ, _+_, _-_, _≤_, _<_}
+use native.Mathlib.Omega.{arith}
 use mathlib.Core.Path.{_≡_, sym, _∙_, ap, subst}
-use mathlib.Core.Bool.{Bool, true, false, _&&_, _||_, not}
+use mathlib.Core.Bool.{Bool, true, false, _||_, not}
 use mathlib.Core.List.{List, [], _∷_}
-use lib.Dec.{T}
+use lib.Dec.{T, eqb}
 use lib.ListN.{length, getD}
-use Rattle.rules.specs.Bytes.{Bytes, Aid, Reader, all, u1, many, counted}
+use Rattle.rules.specs.Bytes.{Bytes, Aid, Reader, pick, all, u1, many, counted}
 use Rattle.rules.specs.Code.{Call, splitFrom, codeSplits, callsOf}
 use Rattle.rules.specs.Package.{Limits, standard, mostMethods, mostClasses, Method, codeIf, method, class}
 use Rattle.rules.specs.Store.{Entry}
 use Rattle.rules.specs.Classes.{Installed}
 use Rattle.rules.specs.Questions.{q16-splits, q18-calls, q19-allowed, ownMethod}
 use Rattle.rules.proofs.Tests.{and-l, and-r}
-use Rattle.places.specs.Reads.{Reads, EndsAt, Tracks}
+use Rattle.places.specs.Reads.{Reads, EndsAt}
 use Rattle.places.proofs.Steady.{Steady, steady-u1, steady-method, steady-class}
 use Rattle.places.proofs.Inverse.{reads-left, reads-counted, reads-u1}
-use Rattle.places.proofs.Track.{track-start}
-use Rattle.places.proofs.Search.{each-hit, each-miss, each-none}
 use Rattle.places.proofs.Parts.{code-none, method-part}
 use Rattle.files.specs.Say.{CodeIs, MethodsAt, ClassesAt, AfterMethod, AfterClass}
 use Rattle.files.proofs.Walks.{classes-read}
@@ -24,13 +23,12 @@ use Rattle.codes.specs.Calls.{kindOf, SplitsFrom, callsFrom}
 use Rattle.codes.specs.declared.Calling.{Calling}
 use Rattle.codes.proofs.Calls.{calls-start, splits-start}
 use Rattle.homes.specs.Homes.{Imports, own}
-use Rattle.calls.specs.Codes.{codeTest, classTest}
+use Rattle.calls.specs.Codes.{codeTest, classTest, numberOf}
 use Rattle.calls.specs.Named.{Judged, CallNamedIs}
+use Rattle.calls.specs.Maps.{Numbering, DomainMap}
 use Rattle.calls.specs.Rights.{CallAllowedIs}
-use Rattle.calls.specs.Calls.{Asking, MethodOf, callAsks, methodAsks, classAsks, Reading, OwnMethod, OwnClass, CodesSplit, CallIs, MethodCallsAre, ClassCallsAre, FileCallsAre, CallsNamed, CallsAllowed}
-use Rattle.calls.specs.declared.Ask.{Ask}
-use Rattle.calls.specs.declared.Ask.the-variants.{Names, Allowed}
-use Rattle.calls.proofs.Numbers.{allFrom-all}
+use Rattle.calls.specs.Calls.{Asking, MethodOf, callNames, methodNames, classNames, callAllows, methodAllows, classAllows, Reading, OwnMethod, OwnClass, CodesSplit, CallNumberIs, MethodCallsAre, ClassCallsAre, FileCallsAre, CallsNumberIs}
+use Rattle.calls.proofs.Numbers.{allFrom-all, listNumber, number-first, number-on, NumberLoop, numbers-start, numbers-first, numbers-on, numbers-done}
 
 -- a code that there is not, or that splits, splits from offset 0
 splits-from : (l : Limits) (s : Bytes) (i : ℕ) (b : Bool) (c : Bytes) (j : ℕ) → Reads (codeIf l b) s i c j → T (not b || codeSplits c) → SplitsFrom c 0
@@ -38,48 +36,55 @@ unfolding SplitsFrom splitFrom
 splits-from l s i false c j p t = let z = code-none l s i c j p in rw (← z .0) tt
 splits-from l s i true c j p t = splits-start c t
 
--- the question of one call
-module _ {f s : Bytes} {end : ℕ} {d : Aid} {i index : ℕ} {r : Bool} (kind : Calling) where
-  pub call-names : CallNamedIs f s end kind index r → CallIs f s end d Names i kind index r
-  call-names h a m j p = h (a .es) (a .self) (a .imports)
+-- one call
+module _ {f s : Bytes} {end : ℕ} {d : Numbering} {i index : ℕ} (kind : Calling) where
+  pub call-18 : CallNamedIs f s end kind index false → CallNumberIs f s end d i kind index 18
+  call-18 h a m j p = rw (← h (a .es) (a .self) (a .imports))
 
-  pub call-allows : CallAllowedIs f s end d i index r → CallIs f s end d Allowed i kind index r
-  call-allows h a m j p = h (a .es) (a .self) (a .imports) (a .loads) (ownMethod (a .self) 0 m) (record { lies = own; to = j; reads = p })
+  pub call-19 : CallNamedIs f s end kind index true → CallAllowedIs f s end d i index false → CallNumberIs f s end d i kind index 19
+  call-19 h g a m j p = rw (← h (a .es) (a .self) (a .imports), ← g (a .es) (a .self) (a .imports) (a .maps) (ownMethod (a .self) 0 m) (record { lies = own; to = j; reads = p }))
 
--- the calls of the method at i, of which those from an offset on are left
-pub record CallLoop (f s : Bytes) (end : ℕ) (d : Aid) (q : Ask) (i : ℕ) (code : Bytes) (from : ℕ) : Type 0 where
+  pub call-0 : CallNamedIs f s end kind index true → CallAllowedIs f s end d i index true → CallNumberIs f s end d i kind index 0
+  call-0 h g a m j p = rw (← h (a .es) (a .self) (a .imports), ← g (a .es) (a .self) (a .imports) (a .maps) (ownMethod (a .self) 0 m) (record { lies = own; to = j; reads = p }))
+
+-- the calls of the method at i, of which those from an offset on are left after an earlier number
+pub record CallLoop (f s : Bytes) (end : ℕ) (d : Numbering) (i : ℕ) (code : Bytes) (from past : ℕ) : Type 0 where
   pub splits : SplitsFrom code from
-  pub left : (a : Asking f s end d q) (m : Method) (j : ℕ) → MethodOf a i m j → methodAsks a m ≡ all (callAsks a m) (callsFrom code from)
+  pub left : (a : Asking f s end d) (m : Method) (j : ℕ) → MethodOf a i m j →
+      numberOf 18 19 0 (methodNames a m) (methodAllows a m) ≡ listNumber 18 19 (callNames a) (callAllows a m) past (callsFrom code from)
 
-module _ {f s : Bytes} {end : ℕ} {d : Aid} {q : Ask} {i : ℕ} (code : Bytes) where
-  pub calls-begin : CodeIs f i code → OwnMethod f s end i → CallLoop f s end d q i code 0
+module _ {f s : Bytes} {end : ℕ} {d : Numbering} {i : ℕ} (code : Bytes) where
+  pub calls-begin : CodeIs f i code → OwnMethod f s end i → CallLoop f s end d i code 0 0
   calls-begin h g =
       let ds = g .1 .pack .domains in
       let m = g .3 .0 in
       let t = method-part standard ds f i m (g .3 .1) (g .3 .2) in
       record {
         splits = rw (h standard ds m (g .3 .1) (g .3 .2)) (splits-from standard f (t .middle) (m .implemented) (m .code) (g .3 .1) (t .code) (g .3 .3));
-        left = λ a m j p. ap (all (callAsks a m)) (ap callsOf (sym (h standard (a .self .pack .domains) m j p)) ∙ sym (calls-start code));
+        left = λ a m j p. ap (listNumber 18 19 (callNames a) (callAllows a m) 0) (ap callsOf (sym (h standard (a .self .pack .domains) m j p)) ∙ sym (calls-start code));
       }
 
-  module _ (from : ℕ) (t : CallLoop f s end d q i code from) where
-    pub calls-end : callsFrom code from ≡ [] → MethodCallsAre f s end d q i true
-    calls-end e a m j p = sym (t .left a m j p ∙ ap (all (callAsks a m)) e)
+  module _ (from past : ℕ) (t : CallLoop f s end d i code from past) where
+    pub calls-end : callsFrom code from ≡ [] → MethodCallsAre f s end d i past
+    calls-end e a m j p = sym (t .left a m j p ∙ ap (listNumber 18 19 (callNames a) (callAllows a m) past) e)
 
-    module _ (kind : Calling) (index to : ℕ) (e : callsFrom code from ≡ record { kind = kindOf kind; index = index } ∷ callsFrom code to) where
-      pub calls-hit : CallIs f s end d q i kind index false → MethodCallsAre f s end d q i false
-      calls-hit h a m j p =
+    module _ (kind : Calling) (index to : ℕ) (e : callsFrom code from ≡ record { kind = kindOf kind; index = index } ∷ callsFrom code to) (n : ℕ) (h : CallNumberIs f s end d i kind index n) where
+      pub calls-18 : n ≡ 18 → MethodCallsAre f s end d i 18
+      calls-18 z a m j p =
           let c : Call = record { kind = kindOf kind; index = index } in
-          let z : callAsks a m c ≡ false = sym (h a m j p) in
-          sym (t .left a m j p ∙ ap (all (callAsks a m)) e ∙ ap (λ (b : Bool). b && all (callAsks a m) (callsFrom code to)) z)
+          let cs = callsFrom code to in
+          sym (t .left a m j p ∙ ap (listNumber 18 19 (callNames a) (callAllows a m) past) e
+          ∙ number-first 18 19 (omega arith) (omega arith) past n (callNames a c) (callAllows a m c) (all (callNames a) cs) (all (callAllows a m) cs) (h a m j p) z)
 
-      pub calls-on : SplitsFrom code to → CallIs f s end d q i kind index true → CallLoop f s end d q i code to
-      calls-on k h = record {
+      pub calls-on : (n ≡ 18 → ⊥) → SplitsFrom code to → (b : ℕ) → b ≡ pick (eqb n 0) past n → CallLoop f s end d i code to b
+      calls-on z k b w = record {
         splits = k;
         left = λ a m j p.
             let c : Call = record { kind = kindOf kind; index = index } in
-            let z : callAsks a m c ≡ true = sym (h a m j p) in
-            t .left a m j p ∙ ap (all (callAsks a m)) e ∙ ap (λ (b : Bool). b && all (callAsks a m) (callsFrom code to)) z;
+            let cs = callsFrom code to in
+            t .left a m j p ∙ ap (listNumber 18 19 (callNames a) (callAllows a m) past) e
+            ∙ number-on 18 19 (omega arith) (omega arith) past n (callNames a c) (callAllows a m c) (all (callNames a) cs) (all (callAllows a m) cs) (h a m j p) z
+            ∙ ap (λ (x : ℕ). listNumber 18 19 (callNames a) (callAllows a m) x cs) (sym w);
       }
 
 -- of a list, each element of which passes a test
@@ -104,79 +109,73 @@ module _ {A : Type 0} (r : Reader A) (steady : Steady r) (p : A → Bool) (s : B
         (z .others, x .1, rw (e (z .one) (z .place) (z .reads)) (z .rest), and-r (p (z .one)) (all p (z .others)) t)
 
 -- The loop over the list at i of the file being judged, that a reader with its domains reads: `left` elements are still to be read
--- at c; each passes t, and the answer P for all of the list is that for these.
-pub record AskLoop {A : Type 0} (R : List Aid → Reader A) (most : ℕ) (t : A → Bool) (f s : Bytes) (end : ℕ) (d : Aid) (q : Ask) (P : Asking f s end d q → A → Bool) (i left c : ℕ) : Type 0 where
+-- at c; each passes t, and the number of all of the list by P and Q is that of these after an earlier number.
+pub record AskLoop {A : Type 0} (R : List Aid → Reader A) (most : ℕ) (t : A → Bool) (f s : Bytes) (end : ℕ) (d : Numbering) (P Q : Asking f s end d → A → Bool) (i past left c : ℕ) : Type 0 where
   pub es : List Entry
   pub self : Installed
   pub imports : Imports f s end es self
   pub rest : Reading (many left (R (self .pack .domains))) (all t) f c
-  pub asks : (a : Asking f s end d q) → Tracks (R (a .self .pack .domains)) f (counted most u1 (R (a .self .pack .domains))) i (all (P a)) (all (P a)) left c
+  pub numbers : NumberLoop 18 19 (λ (a : Asking f s end d). R (a .self .pack .domains)) most P Q f i past left c
 
-module _ {A : Type 0} (R : List Aid → Reader A) (steady : (ds : List Aid) → Steady (R ds)) (most : ℕ) (t : A → Bool) {f s : Bytes} {end : ℕ} {d : Aid} {q : Ask} (P : Asking f s end d q → A → Bool) (i : ℕ) where
+module _ {A : Type 0} (R : List Aid → Reader A) (steady : (ds : List Aid) → Steady (R ds)) (most : ℕ) (t : A → Bool) {f s : Bytes} {end : ℕ} {d : Numbering} (P Q : Asking f s end d → A → Bool) (i : ℕ) where
   pub ask-begin : (es : List Entry) (self : Installed) → Imports f s end es self → Reading (counted most u1 (R (self .pack .domains))) (all t) f i → (n : ℕ) → n ≡ getD f i 0 →
-      AskLoop R most t f s end d q P i n (i + 1)
+      AskLoop R most t f s end d P Q i 0 n (i + 1)
   ask-begin es self m x n h = record {
     es = es;
     self = self;
     imports = m;
     rest = reading-start (R (self .pack .domains)) (steady (self .pack .domains)) t f most i n h x;
-    asks = λ a. rw h (track-start (R (a .self .pack .domains)) f (all (P a)) most i);
+    numbers = numbers-start 18 19 (omega arith) (omega arith) (λ a. R (a .self .pack .domains)) (λ a. steady (a .self .pack .domains)) most P Q f i n h;
   }
 
-  module _ {left c : ℕ} (l : AskLoop R most t f s end d q P i left c) where
+  module _ {past left c : ℕ} (l : AskLoop R most t f s end d P Q i past left c) where
     module _ (h : 0 < left) where
       pub ask-one : (es : List Entry) × (self : Installed) × Imports f s end es self × Reading (R (self .pack .domains)) t f c
       ask-one = (l .es, l .self, l .imports, reading-one (R (l .self .pack .domains)) (steady (l .self .pack .domains)) t f left c h (l .rest))
 
-      pub ask-hit : ((a : Asking f s end d q) (x : A) (j : ℕ) → Reads (R (a .self .pack .domains)) f c x j → false ≡ P a x) →
-          (a : Asking f s end d q) (xs : List A) (j : ℕ) → Reads (counted most u1 (R (a .self .pack .domains))) f i xs j → false ≡ all (P a) xs
-      ask-hit b a xs j k =
-          let ds = a .self .pack .domains in
-          sym (each-hit (R ds) (steady ds) f (counted most u1 (R ds)) i left c (P a) (l .asks a) h (λ x j p. sym (b a x j p)) xs j k)
+      module _ (n : ℕ) (b : (a : Asking f s end d) (x : A) (j : ℕ) → Reads (R (a .self .pack .domains)) f c x j → n ≡ numberOf 18 19 0 (P a x) (Q a x)) where
+        pub ask-18 : n ≡ 18 → (a : Asking f s end d) (xs : List A) (j : ℕ) → Reads (counted most u1 (R (a .self .pack .domains))) f i xs j → 18 ≡ listNumber 18 19 (P a) (Q a) 0 xs
+        ask-18 = numbers-first 18 19 (omega arith) (omega arith) (λ a. R (a .self .pack .domains)) (λ a. steady (a .self .pack .domains)) most P Q f i past left c (l .numbers) n h b
 
-      pub ask-on : ((a : Asking f s end d q) (x : A) (j : ℕ) → Reads (R (a .self .pack .domains)) f c x j → true ≡ P a x) → (e : ℕ) → ((ds : List Aid) → EndsAt (R ds) f c e) →
-          AskLoop R most t f s end d q P i (left - 1) e
-      ask-on b e k = record {
-        es = l .es;
-        self = l .self;
-        imports = l .imports;
-        rest = reading-on (R (l .self .pack .domains)) (steady (l .self .pack .domains)) t f left c h (l .rest) e (k (l .self .pack .domains));
-        asks = λ a. let ds = a .self .pack .domains in
-            each-miss (R ds) (steady ds) f (counted most u1 (R ds)) i left c (P a) (l .asks a) e h (λ x j p. sym (b a x j p)) (k ds);
-      }
+        pub ask-on : (n ≡ 18 → ⊥) → (m e : ℕ) → m ≡ pick (eqb n 0) past n → ((ds : List Aid) → EndsAt (R ds) f c e) → AskLoop R most t f s end d P Q i m (left - 1) e
+        ask-on z m e w k = record {
+          es = l .es;
+          self = l .self;
+          imports = l .imports;
+          rest = reading-on (R (l .self .pack .domains)) (steady (l .self .pack .domains)) t f left c h (l .rest) e (k (l .self .pack .domains));
+          numbers = numbers-on 18 19 (omega arith) (omega arith) (λ a. R (a .self .pack .domains)) (λ a. steady (a .self .pack .domains)) most P Q f i past left c (l .numbers) n h b z m e w (λ a. k (a .self .pack .domains));
+        }
 
-    pub ask-end : left ≤ 0 → (a : Asking f s end d q) (xs : List A) (j : ℕ) → Reads (counted most u1 (R (a .self .pack .domains))) f i xs j → true ≡ all (P a) xs
-    ask-end h a xs j k =
-        let ds = a .self .pack .domains in
-        sym (each-none (R ds) (steady ds) f (counted most u1 (R ds)) i left c (P a) (l .asks a) h xs j k)
+    pub ask-end : left ≤ 0 → (a : Asking f s end d) (xs : List A) (j : ℕ) → Reads (counted most u1 (R (a .self .pack .domains))) f i xs j → past ≡ listNumber 18 19 (P a) (Q a) 0 xs
+    ask-end = numbers-done 18 19 (omega arith) (omega arith) (λ a. R (a .self .pack .domains)) (λ a. steady (a .self .pack .domains)) most P Q f i past left c (l .numbers)
 
 -- the methods of a class
-abbrev pub MethodsLoop : Bytes → Bytes → ℕ → Aid → Ask → ℕ → ℕ → ℕ → Type 0
-MethodsLoop f s end d q i left c = AskLoop (method standard) mostMethods (codeTest codeSplits) f s end d q methodAsks i left c
+abbrev pub MethodsLoop : Bytes → Bytes → ℕ → Numbering → ℕ → ℕ → ℕ → ℕ → Type 0
+MethodsLoop f s end d i past left c = AskLoop (method standard) mostMethods (codeTest codeSplits) f s end d methodNames methodAllows i past left c
 
 -- the classes of a file
-abbrev pub ClassesLoop : Bytes → Bytes → ℕ → Aid → Ask → ℕ → ℕ → ℕ → Type 0
-ClassesLoop f s end d q i left c = AskLoop (class standard) mostClasses (classTest codeSplits) f s end d q classAsks i left c
+abbrev pub ClassesLoop : Bytes → Bytes → ℕ → Numbering → ℕ → ℕ → ℕ → ℕ → Type 0
+ClassesLoop f s end d i past left c = AskLoop (class standard) mostClasses (classTest codeSplits) f s end d classNames classAllows i past left c
 
-module _ {f s : Bytes} {end : ℕ} {d : Aid} {q : Ask} where
-  pub methods-begin : {i k n : ℕ} → OwnClass f s end i → MethodsAt f i k → n ≡ getD f k 0 → MethodsLoop f s end d q k n (k + 1)
+module _ {f s : Bytes} {end : ℕ} {d : Numbering} where
+  pub methods-begin : {i k n : ℕ} → OwnClass f s end i → MethodsAt f i k → n ≡ getD f k 0 → MethodsLoop f s end d k 0 n (k + 1)
   methods-begin {k = k} {n} g h e =
       let ds = g .1 .pack .domains in
-      ask-begin (method standard) (steady-method standard) mostMethods (codeTest codeSplits) methodAsks k (g .0) (g .1) (g .2)
+      ask-begin (method standard) (steady-method standard) mostMethods (codeTest codeSplits) methodNames methodAllows k (g .0) (g .1) (g .2)
       (g .3 .0 .methods, g .3 .1, h standard ds (g .3 .0) (g .3 .1) (g .3 .2), g .3 .3) n e
 
-  module _ (k : ℕ) {left c : ℕ} (l : MethodsLoop f s end d q k left c) where
+  module _ (k past : ℕ) {left c : ℕ} (l : MethodsLoop f s end d k past left c) where
     pub methods-one : 0 < left → OwnMethod f s end c
-    methods-one h = ask-one (method standard) (steady-method standard) mostMethods (codeTest codeSplits) methodAsks k l h
+    methods-one h = ask-one (method standard) (steady-method standard) mostMethods (codeTest codeSplits) methodNames methodAllows k l h
 
-    pub methods-hit : {i : ℕ} → 0 < left → MethodCallsAre f s end d q c false → MethodsAt f i k → ClassCallsAre f s end d q i false
-    methods-hit h b m a x j p = ask-hit (method standard) (steady-method standard) mostMethods (codeTest codeSplits) methodAsks k l h b a (x .methods) j (m standard (a .self .pack .domains) x j p)
+    pub methods-18 : {i : ℕ} (n : ℕ) → 0 < left → MethodCallsAre f s end d c n → n ≡ 18 → MethodsAt f i k → ClassCallsAre f s end d i 18
+    methods-18 n h b z m a x j p = ask-18 (method standard) (steady-method standard) mostMethods (codeTest codeSplits) methodNames methodAllows k l h n b z a (x .methods) j (m standard (a .self .pack .domains) x j p)
 
-    pub methods-on : {e : ℕ} → 0 < left → MethodCallsAre f s end d q c true → AfterMethod f c e → MethodsLoop f s end d q k (left - 1) e
-    methods-on {e} h b m = ask-on (method standard) (steady-method standard) mostMethods (codeTest codeSplits) methodAsks k l h b e (m standard)
+    pub methods-on : (n m e : ℕ) → 0 < left → MethodCallsAre f s end d c n → (n ≡ 18 → ⊥) → m ≡ pick (eqb n 0) past n → AfterMethod f c e → MethodsLoop f s end d k m (left - 1) e
+    methods-on n m e h b z w r = ask-on (method standard) (steady-method standard) mostMethods (codeTest codeSplits) methodNames methodAllows k l h n b z m e w (r standard)
 
-    pub methods-end : {i : ℕ} → left ≤ 0 → MethodsAt f i k → ClassCallsAre f s end d q i true
-    methods-end h m a x j p = ask-end (method standard) (steady-method standard) mostMethods (codeTest codeSplits) methodAsks k l h a (x .methods) j (m standard (a .self .pack .domains) x j p)
+    pub methods-end : {i : ℕ} → left ≤ 0 → MethodsAt f i k → ClassCallsAre f s end d i past
+    methods-end h m a x j p = ask-end (method standard) (steady-method standard) mostMethods (codeTest codeSplits) methodNames methodAllows k l h a (x .methods) j (m standard (a .self .pack .domains) x j p)
 
 -- each class of a file whose codes split
 classes-split : (f s : Bytes) (end i : ℕ) (g : Judged f s end) → CodesSplit f → ClassesAt f i → Reading (counted mostClasses u1 (class standard (g .1 .pack .domains))) (all (classTest codeSplits)) f i
@@ -186,34 +185,31 @@ classes-split f s end i g h k =
     let r = g .2 .setting .reads in
     (p .classes, length f, classes-read k standard p r, subst T (allFrom-all (classTest codeSplits) 0 (p .classes)) (h standard p r))
 
-module _ {f s : Bytes} {end : ℕ} {d : Aid} {q : Ask} where
-  pub classes-begin : {k n : ℕ} → Judged f s end → CodesSplit f → ClassesAt f k → n ≡ getD f k 0 → ClassesLoop f s end d q k n (k + 1)
+module _ {f s : Bytes} {end : ℕ} {d : Numbering} where
+  -- a file's number is that of its list of classes
+  file-calls : (n : ℕ) → ((a : Asking f s end d) → n ≡ listNumber 18 19 (classNames a) (classAllows a) 0 (a .self .pack .classes)) → FileCallsAre f s end d n
+  unfolding q18-calls q19-allowed
+  file-calls n h a = rw (allFrom-all (classNames a) 0 (a .self .pack .classes), allFrom-all (classAllows a) 0 (a .self .pack .classes)) (h a)
+
+  pub classes-begin : {k n : ℕ} → Judged f s end → CodesSplit f → ClassesAt f k → n ≡ getD f k 0 → ClassesLoop f s end d k 0 n (k + 1)
   classes-begin {k} {n} g h m e =
-      ask-begin (class standard) (steady-class standard) mostClasses (classTest codeSplits) classAsks k (g .0) (g .1) (g .2) (classes-split f s end k g h m) n e
+      ask-begin (class standard) (steady-class standard) mostClasses (classTest codeSplits) classNames classAllows k (g .0) (g .1) (g .2) (classes-split f s end k g h m) n e
 
-  module _ (k : ℕ) {left c : ℕ} (l : ClassesLoop f s end d q k left c) where
+  module _ (k past : ℕ) {left c : ℕ} (l : ClassesLoop f s end d k past left c) where
     pub classes-one : 0 < left → OwnClass f s end c
-    classes-one h = ask-one (class standard) (steady-class standard) mostClasses (classTest codeSplits) classAsks k l h
+    classes-one h = ask-one (class standard) (steady-class standard) mostClasses (classTest codeSplits) classNames classAllows k l h
 
-    pub classes-hit : 0 < left → ClassCallsAre f s end d q c false → ClassesAt f k → FileCallsAre f s end d q false
-    classes-hit h b m a = ask-hit (class standard) (steady-class standard) mostClasses (classTest codeSplits) classAsks k l h b a (a .self .pack .classes) (length f) (classes-read m standard (a .self .pack) (a .imports .setting .reads))
+    pub classes-18 : (n : ℕ) → 0 < left → ClassCallsAre f s end d c n → n ≡ 18 → ClassesAt f k → FileCallsAre f s end d 18
+    classes-18 n h b z m = file-calls 18 λ a.
+        ask-18 (class standard) (steady-class standard) mostClasses (classTest codeSplits) classNames classAllows k l h n b z a (a .self .pack .classes) (length f) (classes-read m standard (a .self .pack) (a .imports .setting .reads))
 
-    pub classes-on : {e : ℕ} → 0 < left → ClassCallsAre f s end d q c true → AfterClass f c e → ClassesLoop f s end d q k (left - 1) e
-    classes-on {e} h b m = ask-on (class standard) (steady-class standard) mostClasses (classTest codeSplits) classAsks k l h b e (m standard)
+    pub classes-on : (n m e : ℕ) → 0 < left → ClassCallsAre f s end d c n → (n ≡ 18 → ⊥) → m ≡ pick (eqb n 0) past n → AfterClass f c e → ClassesLoop f s end d k m (left - 1) e
+    classes-on n m e h b z w r = ask-on (class standard) (steady-class standard) mostClasses (classTest codeSplits) classNames classAllows k l h n b z m e w (r standard)
 
-    pub classes-end : left ≤ 0 → ClassesAt f k → FileCallsAre f s end d q true
-    classes-end h m a = ask-end (class standard) (steady-class standard) mostClasses (classTest codeSplits) classAsks k l h a (a .self .pack .classes) (length f) (classes-read m standard (a .self .pack) (a .imports .setting .reads))
+    pub classes-end : left ≤ 0 → ClassesAt f k → FileCallsAre f s end d past
+    classes-end h m = file-calls past λ a.
+        ask-end (class standard) (steady-class standard) mostClasses (classTest codeSplits) classNames classAllows k l h a (a .self .pack .classes) (length f) (classes-read m standard (a .self .pack) (a .imports .setting .reads))
 
--- questions 18 and 19
-module _ {f s : Bytes} {end : ℕ} {r : Bool} where
-  pub calls-named-is : {d : Aid} → FileCallsAre f s end d Names r → CallsNamed f s end r
-  unfolding q18-calls
-  calls-named-is {d} h es self m =
-      let a : Asking f s end d Names = record { es = es; self = self; imports = m; loads = tt } in
-      h a ∙ sym (allFrom-all (classAsks a) 0 (self .pack .classes))
-
-  pub calls-allowed-is : {d : Aid} → FileCallsAre f s end d Allowed r → CallsAllowed f s end d r
-  unfolding q19-allowed
-  calls-allowed-is {d} h es self m e =
-      let a : Asking f s end d Allowed = record { es = es; self = self; imports = m; loads = e } in
-      h a ∙ sym (allFrom-all (classAsks a) 0 (self .pack .classes))
+-- with the tables for the loading domain
+pub calls-number : {f s : Bytes} {end : ℕ} (t : Numbering) (d : Aid) (n : ℕ) → DomainMap f s end d t → FileCallsAre f s end t n → CallsNumberIs f s end d n
+calls-number {f} {s} {end} t d n m h es self i e = h (record { es = es; self = self; imports = i; maps = subst (λ (x : Aid). DomainMap f s end x t) (sym e) m })

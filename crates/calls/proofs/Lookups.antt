@@ -1,101 +1,146 @@
 -- What a reference names, step by step: its numbers and name, the package's home, the class record, the method. Assumes nothing.
-use Prim.Native.Nat.{ℕ, zero, suc}
+use Prim.Native.Nat.{ℕ, zero, suc, _-_, _<_, _≤_}
 use native.Mathlib.Omega.{arith}
 use mathlib.Core.Path.{_≡_, refl, sym, _∙_, ap, subst}
 use mathlib.Core.Bool.{Bool, true, false, _&&_, _||_, not}
+use mathlib.Core.List.{List, [], _∷_}
 use mathlib.Core.Option.{Option, none, some}
 use lib.Dec.{eqb}
-use Rattle.rules.specs.Bytes.{Bytes, at, someAnd, _andThen_}
-use Rattle.rules.specs.Package.{standard, Reference, Method, Class, method, class}
-use Rattle.rules.specs.Classes.{Installed, installed, packageNumbered, declared}
+use lib.ListN.{length, getD}
+use Rattle.rules.specs.Bytes.{Bytes, at, someAnd, u1, aid, _andThen_}
+use Rattle.rules.specs.Package.{Limits, standard, mostImports, Reference, Method, Class, Package, method, class, readFile}
+use Rattle.rules.specs.Classes.{Installed, installed, ClassAt, packageNumbered, recordOf, declared}
 use Rattle.rules.specs.Questions.{Named, referenceNames, callForm}
-use Rattle.places.proofs.Track.{placed-at, placed-none}
-use Rattle.files.specs.Say.{referenced, Readable, ReferencesAt, ReferenceNth, ClassThere, MethodThere, DeclaredPlaced, VisibleIs, StaticIs, ImplementedIs, InterfaceIs}
+use Rattle.places.proofs.Steady.{steady-u1, steady-aid}
+use Rattle.places.proofs.Inverse.{reads-counted, reads-u1}
+use Rattle.places.proofs.Parts.{file-parts}
+use Rattle.places.proofs.Track.{placed-at, placed-none, counted-inside, many-length}
+use Rattle.files.specs.Say.{referenced, Readable, ImportsAt, ReferencesAt, ReferenceNth, ClassThere, MethodThere, DeclaredPlaced, VisibleIs, StaticIs, ImplementedIs, InterfaceIs}
 use Rattle.files.specs.declared.Spot.the-variants.{At, Nothing}
 use Rattle.files.specs.declared.Referenced.{Referenced}
 use Rattle.files.specs.declared.Referenced.the-variants as referenced′
-use Rattle.files.proofs.Walks.{references-read}
+use Rattle.files.proofs.Walks.{imports-read, references-read}
 use Rattle.codes.specs.Calls.{kindOf}
 use Rattle.codes.specs.declared.Calling.{Calling}
 use Rattle.codes.specs.declared.Calling.the-variants as kinds
-use Rattle.homes.specs.Homes.{ownHome, fileOf, HomeIs, own, HomeThere, NumberedIs, ClassPlaced}
-use Rattle.homes.specs.declared.Home.{Home}
-use Rattle.homes.specs.declared.HomeFound.the-variants as homes′
-use Rattle.calls.specs.Named.{Judged, OfJudged, declaredAs, NamedIs, DeclaredIs, NumbersName, ReferenceIs, OfNamed, SeenIs, FormIs, WellIs, CallNamedIs}
+use Rattle.rules.specs.Store.{Entry}
+use Rattle.homes.specs.Homes.{Imports, fileOf, HomeIs, own, HomeThere, ClassPlaced}
+use Rattle.homes.specs.Found.{homeAt, ImportHomes}
+use Rattle.calls.specs.Named.{Judged, OfJudged, homeOf, ImportCount, NamedIs, NumbersName, ReferenceIs, OfNamed, SeenIs, FormIs, WellIs, CallNamedIs}
+use Rattle.calls.specs.Tables.{PackFits}
 use Rattle.calls.specs.declared.NamedFound.{NamedFound}
 use Rattle.calls.specs.declared.NamedFound.the-variants as found
 
-module _ {f s : Bytes} {end : ℕ} (g : Judged f s end) where
-  pub judged-reads : Readable f
-  judged-reads = (standard, g .1 .pack, g .2 .setting .reads)
+-- the file being judged reads
+pub judged-reads : {f s : Bytes} {end : ℕ} → Judged f s end → Readable f
+judged-reads g = (standard, g .1 .pack, g .2 .setting .reads)
 
-  pub judged-own : HomeThere f s (ownHome end)
-  judged-own = (end, g .0, g .1, g .2, g .1, own)
+-- the number of imports
+pub imports-few : (l : Limits) (f : Bytes) (p : Package) → readFile l f ≡ some p → length (p .imports) ≤ mostImports
+imports-few l f p e =
+    let t = file-parts l f p e in
+    let c = reads-counted mostImports u1 aid steady-u1 f (t .importsAt) (p .imports) (t .referencesAt) (t .imports) in
+    omega (arith, c .small, many-length aid steady-aid (c .number) f (c .place) (p .imports) (t .referencesAt) (c .list))
 
--- a class's method
-module _ (f s : Bytes) (h : Home) (c n : ℕ) (i : Bool) where
-  pub class-missing : ClassPlaced f s h c Nothing → DeclaredIs f s h c n i found.Nothing
-  class-missing q end es self m x t = let e = placed-none (q end es self m x t) in rw e
+pub imports-count : {f : Bytes} {i : ℕ} (n : ℕ) → ImportsAt f i → n ≡ getD f i 0 → ImportCount f n
+imports-count {f} {i} n h e l p r =
+    let t = imports-read h l p r in
+    let c = reads-counted mostImports u1 aid steady-u1 f i (p .imports) (t .0) (t .1) in
+    e ∙ (reads-u1 f i (c .number) (c .place) (c .count)) .byte ∙ sym (many-length aid steady-aid (c .number) f (c .place) (p .imports) (t .0) (c .list))
 
-  module _ (k : ℕ) (q : ClassPlaced f s h c (At k)) (g : Bytes) (e : g ≡ fileOf f s h) where
-    pub class-there : HomeThere f s h → ClassThere g k
-    class-there t =
-        let z = placed-at (q (t .0) (t .1) (t .2) (t .3) (t .4) (t .5)) in
-        rw e (standard, t .4 .pack .domains, (z .0, z .1, z .3))
+-- their count is inside the file
+pub imports-in : {f : Bytes} {i : ℕ} → ImportsAt f i → Readable f → i < length f
+imports-in {f} {i} h r = let t = imports-read h (r .0) (r .1) (r .2) in counted-inside aid f mostImports i (r .1 .imports) (t .0) (t .1)
 
-    pub method-missing : DeclaredPlaced g k n Nothing → DeclaredIs f s h c n i found.Nothing
-    method-missing d end es self m x t =
-        let z = placed-at (q end es self m x t) in
-        let b = subst (λ (y : Bytes). DeclaredPlaced y k n Nothing) e d in
-        let w = placed-none (b standard (x .pack .domains) (z .0) (z .1) (z .3)) in
-        rw (z .2, w)
+-- the home of an import
+pub home-import : (end : ℕ) (t : List ℕ) (p : ℕ) → (p ≡ 0 → ⊥) → homeAt t (p - 1) ≡ homeOf end t p
+home-import end t zero n = absurd (n refl)
+home-import end t (suc k) n = let e : suc k - 1 ≡ k = omega arith in rw e
 
-    pub method-found : (m : ℕ) → DeclaredPlaced g k n (At m) → DeclaredIs f s h c n i (found.Method h k m i)
-    method-found p d end es self m x t =
-        let z = placed-at (q end es self m x t) in
-        let b = subst (λ (y : Bytes). DeclaredPlaced y k n (At p)) e d in
-        let w = placed-at (b standard (x .pack .domains) (z .0) (z .1) (z .3)) in
-        let a : Named = record { imported = i; class = record { home = x; number = c }; declaring = z .0; method = w .0 } in
-        let u : Class → Option Named = λ k. declared k n andThen λ y. some (record { imported = i; class = record { home = x; number = c }; declaring = k; method = y }) in
-        let v : Method → Option Named = λ y. some (record { imported = i; class = record { home = x; number = c }; declaring = z .0; method = y }) in
-        let o : declaredAs i (record { home = x; number = c }) n ≡ some a = ap (λ (b : Option Class). b andThen u) (z .2) ∙ ap (λ (b : Option Method). b andThen v) (w .2) in
-        (a, o, record { lies = t; classEnd = z .1; methodEnd = w .1; declaring = z .3; method = w .3; imported = refl })
+-- behind the end of a list
+at-none : {A : Type 0} (xs : List A) (k : ℕ) → length xs ≤ k → at xs k ≡ none
+at-none [] k h = refl
+at-none (x ∷ xs) zero h = absurd (omega arith)
+at-none (x ∷ xs) (suc k) h = at-none xs k (omega arith)
+
+-- the method of a name that a class declares
+abbrev declaredAs : Bool → ClassAt → ℕ → Option Named
+declaredAs i c n = recordOf c andThen λ k. declared k n andThen λ m. some (record { imported = i; class = c; declaring = k; method = m })
 
 -- the package that a number stands for in the file being judged
-module _ {f s : Bytes} {end : ℕ} where
-  pub numbered-at : (p : ℕ) (h : Home) → NumberedIs f s (ownHome end) p (homes′.At h) → OfJudged f s end λ es self. (y : Installed) × (packageNumbered (installed standard es) self p ≡ some y) × HomeIs f s end es self h y
-  numbered-at zero h q es self m = let e : ownHome end ≡ h = cc in (self, refl, subst (λ (z : Home). HomeIs f s end es self z self) e own)
-  numbered-at (suc p) h q es self m = let z = q end es self m self own in (z .0, z .1, z .2)
+module _ {f s : Bytes} {end : ℕ} (t : List ℕ) where
+  pub numbered-none : (p c n : ℕ) {count : ℕ} → ImportCount f count → count < p → NumbersName f s end t p c n found.Nothing
+  numbered-none zero c n k h es self m = absurd (omega arith)
+  numbered-none (suc p) c n k h es self m =
+      let e = at-none (self .pack .imports) p (omega (arith, k standard (self .pack) (m .setting .reads))) in
+      rw e
 
-  pub numbered-none : (p : ℕ) → NumberedIs f s (ownHome end) p homes′.Nothing → OfJudged f s end λ es self. packageNumbered (installed standard es) self p ≡ none
-  numbered-none zero q es self m = let z : _≡_ {A = ℕ} 0 1 = cc in absurd (omega arith)
-  numbered-none (suc p) q es self m = q end es self m self own
+  module _ (i : ImportHomes f s end t) {count : ℕ} (k : ImportCount f count) where
+    numbered-at : (p : ℕ) → p ≤ count → OfJudged f s end λ es self. (y : Installed) × (packageNumbered (installed standard es) self p ≡ some y) × HomeIs f s end es self (homeOf end t p) y
+    numbered-at zero h es self m = (self, refl, own)
+    numbered-at (suc p) h es self m = let z = i .found es self m p (omega (arith, k standard (self .pack) (m .setting .reads))) in (z .0, z .1, z .2)
 
-  module _ (p : ℕ) (h : Home) (q : NumberedIs f s (ownHome end) p (homes′.At h)) where
-    pub numbered-there : Judged f s end → HomeThere f s h
-    numbered-there g = let z = numbered-at p h q (g .0) (g .1) (g .2) in (end, g .0, g .1, g .2, z .0, z .2)
+    module _ (p : ℕ) (h : p ≤ count) where
+      pub numbered-there : Judged f s end → HomeThere f s (homeOf end t p)
+      numbered-there g = let z = numbered-at p h (g .0) (g .1) (g .2) in (end, g .0, g .1, g .2, z .0, z .2)
 
-    pub numbers-name : (c n : ℕ) (r : NamedFound) → DeclaredIs f s h c n (not (eqb p 0)) r → NumbersName f s end p c n r
-    numbers-name c n r d es self m =
-        let z = numbered-at p h q es self m in
-        let b = d end es self m (z .0) (z .2) in
-        subst (λ (o : Option Installed). NamedIs f s end es self ((o andThen λ i. some (record { home = i; number = c })) andThen λ k. declaredAs (not (eqb p 0)) k n) r) (sym (z .1)) b
+      module _ (c n : ℕ) where
+        -- what the class declares is what the numbers and the name name
+        numbers-name : (r : NamedFound) →
+            ((es : List Entry) (self : Installed) → Imports f s end es self → (y : Installed) → HomeIs f s end es self (homeOf end t p) y →
+            NamedIs f s end t es self (declaredAs (not (eqb p 0)) (record { home = y; number = c }) n) r) → NumbersName f s end t p c n r
+        numbers-name r d es self m =
+            let z = numbered-at p h es self m in
+            subst (λ (o : Option Installed). NamedIs f s end t es self ((o andThen λ y. some (record { home = y; number = c })) andThen λ x. declaredAs (not (eqb p 0)) x n) r) (sym (z .1))
+            (d es self m (z .0) (z .2))
 
-  pub numbers-none : (p c n : ℕ) → NumberedIs f s (ownHome end) p homes′.Nothing → NumbersName f s end p c n found.Nothing
-  numbers-none p c n q es self m = rw (numbered-none p q es self m)
+        pub class-missing : ClassPlaced f s (homeOf end t p) c Nothing → NumbersName f s end t p c n found.Nothing
+        class-missing q = numbers-name found.Nothing λ es self m y l. let e = placed-none (q end es self m y l) in rw e
 
-  -- the numbers and the name of a reference
-  module _ (i k : ℕ) (a : ReferencesAt f i) where
-    pub reference-is : (r : Referenced) → ReferenceNth f i k r → OfJudged f s end λ es self. at (self .pack .references) k ≡ referenced r
-    reference-is r q es self m = let z = references-read a standard (self .pack) (m .setting .reads) in sym (q (self .pack .references) (z .0) (z .1))
+        module _ (o : ℕ) (q : ClassPlaced f s (homeOf end t p) c (At o)) (g : Bytes) (e : g ≡ fileOf f s (homeOf end t p)) where
+          pub class-there : Judged f s end → ClassThere g o
+          class-there j =
+              let y = numbered-at p h (j .0) (j .1) (j .2) in
+              let z = placed-at (q end (j .0) (j .1) (j .2) (y .0) (y .2)) in
+              rw e (standard, y .0 .pack .domains, (z .0, z .1, z .3))
 
-    pub reference-named : (p c n : ℕ) → ReferenceNth f i k (referenced′.To p c n) → (r : NamedFound) → NumbersName f s end p c n r → ReferenceIs f s end k r
-    reference-named p c n q r d es self m =
-        let e = reference-is (referenced′.To p c n) q es self m in
-        subst (λ (o : Option Reference). NamedIs f s end es self (o andThen referenceNames (installed standard es) self) r) (sym e) (d es self m)
+          pub method-missing : DeclaredPlaced g o n Nothing → NumbersName f s end t p c n found.Nothing
+          method-missing d = numbers-name found.Nothing λ es self m y l.
+              let z = placed-at (q end es self m y l) in
+              let b = subst (λ (v : Bytes). DeclaredPlaced v o n Nothing) e d in
+              let w = placed-none (b standard (y .pack .domains) (z .0) (z .1) (z .3)) in
+              rw (z .2, w)
 
-    pub reference-none : ReferenceNth f i k referenced′.Nothing → ReferenceIs f s end k found.Nothing
-    reference-none q es self m = rw (reference-is referenced′.Nothing q es self m)
+          pub method-found : (v : ℕ) → DeclaredPlaced g o n (At v) → NumbersName f s end t p c n (found.Method p o v)
+          method-found v d = numbers-name (found.Method p o v) λ es self m y l.
+              let b = not (eqb p 0) in
+              let z = placed-at (q end es self m y l) in
+              let x = subst (λ (v′ : Bytes). DeclaredPlaced v′ o n (At v)) e d in
+              let w = placed-at (x standard (y .pack .domains) (z .0) (z .1) (z .3)) in
+              let a : Named = record { imported = b; class = record { home = y; number = c }; declaring = z .0; method = w .0 } in
+              let u : Class → Option Named = λ k. declared k n andThen λ z. some (record { imported = b; class = record { home = y; number = c }; declaring = k; method = z }) in
+              let r : Method → Option Named = λ k. some (record { imported = b; class = record { home = y; number = c }; declaring = z .0; method = k }) in
+              let j : declaredAs b (record { home = y; number = c }) n ≡ some a = ap (λ (k : Option Class). k andThen u) (z .2) ∙ ap (λ (k : Option Method). k andThen r) (w .2) in
+              let small : p ≤ length (self .pack .imports) = omega (arith, h, k standard (self .pack) (m .setting .reads)) in
+              (a, j, record { number = small; lies = l; classEnd = z .1; methodEnd = w .1; declaring = z .3; method = w .3; imported = refl })
+
+-- the numbers and the name of a reference
+module _ {f s : Bytes} {end : ℕ} (t : List ℕ) (i k : ℕ) (a : ReferencesAt f i) where
+  reference-is : (r : Referenced) → ReferenceNth f i k r → OfJudged f s end λ es self. at (self .pack .references) k ≡ referenced r
+  reference-is r q es self m = let z = references-read a standard (self .pack) (m .setting .reads) in sym (q (self .pack .references) (z .0) (z .1))
+
+  pub reference-named : (p c n : ℕ) → ReferenceNth f i k (referenced′.To p c n) → (r : NamedFound) → NumbersName f s end t p c n r → ReferenceIs f s end t k r
+  reference-named p c n q r d es self m =
+      let e = reference-is (referenced′.To p c n) q es self m in
+      subst (λ (o : Option Reference). NamedIs f s end t es self (o andThen referenceNames (installed standard es) self) r) (sym e) (d es self m)
+
+  pub reference-none : ReferenceNth f i k referenced′.Nothing → ReferenceIs f s end t k found.Nothing
+  reference-none q es self m = rw (reference-is referenced′.Nothing q es self m)
+
+-- the package number of what is named
+pub pack-fits : {f s : Bytes} {end : ℕ} (t : List ℕ) (k : ℕ) (r : NamedFound) → Judged f s end → ReferenceIs f s end t k r → PackFits r
+pack-fits {f} t k (found.Method p c m) g q = let z = q (g .0) (g .1) (g .2) in omega (arith, z .2 .number, imports-few standard f (g .1 .pack) (g .2 .setting .reads))
+pack-fits t k found.Nothing g q = tt
 
 -- visible if imported
 module _ {g : Bytes} {m : ℕ} {b : Bool} where
@@ -137,24 +182,24 @@ module _ {g : Bytes} {c m : ℕ} where
   well-seen i k r h d x l ds j e a p q = d x l ds j e a p ∙ sym (ap (λ (v : Bool). v && callForm (kindOf k) x) (seen-is i true h x l ds j e a p q))
 
 -- question 18 of a call
-module _ {f s : Bytes} {end index : ℕ} (kind : Calling) where
-  pub call-unnamed : ReferenceIs f s end index found.Nothing → CallNamedIs f s end kind index false
+module _ {f s : Bytes} {end index : ℕ} (t : List ℕ) (kind : Calling) where
+  pub call-unnamed : ReferenceIs f s end t index found.Nothing → CallNamedIs f s end kind index false
   call-unnamed q es self m = rw (q es self m)
 
-  module _ (h : Home) (c m : ℕ) (i : Bool) (q : ReferenceIs f s end index (found.Method h c m i)) where
-    pub named-home : Judged f s end → HomeThere f s h
+  module _ (p c m : ℕ) (q : ReferenceIs f s end t index (found.Method p c m)) where
+    pub named-home : Judged f s end → HomeThere f s (homeOf end t p)
     named-home g = let z = q (g .0) (g .1) (g .2) in (end, g .0, g .1, g .2, z .0 .class .home, z .2 .lies)
 
-    module _ (b : Bytes) (e : b ≡ fileOf f s h) where
+    module _ (b : Bytes) (e : b ≡ fileOf f s (homeOf end t p)) where
       pub named-class : Judged f s end → ClassThere b c
       named-class g = let z = q (g .0) (g .1) (g .2) in rw e (standard, z .0 .class .home .pack .domains, (z .0 .declaring, z .2 .classEnd, z .2 .declaring))
 
       pub named-method : Judged f s end → MethodThere b m
       named-method g = let z = q (g .0) (g .1) (g .2) in rw e (standard, z .0 .class .home .pack .domains, (z .0 .method, z .2 .methodEnd, z .2 .method))
 
-      pub call-named-is : (r : Bool) → WellIs b c m i kind r → CallNamedIs f s end kind index r
-      call-named-is r w es self t =
-          let z = q es self t in
+      pub call-named-is : (r : Bool) → WellIs b c m (not (eqb p 0)) kind r → CallNamedIs f s end kind index r
+      call-named-is r w es self u =
+          let z = q es self u in
           let x = z .0 in
-          let y = subst (λ (v : Bytes). WellIs v c m i kind r) e w x standard (x .class .home .pack .domains) (z .2 .classEnd) (z .2 .methodEnd) (z .2 .declaring) (z .2 .method) (z .2 .imported) in
+          let y = subst (λ (v : Bytes). WellIs v c m (not (eqb p 0)) kind r) e w x standard (x .class .home .pack .domains) (z .2 .classEnd) (z .2 .methodEnd) (z .2 .declaring) (z .2 .method) (z .2 .imported) in
           subst (λ (o : Option Named). r ≡ someAnd o (λ v. (not (v .imported) || v .method .visible) && callForm (kindOf kind) v)) (sym (z .1)) y

@@ -1,7 +1,7 @@
 -- Questions 16 and 17 over all codes of a file. Assumes nothing.
 --
--- codeTest q m      == q of the method's code, if it is implemented
--- numberOf n a b    == 16 where a is no, else 17 where b is no, else n
+-- codeTest q m       == q of the method's code, if it is implemented
+-- numberOf u v n a b == u where a is no, else v where b is no, else n
 -- methodNumber, classNumber, fileNumber == the number of the first no of questions 16 and 17, 0 where there is none
 -- MethodHere, ClassHere, FileHere == such a thing stands there, with document 01's limits
 -- MethodNumberIs, .. == the answer is that number of whatever stands there
@@ -26,15 +26,15 @@ codeTest q m = not (m .implemented) || q (m .code)
 abbrev pub classTest : (Bytes → Bool) → Class → Bool
 classTest q k = all (codeTest q) (k .methods)
 
--- 16 where the first is no, else 17 where the second is, else n
-abbrev pub numberOf : ℕ → Bool → Bool → ℕ
-numberOf n a b = pick a (pick b n 17) 16
+-- of two questions with the numbers u and v: u where the first is no, else v where the second is, else n
+abbrev pub numberOf : ℕ → ℕ → ℕ → Bool → Bool → ℕ
+numberOf u v n a b = pick a (pick b n v) u
 
 abbrev pub methodNumber : Method → ℕ
-methodNumber m = numberOf 0 (codeTest codeSplits m) (codeTest codeBranches m)
+methodNumber m = numberOf 16 17 0 (codeTest codeSplits m) (codeTest codeBranches m)
 
 abbrev pub codesNumber : Class → ℕ
-codesNumber k = numberOf 0 (classTest codeSplits k) (classTest codeBranches k)
+codesNumber k = numberOf 16 17 0 (classTest codeSplits k) (classTest codeBranches k)
 
 abbrev pub fileNumber : Package → ℕ
 fileNumber p = firstNo ((16, q16-splits p) ∷ (17, q17-targets p) ∷ [])

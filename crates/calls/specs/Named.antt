@@ -1,27 +1,31 @@
 -- What a reference names, and where that stands. Assumes nothing.
 --
 -- Judged f s end      == the file f is judged over the entries of s that end there; OfJudged == a fact of every such setting
--- declaredAs i c n    == the method of name n that class c declares, named by a reference that is imported or not
--- NamedAt             == what is named stands at a home: its class record at one place, the method at another
+-- t                   == the table of the homes of the file's imports; homeOf end t p == the home of package number p
+-- ImportCount f n     == the file has n imports
+-- NamedAt             == what is named is of a package number: its class record stands at one place, the method at another
 -- NamedIs             == an answer tells what is named, if anything is
--- ReferenceIs f s end k r == r tells what reference k of the file names
+-- ReferenceIs f s end t k r == r tells what reference k of the file names
 -- SeenIs, FormIs, WellIs  == visible if imported; of the call's form; both
 -- CallNamedIs         == the answer of question 18 for a call
-use Prim.Native.Nat.{ℕ}
+use Prim.Native.Nat.{ℕ, zero, suc, _≤_}
 use mathlib.Core.Path.{_≡_}
 use mathlib.Core.Bool.{Bool, _&&_, _||_, not}
 use mathlib.Core.List.{List}
 use mathlib.Core.Option.{Option, none, some}
+use lib.Dec.{eqb}
+use lib.ListN.{length}
 use Rattle.rules.specs.Bytes.{Bytes, Aid, at, _andThen_}
-use Rattle.rules.specs.Package.{Limits, standard, method, class}
+use Rattle.rules.specs.Package.{Limits, standard, Package, method, class, readFile}
 use Rattle.rules.specs.Store.{Entry}
-use Rattle.rules.specs.Classes.{Installed, installed, ClassAt, recordOf, declared}
+use Rattle.rules.specs.Classes.{Installed, installed}
 use Rattle.rules.specs.Questions.{Named, referenceNames, callForm, callNamesWell}
 use Rattle.places.specs.Reads.{Reads}
 use Rattle.files.specs.Say.{OfMethod}
 use Rattle.codes.specs.Calls.{kindOf}
 use Rattle.codes.specs.declared.Calling.{Calling}
-use Rattle.homes.specs.Homes.{Imports, fileOf, HomeIs, OfHome}
+use Rattle.homes.specs.Homes.{Imports, ownHome, fileOf, HomeIs}
+use Rattle.homes.specs.Found.{homeAt}
 use Rattle.homes.specs.declared.Home.{Home}
 use Rattle.calls.specs.declared.NamedFound.{NamedFound}
 use Rattle.calls.specs.declared.NamedFound.the-variants as found
@@ -34,38 +38,40 @@ Judged f s end = (es : List Entry) × (self : Installed) × Imports f s end es s
 abbrev pub OfJudged : Bytes → Bytes → ℕ → (List Entry → Installed → Type 0) → Type 0
 OfJudged f s end q = (es : List Entry) (self : Installed) → Imports f s end es self → q es self
 
--- the method of a name that a class declares
-abbrev pub declaredAs : Bool → ClassAt → ℕ → Option Named
-declaredAs i c n = recordOf c andThen λ k. declared k n andThen λ m. some (record { imported = i; class = c; declaring = k; method = m })
+-- the home of the package that a number stands for, by the table of the imports' homes
+abbrev pub homeOf : ℕ → List ℕ → ℕ → Home
+homeOf end t zero = ownHome end
+homeOf end t (suc k) = homeAt t k
+
+-- so many imports
+abbrev pub ImportCount : Bytes → ℕ → Type 0
+ImportCount f n = (l : Limits) (p : Package) → readFile l f ≡ some p → n ≡ length (p .imports)
 
 -- what reference k names
 abbrev pub referenceNamed : List Installed → Installed → ℕ → Option Named
 referenceNamed is self k = at (self .pack .references) k andThen referenceNames is self
 
--- what is named stands at home h, its class record at c, the method at m
-pub record NamedAt (f s : Bytes) (end : ℕ) (es : List Entry) (self : Installed) (h : Home) (c m : ℕ) (i : Bool) (x : Named) : Type 0 where
-  pub lies : HomeIs f s end es self h (x .class .home)
+-- what is named is of package number p, its class record stands at c, the method at m
+pub record NamedAt (f s : Bytes) (end : ℕ) (t : List ℕ) (es : List Entry) (self : Installed) (p c m : ℕ) (x : Named) : Type 0 where
+  pub number : p ≤ length (self .pack .imports)
+  pub lies : HomeIs f s end es self (homeOf end t p) (x .class .home)
   pub classEnd : ℕ
   pub methodEnd : ℕ
-  pub declaring : Reads (class standard (x .class .home .pack .domains)) (fileOf f s h) c (x .declaring) classEnd
-  pub method : Reads (method standard (x .class .home .pack .domains)) (fileOf f s h) m (x .method) methodEnd
-  pub imported : x .imported ≡ i
+  pub declaring : Reads (class standard (x .class .home .pack .domains)) (fileOf f s (homeOf end t p)) c (x .declaring) classEnd
+  pub method : Reads (method standard (x .class .home .pack .domains)) (fileOf f s (homeOf end t p)) m (x .method) methodEnd
+  pub imported : x .imported ≡ not (eqb p 0)
 
 -- what is named, if anything is
-abbrev pub NamedIs : Bytes → Bytes → ℕ → List Entry → Installed → Option Named → NamedFound → Type 0
-NamedIs f s end es self o (found.Method h c m i) = (x : Named) × (o ≡ some x) × NamedAt f s end es self h c m i x
-NamedIs f s end es self o found.Nothing = o ≡ none
-
--- a method of the package at a home
-abbrev pub DeclaredIs : Bytes → Bytes → Home → ℕ → ℕ → Bool → NamedFound → Type 0
-DeclaredIs f s h c n i r = OfHome f s h λ end es self x. NamedIs f s end es self (declaredAs i (record { home = x; number = c }) n) r
+abbrev pub NamedIs : Bytes → Bytes → ℕ → List ℕ → List Entry → Installed → Option Named → NamedFound → Type 0
+NamedIs f s end t es self o (found.Method p c m) = (x : Named) × (o ≡ some x) × NamedAt f s end t es self p c m x
+NamedIs f s end t es self o found.Nothing = o ≡ none
 
 -- the method that package number p, class number c and name n name
-abbrev pub NumbersName : Bytes → Bytes → ℕ → ℕ → ℕ → ℕ → NamedFound → Type 0
-NumbersName f s end p c n r = OfJudged f s end λ es self. NamedIs f s end es self (referenceNames (installed standard es) self (record { class = record { pack = p; class = c }; name = n })) r
+abbrev pub NumbersName : Bytes → Bytes → ℕ → List ℕ → ℕ → ℕ → ℕ → NamedFound → Type 0
+NumbersName f s end t p c n r = OfJudged f s end λ es self. NamedIs f s end t es self (referenceNames (installed standard es) self (record { class = record { pack = p; class = c }; name = n })) r
 
-abbrev pub ReferenceIs : Bytes → Bytes → ℕ → ℕ → NamedFound → Type 0
-ReferenceIs f s end k r = OfJudged f s end λ es self. NamedIs f s end es self (referenceNamed (installed standard es) self k) r
+abbrev pub ReferenceIs : Bytes → Bytes → ℕ → List ℕ → ℕ → NamedFound → Type 0
+ReferenceIs f s end t k r = OfJudged f s end λ es self. NamedIs f s end t es self (referenceNamed (installed standard es) self k) r
 
 -- a fact of whatever is named by the class record at c and the method at m of a file
 abbrev pub OfNamed : Bytes → ℕ → ℕ → (Named → Type 0) → Type 0

@@ -16,16 +16,13 @@ use Rattle.rules.specs.Questions.{parentExists, parentKinds, depthWithin, q14-p
 use Rattle.rules.specs.Operations.{deepestFrom}
 use Rattle.rules.proofs.Tests.{of-true}
 use Rattle.homes.specs.Homes.{Imports, Parents, ownHome}
-use Rattle.depths.specs.Depths.{SettingThere, ImportsThere, ParentsThere, OfParents, ClassCount, ParentsExist, AllKinds, DepthIs, ParentedIs, DepthsAre}
+use Rattle.depths.specs.Depths.{ImportsThere, ParentsThere, OfParents, ClassCount, ParentsExist, AllKinds, DepthIs, ParentedIs, DepthsAre}
 use Rattle.depths.specs.declared.Parented.{Parented}
 use Rattle.depths.specs.declared.Parented.the-variants.{Yes, No}
 use Rattle.depths.proofs.ByNumber.{drop-at, drop-end, Left, left-more, left-bad, left-done}
 use Rattle.depths.proofs.ParentKinds.{own-at}
 
 module _ (f s : Bytes) (end : ℕ) where
-  pub parents-setting : ParentsThere f s end → SettingThere f s end
-  parents-setting t = (t .0, t .1, t .2 .imported .setting)
-
   -- the depths of the own classes from class n on are left
   abbrev pub DepthsLeft : ℕ → ℕ → Type 0
   DepthsLeft n figure = OfParents f s end λ es self.

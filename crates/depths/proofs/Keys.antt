@@ -1,21 +1,21 @@
--- The place of a class in a memo: its entry's place and its class number. It is below 65,568, and two classes of the packages at hand
--- have two places. Assumes nothing.
-use Prim.Native.Nat.{ℕ, zero, suc, _+_, _-_, _≤_, _<_}
+-- The place of a class in the memo: a third of its entry's place, and its class number. It is below the memo's length, and two classes
+-- of the packages at hand have two places. The numbers that the memo keeps for a package leave room for those of the next. Assumes nothing.
+use Prim.Native.Nat.{ℕ, zero, suc, _+_, _-_, _*_, _/_, _≤_, _<_}
 use native.Mathlib.Omega.{arith}
 use native.Mathlib.Decide.{decLe}
 use mathlib.Core.Path.{_≡_, refl, sym, _∙_, ap, subst}
 use mathlib.Core.List.{List, [], _∷_, _++_}
 use mathlib.Core.Option.{some}
 use lib.ListN.{length, drop, length-drop}
-use Rattle.rules.specs.Bytes.{Bytes, Aid, Reader, at, u1, many, counted}
-use Rattle.rules.specs.Package.{Limits, standard, mostClasses, mostMethods, Class, Package, classNumber, method, class, readFile}
+use Rattle.rules.specs.Bytes.{Bytes, Aid, Reader, at, u1, u2, many, aid, counted}
+use Rattle.rules.specs.Package.{Limits, standard, mostDomains, mostImports, mostReferences, mostClasses, mostMethods, Class, Package, classNumber, reference, method, class, readFile}
 use Rattle.rules.specs.Store.{Entry, loaded, openingLength}
 use Rattle.rules.specs.Classes.{Installed}
 use Rattle.rules.proofs.Tests.{none-some}
 use Rattle.places.specs.Reads.{Reads}
-use Rattle.places.proofs.Steady.{Steady, steady-u1, steady-number, steady-method, steady-class, steady-counted}
-use Rattle.places.proofs.Inverse.{reads-left, reads-done, reads-counted}
-use Rattle.places.proofs.Parts.{class-part, file-parts}
+use Rattle.places.proofs.Steady.{Steady, steady-u1, steady-many, steady-u2, steady-aid, steady-counted, steady-number, steady-reference, steady-method, steady-class}
+use Rattle.places.proofs.Inverse.{reads-u1, reads-left, reads-done, reads-counted}
+use Rattle.places.proofs.Parts.{aid-part, class-part, file-parts}
 use Rattle.places.proofs.Track.{many-length}
 use Rattle.store.specs.Entries.{part, EntryAt, Entries}
 use Rattle.store.specs.Entries as entries
@@ -23,6 +23,7 @@ use Rattle.store.proofs.Parts.{part-length}
 use Rattle.store.proofs.Stand.{entries-to, entry-one, entries-front, entries-split}
 use Rattle.homes.specs.Homes.{Setting, Stored, HomeIs}
 use Rattle.homes.specs.Homes as homes
+use Rattle.homes.specs.Memo.{memoLength, key, generation}
 use Rattle.homes.specs.declared.Home.{Home}
 
 -- a reader goes forward
@@ -31,9 +32,16 @@ reads-forward {A} r steady s i a j p =
     let l = steady (drop i s) (a, drop j s) (p .is) in
     omega (arith, ap length (l .is), length-drop i s, length-drop j s, length-drop (l .taken) (drop i s), l .within, p .from, p .to)
 
--- a list of elements of at least one byte each has no more of them than bytes
-many-grows : {A : Type 0} (r : Reader A) → Steady r → (s : Bytes) → ((i : ℕ) (a : A) (j : ℕ) → Reads r s i a j → i < j) →
-    (n i : ℕ) (xs : List A) (j : ℕ) → Reads (many n r) s i xs j → i + n ≤ j
+-- a list with its count takes a byte or more
+counted-forward : {A : Type 0} (most : ℕ) (r : Reader A) → Steady r → (s : Bytes) (i : ℕ) (xs : List A) (j : ℕ) → Reads (counted most u1 r) s i xs j → i < j
+counted-forward most r steady s i xs j p =
+    let c = reads-counted most u1 r steady-u1 s i xs j p in
+    let h = reads-forward (many (c .number) r) (steady-many (c .number) r steady) s (c .place) xs j (c .list) in
+    omega (arith, (reads-u1 s i (c .number) (c .place) (c .count)) .next)
+
+-- a list of elements of at least three bytes each has three bytes for each of them
+many-grows : {A : Type 0} (r : Reader A) → Steady r → (s : Bytes) → ((i : ℕ) (a : A) (j : ℕ) → Reads r s i a j → i + 3 ≤ j) →
+    (n i : ℕ) (xs : List A) (j : ℕ) → Reads (many n r) s i xs j → i + 3 * n ≤ j
 many-grows r steady s q zero i xs j p = let z = reads-done r 0 s i xs j (omega arith) p in omega (arith, z .1)
 many-grows r steady s q (suc n) i xs j p =
     let z = reads-left r steady (suc n) s i xs j (omega arith) p in
@@ -42,12 +50,12 @@ many-grows r steady s q (suc n) i xs j p =
     let k = q i (z .one) (z .place) (z .reads) in
     omega arith
 
--- a class takes bytes
-class-forward : (l : Limits) (ds : List Aid) (s : Bytes) (i : ℕ) (k : Class) (j : ℕ) → Reads (class l ds) s i k j → i < j
+-- a class takes three bytes or more: its kind, the count of its parents, that of its methods
+class-forward : (l : Limits) (ds : List Aid) (s : Bytes) (i : ℕ) (k : Class) (j : ℕ) → Reads (class l ds) s i k j → i + 3 ≤ j
 class-forward l ds s i k j p =
     let t = class-part l ds s i k j p in
-    let a = reads-forward (counted (l .parents) u1 classNumber) (steady-counted (l .parents) u1 classNumber steady-u1 steady-number) s (i + 1) (k .parents) (t .middle) (t .parents) in
-    let b = reads-forward (counted mostMethods u1 (method l ds)) (steady-counted mostMethods u1 (method l ds) steady-u1 (steady-method l ds)) s (t .middle) (k .methods) j (t .methods) in
+    let a = counted-forward (l .parents) classNumber steady-number s (i + 1) (k .parents) (t .middle) (t .parents) in
+    let b = counted-forward mostMethods (method l ds) (steady-method l ds) s (t .middle) (k .methods) j (t .methods) in
     omega arith
 
 -- an element has a number below the length
@@ -56,15 +64,29 @@ at-below [] i x e = absurd (none-some e)
 at-below (y ∷ ys) zero x e = omega arith
 at-below (y ∷ ys) (suc i) x e = let h = at-below ys i x e in omega arith
 
--- a class's number is below the file's length and below the greatest count
-pub class-below : (l : Limits) (f : Bytes) (p : Package) → readFile l f ≡ some p → (n : ℕ) (k : Class) → at (p .classes) n ≡ some k → (n < length f) × (n < mostClasses)
-class-below l f p r n k e =
-    let t = file-parts l f p r in
-    let c = reads-counted mostClasses u1 (class l (p .domains)) steady-u1 f (t .classesAt) (p .classes) (length f) (t .classes) in
-    let m = many-length (class l (p .domains)) (steady-class l (p .domains)) (c .number) f (c .place) (p .classes) (length f) (c .list) in
-    let g = many-grows (class l (p .domains)) (steady-class l (p .domains)) f (class-forward l (p .domains) f) (c .number) (c .place) (p .classes) (length f) (c .list) in
-    let b = at-below (p .classes) n k e in
-    (omega (arith, m), omega (arith, m, c .small))
+module _ (l : Limits) (f : Bytes) (p : Package) (r : readFile l f ≡ some p) where
+  -- a file takes 12 bytes, and three for each class, or more; it has no more classes than the greatest count
+  classes-room : (12 + 3 * length (p .classes) ≤ length f) × (length (p .classes) ≤ mostClasses)
+  classes-room =
+      let t = file-parts l f p r in
+      let a = aid-part f 7 (p .aid) (t .domainsAt) (t .named) in
+      let d = counted-forward mostDomains aid steady-aid f (t .domainsAt) (p .domains) (t .importsAt) (t .domains) in
+      let i = counted-forward mostImports aid steady-aid f (t .importsAt) (p .imports) (t .referencesAt) (t .imports) in
+      let e = reads-forward (counted mostReferences u2 reference) (steady-counted mostReferences u2 reference steady-u2 steady-reference) f (t .referencesAt) (p .references) (t .classesAt) (t .references) in
+      let c = reads-counted mostClasses u1 (class l (p .domains)) steady-u1 f (t .classesAt) (p .classes) (length f) (t .classes) in
+      let u = reads-forward u1 steady-u1 f (t .classesAt) (c .number) (c .place) (c .count) in
+      let m = many-length (class l (p .domains)) (steady-class l (p .domains)) (c .number) f (c .place) (p .classes) (length f) (c .list) in
+      let g = many-grows (class l (p .domains)) (steady-class l (p .domains)) f (class-forward l (p .domains) f) (c .number) (c .place) (p .classes) (length f) (c .list) in
+      (omega (arith, a .next, a .low, m), omega (arith, m, c .small))
+
+  pub file-classes : 12 + 3 * length (p .classes) ≤ length f
+  file-classes = classes-room .0
+
+  -- a class's number is below the file's length and below the greatest count
+  pub class-below : (n : ℕ) (k : Class) → at (p .classes) n ≡ some k → (n < length f) × (n < mostClasses)
+  class-below n k e =
+      let b = at-below (p .classes) n k e in
+      (omega (arith, classes-room .0), omega (arith, classes-room .1))
 
 -- the file of a loaded entry
 loaded-file : (d e : Aid) (f g : Bytes) → loaded d f ≡ loaded e g → f ≡ g
@@ -94,12 +116,13 @@ entry-apart s ps qs i j k e p t q h =
     let o = entry-one s i e (f .one) k (f .place) t (f .stands) in
     omega (arith, o .1, (entries-to s (f .place) (f .others) j (f .rest)) .0)
 
--- a stored class has its place within its entry
+-- a stored class has its place before that of a package whose entry follows
 module _ (s : Bytes) (es : List Entry) (h : Home) (x : Installed) (t : Stored s es h x) where
-  stored-key : (n : ℕ) (k : Class) → at (x .pack .classes) n ≡ some k → h .before + n < h .to
+  stored-key : (n : ℕ) (k : Class) → at (x .pack .classes) n ≡ some k → key h n < h .to / 3
   stored-key n k e =
-      let b = class-below standard (part s (h .from) (h .to)) (x .pack) (t .reads) n k e in
-      omega (arith, b .0, part-length s (h .from) (h .to) (t .entry .to), t .inside, t .order)
+      let b = at-below (x .pack .classes) n k e in
+      let c = file-classes standard (part s (h .from) (h .to)) (x .pack) (t .reads) in
+      omega (arith, part-length s (h .from) (h .to) (t .entry .to), t .inside, t .order)
 
   -- and its entry ends where the entries end, or before
   stored-end : (end : ℕ) → Entries s openingLength es end → h .to ≤ end
@@ -117,7 +140,7 @@ module _ (s : Bytes) (es : List Entry) (h : Home) (x : Installed) (t : Stored s 
 
 -- a class's place is below the memo's length
 pub key-small : (f s : Bytes) (end : ℕ) (es : List Entry) (self : Installed) → Setting f s end es self → length s ≤ 65535 →
-    (h : Home) (x : Installed) → HomeIs f s end es self h x → (n : ℕ) (k : Class) → at (x .pack .classes) n ≡ some k → h .before + n < 65568
+    (h : Home) (x : Installed) → HomeIs f s end es self h x → (n : ℕ) (k : Class) → at (x .pack .classes) n ≡ some k → key h n < memoLength
 key-small f s end es self g b _ _ homes.own n k e =
     omega (arith, (class-below standard f (self .pack) (g .reads) n k e) .1, (entries-to s openingLength es end (g .stand)) .1)
 key-small f s end es self g b h x (homes.stored t) n k e = omega (arith, stored-key s es h x t n k e, t .entry .to)
@@ -125,7 +148,7 @@ key-small f s end es self g b h x (homes.stored t) n k e = omega (arith, stored-
 -- two classes have two places, whatever the domain of the package being judged
 module _ (f s : Bytes) (end : ℕ) (es fs : List Entry) (self self′ : Installed) (a : Setting f s end es self) (b : Setting f s end fs self′) where
   pub key-one : (h g : Home) (x y : Installed) → HomeIs f s end es self h x → HomeIs f s end fs self′ g y →
-      (n m : ℕ) (k l : Class) → at (x .pack .classes) n ≡ some k → at (y .pack .classes) m ≡ some l → h .before + n ≡ g .before + m → (h ≡ g) × (n ≡ m)
+      (n m : ℕ) (k l : Class) → at (x .pack .classes) n ≡ some k → at (y .pack .classes) m ≡ some l → key h n ≡ key g m → (h ≡ g) × (n ≡ m)
   key-one _ _ _ _ homes.own homes.own n m k l p q e = (refl, omega arith)
   key-one _ g _ y homes.own (homes.stored u) n m k l p q e = absurd (omega (arith, stored-key s fs g y u m l q, stored-end s fs g y u end (b .stand)))
   key-one h _ x _ (homes.stored t) homes.own n m k l p q e = absurd (omega (arith, stored-key s es h x t n k p, stored-end s es h x t end (a .stand)))
@@ -143,3 +166,7 @@ module _ (f s : Bytes) (end : ℕ) (es fs : List Entry) (self self′ : Installe
               (stored-same s es h x t fs g y u z, omega arith)
         ]
       ]
+
+-- the numbers of a package with c classes, at most 17 for depths and one for each class, end before those of the package after it
+pub generation-next : (end d n c next : ℕ) → 5 ≤ d → 12 + 3 * c ≤ n → next ≡ end + 4 + d + n → generation end + 17 + c ≤ generation next
+generation-next end d n c next k h e = omega arith

@@ -1,9 +1,10 @@
--- The laws behind questions 12, 13 and 14.
+-- The laws behind question 14.
 pub mod Keys
 pub mod ByNumber
 pub mod Records
-pub mod Imports
+pub mod Counts
 pub mod Exist
 pub mod ParentKinds
 pub mod Walk
+pub mod Memo
 pub mod Figures

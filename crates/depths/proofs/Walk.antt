@@ -1,22 +1,19 @@
--- The depth of a class from those of its parents, each told up to one more than the limit; the memo keeps only true depths.
--- Assumes nothing.
+-- The depth of a class from those of its parents, each told up to one more than the limit. Assumes nothing.
 use Prim.Native.Nat.{ℕ, zero, suc, _+_, _≤_, _<_, max}
 use native.Mathlib.Omega.{arith}
 use native.Mathlib.Decide.{decLe}
-use mathlib.Core.Path.{_≡_, refl, sym, _∙_, ap, ap₂, subst}
+use mathlib.Core.Path.{_≡_, sym, _∙_, ap, ap₂}
 use mathlib.Core.List.{List, [], _∷_}
 use mathlib.Core.Option.{some}
-use lib.ListN.{length, drop, getD, set, replicate, length-set, length-replicate}
-use lib.Seq.{getD-set-same, getD-set-other}
+use lib.ListN.{drop}
 use borrow.Author.Tests.{le-leb, lt-leb}
 use Rattle.rules.specs.Bytes.{Bytes, listOf}
 use Rattle.rules.specs.Package.{standard, ClassNumber, Class}
 use Rattle.rules.specs.Classes.{Installed, installed, ClassAt, classNamed, parentsNamed, parentsOf, greatest, depthUpTo}
 use Rattle.rules.specs.Questions.{own}
 use Rattle.homes.specs.declared.Home.{Home}
-use Rattle.depths.specs.Depths.{ClassIs, ClassThere, ParentIs, capped, depthOf, DepthIs, DeepestIs, key, MemoIs}
+use Rattle.depths.specs.Depths.{ParentIs, capped, depthOf, DepthIs, DeepestIs}
 use Rattle.depths.specs.declared.Parent.the-variants.{In, End}
-use Rattle.depths.proofs.Keys.{key-small, key-one}
 use Rattle.depths.proofs.ByNumber.{drop-at, drop-none}
 
 -- a number, or the limit where it is more
@@ -66,11 +63,6 @@ module _ (is : List Installed) where
   pub depth-more : (k : ℕ) (c : ClassAt) → depthUpTo is (suc k) c ≡ suc (capped k (greatest (depthUpTo is (suc k)) (parentsOf is c)))
   depth-more k c = ap suc (greatest-capped k (parentsOf is c) (depth-capped k))
 
--- the limit that the code has
-pub limit-is : _≡_ {A = ℕ} 8 (standard .depth)
-unfolding standard
-limit-is = refl
-
 -- the limit is small
 pub depth-small : (most : ℕ) → most ≡ standard .depth → most < 255
 unfolding standard
@@ -97,52 +89,3 @@ module _ (f s : Bytes) (end : ℕ) (h : Home) (n : ℕ) where
         front : (w : ClassNumber) (a : ClassAt) → classNamed (installed standard es) x w ≡ some a → (ws : List ClassNumber) →
             greatest (depthOf es) (parentsNamed (installed standard es) x (w ∷ ws)) ≡ max (depthOf es a) (greatest (depthOf es) (parentsNamed (installed standard es) x ws))
         front w a e ws = rw e
-
-  -- its place in the memo
-  pub key-fits : length s ≤ 65535 → ClassThere f s end h n → key h n < 65568
-  key-fits l t = key-small f s end (t .0) (t .1) (t .4 .parents .imported .setting) l h (t .2) (t .4 .home) n (t .3) (t .4 .is)
-
-  -- what the memo tells
-  pub memo-told : (memo : Bytes) (v : ℕ) → MemoIs f s end memo → v ≡ getD memo (key h n) 0 → (v ≡ 0 → ⊥) → DepthIs f s end h n v
-  memo-told memo v q e z = subst (DepthIs f s end h n) (sym e) (q .told h n (λ w. z (e ∙ w)))
-
-  -- a true depth is set
-  pub memo-set : (memo : Bytes) (d : ℕ) → MemoIs f s end memo → key h n < 65568 → ClassThere f s end h n → DepthIs f s end h n d → MemoIs f s end (set memo (key h n) d)
-  memo-set memo d q l t p = record { size = length-set memo (key h n) d ∙ q .size; told = told }
-    where
-      other : (g : Home) (m : ℕ) → (key g m ≡ key h n → ⊥) → getD (set memo (key h n) d) (key g m) 0 ≡ getD memo (key g m) 0
-      other g m a = getD-set-other memo (key h n) (key g m) d 0 a
-
-      apart : (g : Home) (m : ℕ) → (getD (set memo (key h n) d) (key g m) 0 ≡ 0 → ⊥) → (key g m ≡ key h n → ⊥) → DepthIs f s end g m (getD (set memo (key h n) d) (key g m) 0)
-      apart g m z a = subst (DepthIs f s end g m) (sym (other g m a)) (q .told g m (λ w. z (other g m a ∙ w)))
-
-      together : (g : Home) (m : ℕ) → key g m ≡ key h n → DepthIs f s end g m d
-      together g m e es self x k c =
-          let a = c .parents .imported .setting in
-          let b = t .4 .parents .imported .setting in
-          let o = key-one f s end es (t .0) self (t .1) a b g h x (t .2) (c .home) (t .4 .home) m n k (t .3) (c .is) (t .4 .is) e in
-          go g m (o .0) (o .1) c
-        where
-          go : (g : Home) (m : ℕ) → g ≡ h → m ≡ n → ClassIs f s end g m es self x k → d ≡ depthOf es (own x m)
-          go g m u v c = p es self x k (subst (λ (w : ℕ). ClassIs f s end h w es self x k) v (subst (λ (w : Home). ClassIs f s end w m es self x k) u c)) ∙ ap (λ (w : ℕ). depthOf es (own x w)) (sym v)
-
-      told : (g : Home) (m : ℕ) → (getD (set memo (key h n) d) (key g m) 0 ≡ 0 → ⊥) → DepthIs f s end g m (getD (set memo (key h n) d) (key g m) 0)
-      told g m z = elim (decLe (key g m) (key h n)) [
-        | no a ↦ apart g m z (λ e. a (omega arith))
-        | yes a ↦ elim (decLe (key h n) (key g m)) [
-          | no b ↦ apart g m z (λ e. b (omega arith))
-          | yes b ↦
-              let e : key g m ≡ key h n = omega arith in
-              let v : getD (set memo (key h n) d) (key g m) 0 ≡ d = ap (λ (i : ℕ). getD (set memo (key h n) d) i 0) e ∙ getD-set-same memo (key h n) d 0 (omega (arith, q .size)) in
-              subst (DepthIs f s end g m) (sym v) (together g m e)
-        ]
-      ]
-
--- a memo of zeros tells nothing
-pub memo-start : (f s : Bytes) (end : ℕ) → MemoIs f s end (replicate 65568 0)
-memo-start f s end = record { size = length-replicate {A = ℕ} 65568 0; told = λ h n z. absurd (z (zeros 65568 (key h n))) }
-  where
-    zeros : (k i : ℕ) → _≡_ {A = ℕ} (getD (replicate k 0) i 0) 0
-    zeros zero i = refl
-    zeros (suc k) zero = refl
-    zeros (suc k) (suc i) = zeros k i

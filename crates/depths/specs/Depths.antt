@@ -1,17 +1,17 @@
--- Questions 12, 13 and 14 of a file over the entries that end at a place, and the depth of a class with the memo of depths found.
+-- Question 14 of a file over the entries that end at a place, and the depth of a class with the memo of depths found.
 -- Assumes nothing.
 --
--- SettingThere, ImportsThere, ParentsThere == what a function over the file requires
--- OfSetting, OfImports, OfParents          == how it ensures: a fact of every such setting
+-- ImportsThere, ParentsThere               == what a function over the file requires
+-- OfImports, OfParents                     == how it ensures: a fact of every such setting
 -- ClassIs f s end h n es self x k          == k is class n of the package x at home h, where each parent exists
 -- ClassThere, OfClass                      == what a function over a class requires, and how it ensures
 -- ParentIs                                 == parent i of a class: the class that it is, or that there is none
 -- capped most d                            == a number, or the limit where it is more
 -- depthOf es c                             == the depth of a class, told up to one more than the limit
 -- DepthIs, DeepestIs                       == the depth of a class; the greatest of its parents' from parent i on
--- key h n, MemoIs                          == the place of a class in the memo; what the memo holds is true
+-- MemoIs f s end base most memo            == what the memo tells above base is true, and no number in it passes base + most + 1
 -- ParentedIs                               == question 14 and the depth figure
-use Prim.Native.Nat.{ℕ, suc, _+_, _*_, _<_}
+use Prim.Native.Nat.{ℕ, suc, _+_, _-_, _*_, _≤_, _<_}
 use mathlib.Core.Path.{_≡_}
 use mathlib.Core.Bool.{Bool, true, false}
 use mathlib.Core.List.{List}
@@ -22,23 +22,17 @@ use Rattle.rules.specs.Bytes.{Bytes, pick, all, allFrom, at, count, isSome}
 use Rattle.rules.specs.Package.{Limits, standard, ClassNumber, Class, Package, readFile}
 use Rattle.rules.specs.Store.{Entry}
 use Rattle.rules.specs.Classes.{Installed, installed, ClassAt, classNamed, parentsNamed, greatest, depthUpTo}
-use Rattle.rules.specs.Questions.{own, parentExists, parentIsKind0, parentKinds, depthWithin, q12-new, q13-imports, q14-parents}
+use Rattle.rules.specs.Questions.{own, parentExists, parentIsKind0, parentKinds, depthWithin, q14-parents}
 use Rattle.rules.specs.Operations.{deepestFrom}
-use Rattle.homes.specs.Homes.{Setting, Imports, Parents, HomeIs, OfHome}
+use Rattle.homes.specs.Homes.{Imports, Parents, HomeIs, OfHome}
+use Rattle.homes.specs.Memo.{memoLength, key}
 use Rattle.homes.specs.declared.Home.{Home}
 use Rattle.depths.specs.declared.Parent.{Parent}
 use Rattle.depths.specs.declared.Parent.the-variants.{In, End}
 use Rattle.depths.specs.declared.Parented.{Parented}
 use Rattle.depths.specs.declared.Parented.the-variants.{Yes, No}
 
--- the file is being judged over the entries that end there
-abbrev pub SettingThere : Bytes → Bytes → ℕ → Type 0
-SettingThere f s end = (es : List Entry) × (self : Installed) × Setting f s end es self
-
-abbrev pub OfSetting : Bytes → Bytes → ℕ → (List Entry → Installed → Type 0) → Type 0
-OfSetting f s end q = (es : List Entry) (self : Installed) → Setting f s end es self → q es self
-
--- and each import is installed
+-- the file is being judged over the entries that end there, each import installed
 abbrev pub ImportsThere : Bytes → Bytes → ℕ → Type 0
 ImportsThere f s end = (es : List Entry) × (self : Installed) × Imports f s end es self
 
@@ -51,14 +45,6 @@ ParentsThere f s end = (es : List Entry) × (self : Installed) × Parents f s en
 
 abbrev pub OfParents : Bytes → Bytes → ℕ → (List Entry → Installed → Type 0) → Type 0
 OfParents f s end q = (es : List Entry) (self : Installed) → Parents f s end es self → q es self
-
--- 12
-abbrev pub NewIs : Bytes → Bytes → ℕ → Bool → Type 0
-NewIs f s end r = OfSetting f s end λ es self. r ≡ q12-new (installed standard es) (self .pack)
-
--- 13
-abbrev pub ImportsIs : Bytes → Bytes → ℕ → Bool → Type 0
-ImportsIs f s end r = OfSetting f s end λ es self. r ≡ q13-imports (installed standard es) (self .pack)
 
 -- the class count of a file
 abbrev pub ClassCount : Bytes → ℕ → Type 0
@@ -148,14 +134,11 @@ DepthIs f s end h n r = OfClass f s end h n λ es self x k. r ≡ depthOf es (ow
 abbrev pub DeepestIs : Bytes → Bytes → ℕ → Home → ℕ → ℕ → ℕ → Type 0
 DeepestIs f s end h n i r = OfClass f s end h n λ es self x k. r ≡ greatest (depthOf es) (parentsNamed (installed standard es) x (drop i (k .parents)))
 
--- the place of a class in the memo
-abbrev pub key : Home → ℕ → ℕ
-key h n = h .before + n
-
--- an entry of the memo is 0 or the depth of its class
-pub record MemoIs (f s : Bytes) (end : ℕ) (memo : Bytes) : Type 0 where
-  pub size : length memo ≡ 65568
-  pub told : (h : Home) (n : ℕ) → (getD memo (key h n) 0 ≡ 0 → ⊥) → DepthIs f s end h n (getD memo (key h n) 0)
+-- a number in the memo above base is base and the depth of its class
+pub record MemoIs (f s : Bytes) (end base most : ℕ) (memo : List ℕ) : Type 0 where
+  pub size : length memo ≡ memoLength
+  pub small : (i : ℕ) → getD memo i 0 ≤ base + most + 1
+  pub told : (h : Home) (n : ℕ) → base < getD memo (key h n) 0 → DepthIs f s end h n (getD memo (key h n) 0 - base)
 
 -- 14, and the depth figure
 abbrev pub ParentedIs : Bytes → Bytes → ℕ → Parented → Type 0

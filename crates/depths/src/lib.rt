@@ -1,19 +1,16 @@
-// Questions 12, 13 and 14 of a file over the entries that end at a place: new, imports there, parents and depths.
+// Question 14 of a file over the entries that end at a place: parents and depths.
 use fields::wide;
 use files::Spot;
 use homes::Home;
 use homes::HomeFound;
-use store::FileSpot;
 ghost use mathlib.Core.Path.{_≡_};
-ghost use Prim.Native.Nat.{suc, max, _≤_, _<_};
+ghost use Prim.Native.Nat.{suc, max, _+_, _-_, _≤_, _<_};
 ghost use lib.ListN.{length, getD, set};
 ghost use Rattle.rules.specs.Package.{standard};
 ghost use Rattle.files.specs.Say.{Readable};
 ghost use Rattle.homes.specs.Homes.{HomeThere};
-ghost use Rattle.depths.specs.Depths.{SettingThere, ImportsThere, ParentsThere, NewIs, ImportsIs, ClassCount, HasClass, OwnClass, ExistsIs, AllExist, ParentsExist, ClassThere, ParentIs, Kind0Is, Kind0Count, KindsIs, AllKinds, capped, DepthIs, DeepestIs, key, MemoIs, ParentedIs, DepthsAre};
-
-// The greatest depth that question 14 lets pass.
-const MOST_DEPTH: usize = 8;
+ghost use Rattle.homes.specs.Memo.{memoLength, key, MemoBelow};
+ghost use Rattle.depths.specs.Depths.{ImportsThere, ParentsThere, ClassCount, HasClass, OwnClass, ExistsIs, AllExist, ParentsExist, ClassThere, ParentIs, Kind0Is, Kind0Count, KindsIs, AllKinds, capped, DepthIs, DeepestIs, MemoIs, ParentedIs, DepthsAre};
 
 // A parent: the home of its package and its class number there; or that the list has ended.
 pub enum Parent {
@@ -25,40 +22,6 @@ pub enum Parent {
 pub enum Parented {
     No,
     Yes(usize),
-}
-
-// 12. Is the package AID not installed?
-pub fn package_new(f: &[u8], s: &[u8], end: usize) -> bool
-    requires { ⌜ SettingThere (now f) (now s) end ⌝ }
-    ensures { λ r. ⌜ NewIs (now (f .entry)) (now (s .entry)) end r ⌝ }
-{
-    let e = files::after_aid(f, 7);
-    match store::find_package(s, end, &f[8..e]) {
-        FileSpot::File(_, _, _) => false,
-        FileSpot::Missing => true,
-    }
-}
-
-// 13. Is each import installed?
-pub fn imports_there(f: &[u8], s: &[u8], end: usize) -> bool
-    requires { ⌜ SettingThere (now f) (now s) end ⌝ }
-    ensures { λ r. ⌜ ImportsIs (now (f .entry)) (now (s .entry)) end r ⌝ }
-{
-    let at = files::imports_at(f);
-    let mut left = wide(f[at]);
-    let mut c = at + 1;
-    while 0 < left {
-        let e = files::after_aid(f, c);
-        match store::find_package(s, end, &f[c + 1..e]) {
-            FileSpot::File(_, _, _) => {}
-            FileSpot::Missing => {
-                return false;
-            }
-        }
-        c = e;
-        left -= 1;
-    }
-    true
 }
 
 // The class count of a file.
@@ -245,7 +208,7 @@ fn larger(a: usize, b: usize) -> usize
 // One more than a depth, which counts up to the limit.
 fn one_more(d: usize, most: usize) -> usize
     requires { ⌜ most < 255 ⌝ }
-    ensures { λ r. ⌜ (r ≡ suc (capped most d)) × (r < 256) ⌝ }
+    ensures { λ r. ⌜ (r ≡ suc (capped most d)) × (r ≤ most + 1) ⌝ }
 {
     if d <= most {
         return d + 1;
@@ -253,22 +216,30 @@ fn one_more(d: usize, most: usize) -> usize
     most + 1
 }
 
-// The memo's entry for a class, 0 where its depth is not known yet.
-fn told(memo: &[u8; 65568], h: Home, n: usize) -> usize
-    requires { ⌜ (length (now memo) ≡ 65568) × (key h n < 65568) ⌝ }
-    ensures { λ r. ⌜ r ≡ getD (now (memo .entry)) (key h n) 0 ⌝ }
+// A number of the memo as a usize.
+fn long(x: u16) -> usize
+    ensures { λ r. ⌜ (r ≡ x) × (r < 65536) ⌝ }
 {
-    let i = h.before + n;
-    wide(memo[i])
+    x as usize
+}
+
+// The depth that the memo tells of a class above base, 0 where it is not known yet.
+fn told(memo: &[u16; 21880], h: Home, n: usize, base: usize) -> usize
+    requires { ⌜ (length (now memo) ≡ memoLength) × (key h n < memoLength) ⌝ }
+    ensures { λ r. ⌜ r ≡ getD (now (memo .entry)) (key h n) 0 - base ⌝ }
+{
+    let i = h.before / 3 + n;
+    let v = long(memo[i]);
+    if v <= base { 0 } else { v - base }
 }
 
 // Sets it.
-fn tell(memo: &mut [u8; 65568], h: Home, n: usize, d: usize)
-    requires { ⌜ (length (now memo) ≡ 65568) × (key h n < 65568) × (d < 256) ⌝ }
-    ensures { λ _. ⌜ now (memo .exit) ≡ set (now (memo .entry)) (key h n) d ⌝ }
+fn tell(memo: &mut [u16; 21880], h: Home, n: usize, base: usize, d: usize)
+    requires { ⌜ (length (now memo) ≡ memoLength) × (key h n < memoLength) × (base + d < 65536) ⌝ }
+    ensures { λ _. ⌜ now (memo .exit) ≡ set (now (memo .entry)) (key h n) (base + d) ⌝ }
 {
-    let i = h.before + n;
-    memo[i] = d as u8;
+    let i = h.before / 3 + n;
+    memo[i] = (base + d) as u16;
 }
 
 // The depth of class n at a home: one more than its deepest parent, each class worked out once.
@@ -279,20 +250,21 @@ fn class_depth<'a>(
     h: Home,
     n: usize,
     most: usize,
-    memo: &mut [u8; 65568],
+    memo: &mut [u16; 21880],
+    base: usize,
 ) -> usize
     requires { ⌜ ClassThere (now f) (now s) end h n ⌝ }
-    requires { ⌜ (length (now s) ≤ 65535) × (most ≡ standard .depth) ⌝ }
-    requires { ⌜ MemoIs (now f) (now s) end (now memo) ⌝ }
+    requires { ⌜ (length (now s) ≤ 65535) × (most ≡ standard .depth) × (base ≤ 65000) ⌝ }
+    requires { ⌜ MemoIs (now f) (now s) end base most (now memo) ⌝ }
     ensures { λ r. ⌜ DepthIs (now (f .entry)) (now (s .entry)) end h n r ⌝ }
-    ensures { λ _. ⌜ MemoIs (now (f .entry)) (now (s .entry)) end (now (memo .exit)) ⌝ }
+    ensures { λ _. ⌜ MemoIs (now (f .entry)) (now (s .entry)) end base most (now (memo .exit)) ⌝ }
 {
-    let known = told(memo, h, n);
+    let known = told(memo, h, n, base);
     if known != 0 {
         return known;
     }
-    let d = one_more(parents_depth(f, s, end, h, n, 0, most, memo), most);
-    tell(memo, h, n, d);
+    let d = one_more(parents_depth(f, s, end, h, n, 0, most, memo, base), most);
+    tell(memo, h, n, base, d);
     d
 }
 
@@ -305,30 +277,39 @@ fn parents_depth<'a>(
     n: usize,
     i: usize,
     most: usize,
-    memo: &mut [u8; 65568],
+    memo: &mut [u16; 21880],
+    base: usize,
 ) -> usize
     requires { ⌜ ClassThere (now f) (now s) end h n ⌝ }
-    requires { ⌜ (length (now s) ≤ 65535) × (most ≡ standard .depth) ⌝ }
-    requires { ⌜ MemoIs (now f) (now s) end (now memo) ⌝ }
+    requires { ⌜ (length (now s) ≤ 65535) × (most ≡ standard .depth) × (base ≤ 65000) ⌝ }
+    requires { ⌜ MemoIs (now f) (now s) end base most (now memo) ⌝ }
     ensures { λ r. ⌜ DeepestIs (now (f .entry)) (now (s .entry)) end h n i r ⌝ }
-    ensures { λ _. ⌜ MemoIs (now (f .entry)) (now (s .entry)) end (now (memo .exit)) ⌝ }
+    ensures { λ _. ⌜ MemoIs (now (f .entry)) (now (s .entry)) end base most (now (memo .exit)) ⌝ }
 {
     match nth_parent(f, s, end, h, n, i) {
         Parent::In(g, m) => {
-            let d = class_depth(f, s, end, g, m, most, memo);
-            larger(d, parents_depth(f, s, end, h, n, i + 1, most, memo))
+            let d = class_depth(f, s, end, g, m, most, memo, base);
+            larger(d, parents_depth(f, s, end, h, n, i + 1, most, memo, base))
         }
         Parent::End => 0,
     }
 }
 
-// 14, third part: is each depth at most 8? With the greatest of them.
-fn depths_ok<'a>(f: &'a [u8], s: &'a [u8], end: usize, most: usize) -> Parented
+// 14, third part: is each depth at most the limit? With the greatest of them.
+fn depths_ok<'a>(
+    f: &'a [u8],
+    s: &'a [u8],
+    end: usize,
+    most: usize,
+    memo: &mut [u16; 21880],
+    base: usize,
+) -> Parented
     requires { ⌜ ParentsThere (now f) (now s) end ⌝ }
-    requires { ⌜ (length (now s) ≤ 65535) × (most ≡ standard .depth) ⌝ }
+    requires { ⌜ (length (now s) ≤ 65535) × (most ≡ standard .depth) × (base ≤ 65000) ⌝ }
+    requires { ⌜ MemoBelow base (now memo) ⌝ }
     ensures { λ r. ⌜ DepthsAre (now (f .entry)) (now (s .entry)) end r ⌝ }
+    ensures { λ _. ⌜ MemoBelow (base + most + 1) (now (memo .exit)) ⌝ }
 {
-    let mut memo = [0u8; 65568];
     let k = class_count(f);
     let mut n = 0;
     let mut figure = 0;
@@ -344,7 +325,8 @@ fn depths_ok<'a>(f: &'a [u8], s: &'a [u8], end: usize, most: usize) -> Parented
             },
             n,
             most,
-            &mut memo,
+            memo,
+            base,
         );
         if most < d {
             return Parented::No;
@@ -355,11 +337,21 @@ fn depths_ok<'a>(f: &'a [u8], s: &'a [u8], end: usize, most: usize) -> Parented
     Parented::Yes(figure)
 }
 
-// 14. Does each parent exist, have interfaces and classes parents of the right kinds, is each depth at most 8?
-pub fn parents_ok<'a>(f: &'a [u8], s: &'a [u8], end: usize) -> Parented
+// 14. Does each parent exist, have interfaces and classes parents of the right kinds, is each depth at most the limit?
+pub fn parents_ok<'a>(
+    f: &'a [u8],
+    s: &'a [u8],
+    end: usize,
+    most: usize,
+    memo: &mut [u16; 21880],
+    base: usize,
+) -> Parented
     requires { ⌜ ImportsThere (now f) (now s) end ⌝ }
     requires { ⌜ length (now s) ≤ 65535 ⌝ }
+    requires { ⌜ most ≡ standard .depth ⌝ }
+    requires { ⌜ MemoBelow base (now memo) × (base ≤ 65000) ⌝ }
     ensures { λ r. ⌜ ParentedIs (now (f .entry)) (now (s .entry)) end r ⌝ }
+    ensures { λ _. ⌜ MemoBelow (base + most + 1) (now (memo .exit)) ⌝ }
 {
     if !parents_exist(f, s, end) {
         return Parented::No;
@@ -367,5 +359,5 @@ pub fn parents_ok<'a>(f: &'a [u8], s: &'a [u8], end: usize) -> Parented
     if !parent_kinds(f, s, end) {
         return Parented::No;
     }
-    depths_ok(f, s, end, MOST_DEPTH)
+    depths_ok(f, s, end, most, memo, base)
 }

@@ -3,3 +3,4 @@ pub mod Creation
 pub mod Loading
 pub mod Stages
 pub mod Sounding
+pub mod Entered

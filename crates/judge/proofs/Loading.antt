@@ -1,5 +1,5 @@
 -- A load over sound entries, question by question. Assumes nothing.
-use Prim.Native.Nat.{ℕ, _<_}
+use Prim.Native.Nat.{ℕ, _≤_, _<_}
 use native.Mathlib.Omega.{arith}
 use mathlib.Core.Path.{_≡_, refl, sym, _∙_, ap, subst}
 use mathlib.Core.Bool.{Bool, true, false}
@@ -37,6 +37,24 @@ answer-yes n b qs depth r e a =
 
 pub answer-done : (depth : ℕ) → AnswerIs [] depth (Accepted depth)
 answer-done depth = record { number = refl; figure = λ y. refl; real = λ m q. let z : _≡_ {A = ℕ} 0 1 = cc in absurd (omega arith) }
+
+-- two questions that were asked together: the number of the first no, or 0
+module _ (n m : ℕ) (hn : T (ltb 0 n)) (hm : T (ltb 0 m)) (qs : List Question) (depth : ℕ) where
+  pub pair-no : (a b : Bool) (c : ℕ) → c ≡ firstNo ((n, a) ∷ (m, b) ∷ []) → (c ≡ 0 → ⊥) → AnswerIs ((n, a) ∷ (m, b) ∷ qs) depth (Refused c)
+  pair-no false b c e z = subst (λ (k : ℕ). AnswerIs ((n, false) ∷ (m, b) ∷ qs) depth (Refused k)) (sym e) (answer-no n false _ _ hn refl)
+  pair-no true false c e z = subst (λ (k : ℕ). AnswerIs ((n, true) ∷ (m, false) ∷ qs) depth (Refused k)) (sym e) (answer-yes n true _ _ _ refl (answer-no m false _ _ hm refl))
+  pair-no true true c e z = absurd (z e)
+
+  pub pair-yes : (a b : Bool) (r : LoadAnswer) → 0 ≡ firstNo ((n, a) ∷ (m, b) ∷ []) → AnswerIs qs depth r → AnswerIs ((n, a) ∷ (m, b) ∷ qs) depth r
+  pair-yes false b r e x = absurd (omega (arith, e, ltb→lt 0 n hn))
+  pair-yes true false r e x = absurd (omega (arith, e, ltb→lt 0 m hm))
+  pair-yes true true r e x = answer-yes n true _ _ r refl (answer-yes m true _ _ r refl x)
+
+-- the number is one of the two, or 0
+pub pair-small : (n m : ℕ) (a b : Bool) (c : ℕ) → n ≤ m → c ≡ firstNo ((n, a) ∷ (m, b) ∷ []) → c ≤ m
+pair-small n m false b c h e = omega (arith, e)
+pair-small n m true false c h e = omega (arith, e)
+pair-small n m true true c h e = omega (arith, e)
 
 -- the setting of a file that reads
 pub over-setting : (s : Bytes) (end : ℕ) (es : List Entry) (d : Aid) (f : Bytes) (p : Package) → Over s end es → readFile standard f ≡ some p → Setting f s end es (record { domain = d; pack = p })

@@ -7,7 +7,6 @@ use mathlib.Core.List.{List, [], _∷_, _++_, append-assoc}
 use mathlib.Core.Option.{Option, none, some, Option·some-injective}
 use lib.Dec.{T, eqb}
 use lib.ListN.{length}
-use borrow.Author.Tests.{eq-eqb, ne-eqb}
 use Rattle.rules.specs.Bytes.{Bytes, Aid, _andThen_}
 use Rattle.rules.specs.Package.{standard}
 use Rattle.rules.specs.Store.{Entry, domain, loaded, used, entriesOf}
@@ -15,15 +14,14 @@ use Rattle.rules.specs.Questions.{q1-size}
 use Rattle.rules.specs.Operations.{accepted, acceptedAll, soundEntries, sound}
 use Rattle.rules.proofs.Tests.{and-i, is-true, of-true}
 use Rattle.rules.proofs.Step.{accepted-append}
-use Rattle.store.specs.Entries.{part, Entries, StandFrom, FirstIs, Holds}
+use Rattle.store.specs.Entries.{part, EntryAt, Entries, StandFrom, FirstIs, Holds}
 use Rattle.store.specs.Answers.{usedTold, PartAt}
 use Rattle.store.specs.declared.EntryPart.the-variants as parts
 use Rattle.store.specs.declared.Layout.{Layout}
 use Rattle.store.specs.declared.Layout.the-variants as layouts
 use Rattle.store.proofs.Stand.{entry-later, entries-to, entries-more}
-use Rattle.judge.specs.Says.{numberOf, Over, OverSome, CreateSays, LoadSays, AllAccepted, SoundSays}
+use Rattle.judge.specs.Says.{numberOf, Over, OverSome, CreateSays, LoadSays, EntrySays, AllAccepted, SoundSays}
 use Rattle.judge.specs.declared.LoadAnswer.{LoadAnswer}
-use Rattle.judge.specs.declared.LoadAnswer.the-variants.{Refused, Accepted}
 use Rattle.judge.specs.declared.StoreAnswer.the-variants.{Unsound, Used}
 
 -- of the entries es, those up to place `at` were accepted, and the others stand from there up to `end`
@@ -95,46 +93,42 @@ module _ (s : Bytes) (end at : ℕ) (g : Going s end at) where
       (f .stands .to, omega arith, b .0)
 
   module _ (a j : ℕ) (p : PartAt s at end (parts.Domain a j)) where
-    pub domain-in : StandFrom s 7 end → (a ≤ j) × (j ≤ length s) × (at < j) × (j ≤ end)
+    pub domain-in : StandFrom s 7 end → (at < j) × (j ≤ end)
     domain-in t =
         let r = g (t .0) (t .1) in
-        let q = p (r .rest) (r .behind) in
-        let b = first-in (domain (part s a j)) j (r .rest) (q .1) in
-        (q .0, b .0, b .1, b .2)
+        let b = first-in (domain (part s a j)) j (r .rest) ((p (r .rest) (r .behind)) .1) in
+        (b .1, b .2)
 
-    pub domain-on : (k : ℕ) → CreateSays s at (part s a j) k → k ≡ 0 → Going s end j
-    domain-on k c z es t =
-        let r = g es t in
-        going-on s end at es r (domain (part s a j)) j ((p (r .rest) (r .behind)) .1) (create-accepted s at (part s a j) k (r .pre) (r .over) c ∙ eq-eqb k 0 z)
+    pub domain-at : StandFrom s 7 end → EntryAt s at (domain (part s a j)) j × (a ≤ j)
+    domain-at t = let r = g (t .0) (t .1) in let q = p (r .rest) (r .behind) in (q .1 .stands, q .0)
 
-    pub domain-bad : (k : ℕ) → CreateSays s at (part s a j) k → (k ≡ 0 → ⊥) → AllAccepted s end false
-    domain-bad k c z es t =
-        let r = g es t in
-        sym (going-bad s end at es r (domain (part s a j)) j ((p (r .rest) (r .behind)) .1) (create-accepted s at (part s a j) k (r .pre) (r .over) c ∙ ne-eqb k 0 z))
+    pub domain-on : EntrySays s at (domain (part s a j)) true → Going s end j
+    domain-on y es t = let r = g es t in going-on s end at es r (domain (part s a j)) j ((p (r .rest) (r .behind)) .1) (sym (y (r .pre) (r .over)))
+
+    pub domain-bad : EntrySays s at (domain (part s a j)) false → AllAccepted s end false
+    domain-bad y es t = let r = g es t in sym (going-bad s end at es r (domain (part s a j)) j ((p (r .rest) (r .behind)) .1) (sym (y (r .pre) (r .over))))
 
   module _ (a m j : ℕ) (p : PartAt s at end (parts.Package a m j)) where
-    pub package-in : StandFrom s 7 end → (a ≤ m) × (m ≤ j) × (j ≤ length s) × (at < j) × (j ≤ end)
+    pub package-in : StandFrom s 7 end → (at < j) × (j ≤ end)
     package-in t =
         let r = g (t .0) (t .1) in
-        let q = p (r .rest) (r .behind) in
-        let b = first-in (loaded (part s a m) (part s m j)) j (r .rest) (q .2) in
-        (q .0, q .1, b .0, b .1, b .2)
+        let b = first-in (loaded (part s a m) (part s m j)) j (r .rest) ((p (r .rest) (r .behind)) .2) in
+        (b .1, b .2)
 
-    pub package-on : (r : LoadAnswer) (x : ℕ) → LoadSays s at (part s a m) (part s m j) r → r ≡ Accepted x → Going s end j
-    package-on r x c z es t =
-        let v = g es t in
-        let n : numberOf r ≡ 0 = ap numberOf z in
-        going-on s end at es v (loaded (part s a m) (part s m j)) j ((p (v .rest) (v .behind)) .2) (load-accepted s at (part s a m) (part s m j) r (v .pre) (v .over) c ∙ eq-eqb (numberOf r) 0 n)
+    pub package-at : StandFrom s 7 end → EntryAt s at (loaded (part s a m) (part s m j)) j × (a ≤ m) × (m ≤ j)
+    package-at t = let r = g (t .0) (t .1) in let q = p (r .rest) (r .behind) in (q .2 .stands, q .0, q .1)
 
-    pub package-bad : (r : LoadAnswer) (k : ℕ) → LoadSays s at (part s a m) (part s m j) r → r ≡ Refused k → AllAccepted s end false
-    package-bad r k c z es t =
-        let v = g es t in
-        let n : numberOf r ≡ k = ap numberOf z in
-        let h : 0 < k = (c (v .pre) (v .over)) .real k z in
-        sym (going-bad s end at es v (loaded (part s a m) (part s m j)) j ((p (v .rest) (v .behind)) .2) (load-accepted s at (part s a m) (part s m j) r (v .pre) (v .over) c ∙ ne-eqb (numberOf r) 0 (λ y. omega arith)))
+    pub package-on : EntrySays s at (loaded (part s a m) (part s m j)) true → Going s end j
+    package-on y es t = let r = g es t in going-on s end at es r (loaded (part s a m) (part s m j)) j ((p (r .rest) (r .behind)) .2) (sym (y (r .pre) (r .over)))
+
+    pub package-bad : EntrySays s at (loaded (part s a m) (part s m j)) false → AllAccepted s end false
+    package-bad y es t = let r = g es t in sym (going-bad s end at es r (loaded (part s a m) (part s m j)) j ((p (r .rest) (r .behind)) .2) (sym (y (r .pre) (r .over))))
 
   pub all-done : PartAt s at end parts.AtEnd → AllAccepted s end true
   all-done p es t = let v = g es t in sym (going-done s end at es v ((p (v .rest) (v .behind)) .0))
+
+  pub done-at : PartAt s at end parts.AtEnd → StandFrom s 7 end → at ≡ end
+  done-at p t = let v = g (t .0) (t .1) in (p (v .rest) (v .behind)) .1
 
 -- question 2 of a buffer
 pub sound-size : (s : Bytes) → q1-size s ≡ false → SoundSays s Unsound

@@ -19,17 +19,18 @@ use Rattle.store.specs.Answers.{Fits}
 use Rattle.homes.specs.Homes.{Setting, Imports, Parents}
 use Rattle.files.specs.Say.{Readable}
 use Rattle.names.specs.Say.{NamesIs}
-use Rattle.depths.specs.Depths.{SettingThere, ImportsThere, NewIs, ImportsIs, ParentedIs}
+use Rattle.imports.specs.Say.{SettingThere, NewIs, ImportsIs}
+use Rattle.depths.specs.Depths.{ImportsThere, ParentedIs}
 use Rattle.depths.specs.declared.Parented.the-variants as parented
 use Rattle.calls.specs.Codes.{FileHere, FileNumberIs}
-use Rattle.calls.specs.Calls.{CodesSplit, CallsNamed, CallsAllowed}
+use Rattle.calls.specs.Calls.{CodesSplit, CallsNumberIs}
 use Rattle.calls.specs.Named.{Judged}
 use Rattle.running.specs.Say.{JudgedThere, RunningIs}
-use Rattle.judge.specs.Says.{Over, AnswerIs, from12, from18, CallsSay, InsideSays, PackageSays, PackageSome, InsideSome}
+use Rattle.judge.specs.Says.{Over, AnswerIs, from12, CallsSay, InsideSays, PackageSays, PackageSome, InsideSome}
 use Rattle.judge.specs.declared.LoadAnswer.{LoadAnswer}
 use Rattle.judge.specs.declared.LoadAnswer.the-variants.{Refused, Accepted}
 use Rattle.judge.proofs.Creation.{over-used}
-use Rattle.judge.proofs.Loading.{answer-no, answer-yes, answer-done, over-setting}
+use Rattle.judge.proofs.Loading.{answer-no, answer-yes, answer-done, pair-no, pair-yes, pair-small, over-setting}
 
 module _ (s : Bytes) (end : ℕ) (d : Aid) (f : Bytes) where
   -- a package in the domain that loads it
@@ -111,21 +112,11 @@ module _ (s : Bytes) (end : ℕ) (d : Aid) (f : Bytes) where
 
     module _ (fifteen : NamesIs f true) where
       pub stage-codes : (c : ℕ) → FileNumberIs f c → (c ≡ 0 → ⊥) → InsideSays s end d f depth (Refused c)
-      stage-codes c n z es p o e h k = answer-yes 15 (q15-names p) _ _ _ (sym (fifteen standard p e)) (go (q16-splits p) (q17-targets p) (n standard p e))
-        where
-          go : (a b : Bool) → c ≡ firstNo ((16, a) ∷ (17, b) ∷ []) → AnswerIs ((16, a) ∷ (17, b) ∷ from18 (length s) es d f p) depth (Refused c)
-          go false b q = subst (λ (m : ℕ). AnswerIs ((16, false) ∷ (17, b) ∷ from18 (length s) es d f p) depth (Refused m)) (sym q) (answer-no 16 false _ _ tt refl)
-          go true false q = subst (λ (m : ℕ). AnswerIs ((16, true) ∷ (17, false) ∷ from18 (length s) es d f p) depth (Refused m)) (sym q) (answer-yes 16 true _ _ _ refl (answer-no 17 false _ _ tt refl))
-          go true true q = absurd (z q)
+      stage-codes c n z es p o e h k = answer-yes 15 (q15-names p) _ _ _ (sym (fifteen standard p e)) (pair-no 16 17 tt tt _ depth (q16-splits p) (q17-targets p) c (n standard p e) z)
 
       pub stage-calls : (c : ℕ) → FileNumberIs f c → c ≡ 0 → (r : LoadAnswer) → CallsSay s end d f depth r → InsideSays s end d f depth r
       stage-calls c n z r a es p o e h k =
-          answer-yes 15 (q15-names p) _ _ _ (sym (fifteen standard p e)) (go (q16-splits p) (q17-targets p) (sym z ∙ n standard p e))
-        where
-          go : (x y : Bool) → 0 ≡ firstNo ((16, x) ∷ (17, y) ∷ []) → AnswerIs ((16, x) ∷ (17, y) ∷ from18 (length s) es d f p) depth r
-          go false y q = absurd (omega (arith, q))
-          go true false q = absurd (omega (arith, q))
-          go true true q = answer-yes 16 true _ _ r refl (answer-yes 17 true _ _ r refl (a es p o e h k))
+          answer-yes 15 (q15-names p) _ _ _ (sym (fifteen standard p e)) (pair-yes 16 17 tt tt _ depth (q16-splits p) (q17-targets p) r (sym z ∙ n standard p e) (a es p o e h k))
 
   -- 16 was answered yes
   pub codes-split : (c : ℕ) → FileNumberIs f c → c ≡ 0 → CodesSplit f
@@ -135,41 +126,33 @@ module _ (s : Bytes) (end : ℕ) (d : Aid) (f : Bytes) where
       go false y q = absurd (omega (arith, q))
       go true y q = tt
 
-  -- its number is small
+  -- the numbers are small
   pub codes-small : (c : ℕ) → InsideSome s end d f → FileNumberIs f c → c ≤ 17
-  codes-small c t n = go (q16-splits (t .1)) (q17-targets (t .1)) (n standard (t .1) (t .3))
-    where
-      go : (x y : Bool) → c ≡ firstNo ((16, x) ∷ (17, y) ∷ []) → c ≤ 17
-      go false y q = omega (arith, q)
-      go true false q = omega (arith, q)
-      go true true q = omega (arith, q)
+  codes-small c t n = pair-small 16 17 (q16-splits (t .1)) (q17-targets (t .1)) c (omega arith) (n standard (t .1) (t .3))
+
+  pub calls-small : (c : ℕ) → InsideSome s end d f → CallsNumberIs f s end d c → c ≤ 19
+  calls-small c t n =
+      pair-small 18 19 (q18-calls (installed standard (t .0)) (selfOf (t .1))) (q19-allowed (installed standard (t .0)) (selfOf (t .1))) c (omega arith)
+      (n (t .0) (selfOf (t .1)) (imports (t .0) (t .1) (t .2) (t .3) (t .4)) refl)
 
   -- from 18 on
-  module _ (depth : ℕ) where
-    pub stage-18 : CallsNamed f s end false → CallsSay s end d f depth (Refused 18)
-    stage-18 n es p o e h k = answer-no 18 (q18-calls (installed standard es) (selfOf p)) _ _ tt (sym (n es (selfOf p) (imports es p o e h)))
+  module _ (depth c : ℕ) (number : CallsNumberIs f s end d c) where
+    pub stage-18-19 : (c ≡ 0 → ⊥) → CallsSay s end d f depth (Refused c)
+    stage-18-19 z es p o e h k = pair-no 18 19 tt tt _ depth _ _ c (number es (selfOf p) (imports es p o e h) refl) z
 
-    module _ (eighteen : CallsNamed f s end true) where
-      pub stage-19 : CallsAllowed f s end d false → CallsSay s end d f depth (Refused 19)
-      stage-19 n es p o e h k =
-          answer-yes 18 (q18-calls (installed standard es) (selfOf p)) _ _ _ (sym (eighteen es (selfOf p) (imports es p o e h)))
-          (answer-no 19 (q19-allowed (installed standard es) (selfOf p)) _ _ tt (sym (n es (selfOf p) (imports es p o e h) refl)))
+    module _ (z : c ≡ 0) where
+      both : (es : List Entry) (p : Package) (o : Over s end es) (e : readFile standard f ≡ some p) → T (q13-imports (installed standard es) p) → (qs : List Question) (r : LoadAnswer) → AnswerIs qs depth r →
+          AnswerIs ((18, q18-calls (installed standard es) (selfOf p)) ∷ (19, q19-allowed (installed standard es) (selfOf p)) ∷ qs) depth r
+      both es p o e h qs r a = pair-yes 18 19 tt tt qs depth _ _ r (sym z ∙ number es (selfOf p) (imports es p o e h) refl) a
 
-      module _ (nineteen : CallsAllowed f s end d true) where
-        both : (es : List Entry) (p : Package) (o : Over s end es) (e : readFile standard f ≡ some p) → T (q13-imports (installed standard es) p) → (qs : List Question) (r : LoadAnswer) → AnswerIs qs depth r →
-            AnswerIs ((18, q18-calls (installed standard es) (selfOf p)) ∷ (19, q19-allowed (installed standard es) (selfOf p)) ∷ qs) depth r
-        both es p o e h qs r a =
-            answer-yes 18 (q18-calls (installed standard es) (selfOf p)) _ _ r (sym (eighteen es (selfOf p) (imports es p o e h)))
-            (answer-yes 19 (q19-allowed (installed standard es) (selfOf p)) _ _ r (sym (nineteen es (selfOf p) (imports es p o e h) refl)) a)
+      pub stage-20 : RunningIs f s end false → CallsSay s end d f depth (Refused 20)
+      stage-20 n es p o e h k =
+          both es p o e h _ _ (answer-no 20 (q20-running standard (installed standard es) (selfOf p)) _ _ tt (sym (n es (selfOf p) (parents es p o e h k) k)))
 
-        pub stage-20 : RunningIs f s end false → CallsSay s end d f depth (Refused 20)
-        stage-20 n es p o e h k =
-            both es p o e h _ _ (answer-no 20 (q20-running standard (installed standard es) (selfOf p)) _ _ tt (sym (n es (selfOf p) (parents es p o e h k) k)))
-
-        pub stage-21 : (b : Bool) → RunningIs f s end true → Fits s end (loaded d f) b → CallsSay s end d f depth (pick b (Accepted depth) (Refused 21))
-        stage-21 b twenty n es p o e h k =
-            both es p o e h _ _ (answer-yes 20 (q20-running standard (installed standard es) (selfOf p)) _ _ _ (sym (twenty es (selfOf p) (parents es p o e h k) k)) (go b (n es (over-used s end es o))))
-          where
-            go : (b : Bool) → b ≡ q21-fits (length s) es (loaded d f) → AnswerIs ((21, q21-fits (length s) es (loaded d f)) ∷ []) depth (pick b (Accepted depth) (Refused 21))
-            go true q = answer-yes 21 (q21-fits (length s) es (loaded d f)) _ _ _ (sym q) (answer-done depth)
-            go false q = answer-no 21 (q21-fits (length s) es (loaded d f)) _ _ tt (sym q)
+      pub stage-21 : (b : Bool) → RunningIs f s end true → Fits s end (loaded d f) b → CallsSay s end d f depth (pick b (Accepted depth) (Refused 21))
+      stage-21 b twenty n es p o e h k =
+          both es p o e h _ _ (answer-yes 20 (q20-running standard (installed standard es) (selfOf p)) _ _ _ (sym (twenty es (selfOf p) (parents es p o e h k) k)) (go b (n es (over-used s end es o))))
+        where
+          go : (b : Bool) → b ≡ q21-fits (length s) es (loaded d f) → AnswerIs ((21, q21-fits (length s) es (loaded d f)) ∷ []) depth (pick b (Accepted depth) (Refused 21))
+          go true q = answer-yes 21 (q21-fits (length s) es (loaded d f)) _ _ _ (sym q) (answer-done depth)
+          go false q = answer-no 21 (q21-fits (length s) es (loaded d f)) _ _ tt (sym q)

@@ -2,8 +2,10 @@
 --
 -- Over s end es     == es stand in s up to place end, each accepted over the earlier ones in a buffer of that length
 -- CreateSays, LoadSays == the number of a creation or a load over them, and a load's depth
+-- EntrySays s at e r == whether the entry e would have been accepted over them
+-- MemoNext, Indexed == what index and memo hold behind an accepted load and behind a sound store
 -- SoundSays s r     == whether s is sound, and its used value
-use Prim.Native.Nat.{ℕ, _<_}
+use Prim.Native.Nat.{ℕ, _+_, _≤_, _<_}
 use mathlib.Core.Path.{_≡_}
 use mathlib.Core.Bool.{Bool, true, false}
 use mathlib.Core.List.{List, [], _∷_}
@@ -14,9 +16,11 @@ use Rattle.rules.specs.Bytes.{Bytes, Aid}
 use Rattle.rules.specs.Package.{standard, Package, readFile}
 use Rattle.rules.specs.Store.{Entry, loaded, openingLength, used, entriesOf}
 use Rattle.rules.specs.Classes.{Installed, installed}
-use Rattle.rules.specs.Operations.{Question, firstNo, createQuestions, loadQuestions, acceptedAll, soundEntries, sound, deepest, deepestOf}
+use Rattle.rules.specs.Operations.{Question, firstNo, createQuestions, loadQuestions, accepted, acceptedAll, soundEntries, sound, deepest, deepestOf}
 use Rattle.rules.specs.Questions.{q5-created, q12-new, q13-imports, q14-parents, q15-names, q16-splits, q17-targets, q18-calls, q19-allowed, q20-running, q21-fits}
 use Rattle.store.specs.Entries.{Entries, Holds}
+use Rattle.index.specs.Index.{IndexIs}
+use Rattle.homes.specs.Memo.{generation, MemoBelow}
 use Rattle.judge.specs.declared.LoadAnswer.{LoadAnswer}
 use Rattle.judge.specs.declared.LoadAnswer.the-variants.{Refused, Accepted}
 use Rattle.judge.specs.declared.StoreAnswer.{StoreAnswer}
@@ -92,6 +96,14 @@ abbrev pub InsideSome : Bytes → ℕ → Aid → Bytes → Type 0
 InsideSome s end d f = (es : List Entry) × (p : Package) × Over s end es × (readFile standard f ≡ some p) ×
     T (q13-imports (installed standard es) p) × T (q14-parents standard (installed standard es) (record { domain = d; pack = p }))
 
+-- an accepted load leaves the memo as the entry behind it asks
+abbrev pub MemoNext : ℕ → Aid → Bytes → LoadAnswer → List ℕ → Type 0
+MemoNext end d f r memo = (depth : ℕ) → r ≡ Accepted depth → 5 ≤ length d → MemoBelow (generation (end + 4 + length d + length f)) memo
+
+-- whether an entry would have been accepted over those that end at a place
+abbrev pub EntrySays : Bytes → ℕ → Entry → Bool → Type 0
+EntrySays s at e r = (es : List Entry) → Over s at es → r ≡ accepted standard (length s) es e
+
 -- whether each entry up to a place would have been accepted
 abbrev pub AllAccepted : Bytes → ℕ → Bool → Type 0
 AllAccepted s end r = (es : List Entry) → Entries s openingLength es end → r ≡ soundEntries standard (length s) es
@@ -100,3 +112,8 @@ AllAccepted s end r = (es : List Entry) → Entries s openingLength es end → r
 abbrev pub SoundSays : Bytes → StoreAnswer → Type 0
 SoundSays s Unsound = sound s ≡ false
 SoundSays s (Used u) = (sound s ≡ true) × ((es : List Entry) → entriesOf s ≡ some es → Holds s es × Over s u es × (used es ≡ u))
+
+-- index and memo behind the entries of a sound store
+abbrev pub Indexed : Bytes → StoreAnswer → List ℕ → List ℕ → Type 0
+Indexed s Unsound index memo = Unit {0}
+Indexed s (Used u) index memo = IndexIs s u index × MemoBelow (generation u) memo

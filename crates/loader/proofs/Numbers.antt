@@ -1,14 +1,14 @@
 -- An operation's number and bytes on a store that questions 1 and 2 refuse, and on a sound one. Assumes nothing.
 use Prim.Native.Nat.{ℕ, zero, suc, _≤_}
 use native.Mathlib.Omega.{arith}
-use mathlib.Core.Path.{_≡_, refl, sym, _∙_, subst}
+use mathlib.Core.Path.{_≡_, refl, sym, _∙_, ap, subst}
 use mathlib.Core.Bool.{true, false, _&&_}
 use mathlib.Core.List.{List, []}
 use mathlib.Core.Option.{some}
 use lib.Dec.{T}
 use lib.ListN.{length}
 use Rattle.rules.specs.Bytes.{Bytes, someAnd}
-use Rattle.rules.specs.Package.{standard}
+use Rattle.rules.specs.Package.{Limits, standard}
 use Rattle.rules.specs.Store.{Entry, used, write, entriesOf}
 use Rattle.rules.specs.Questions.{q1-size}
 use Rattle.rules.specs.Operations.{firstNo, soundEntries, sound, entries, Operation, questions, number, change, ifDone, after}
@@ -16,8 +16,10 @@ use Rattle.rules.proofs.Tests.{and-l, and-r, is-true, of-true, some-and-is}
 use Rattle.store.specs.Entries.{Holds, AllRead, Laid}
 use Rattle.store.proofs.Asked.{size-is}
 use Rattle.homes.proofs.Homes.{all-read}
-use Rattle.judge.specs.Says.{Over}
-use Rattle.loader.specs.Answers.{SoundAt, Asked, OpenedSays}
+use Rattle.judge.specs.Says.{Over, Indexed}
+use Rattle.judge.specs.declared.StoreAnswer.{StoreAnswer}
+use Rattle.judge.specs.declared.StoreAnswer.the-variants as answers
+use Rattle.loader.specs.Answers.{SoundAt, Asked, OpenedSays, OpenedIndex}
 use Rattle.loader.specs.declared.Opened.{Opened}
 use Rattle.loader.specs.declared.Opened.the-variants as opened
 
@@ -98,3 +100,15 @@ module _ (s : Bytes) (u : ℕ) (h : SoundAt s u) where
 -- the files of sound entries read
 pub over-reads : (s : Bytes) (u : ℕ) (es : List Entry) → Over s u es → AllRead es
 over-reads s u es o = all-read (length s) [] es (o .sound)
+
+-- as many marks as a code may have bytes
+pub code-fits : (l : Limits) (n : ℕ) → l ≡ standard → 4096 ≤ n → l .code ≤ n
+unfolding standard
+code-fits l n e h = let z : l .code ≡ 4096 = ap (λ (x : Limits). x .code) e in omega arith
+
+-- index and memo of a store that was opened
+pub indexed : (s : Bytes) (r : Opened) (u : ℕ) (index memo : List ℕ) → r ≡ opened.Used u → OpenedIndex s r index memo → OpenedIndex s (opened.Used u) index memo
+indexed s r u index memo e i = subst (λ (x : Opened). OpenedIndex s x index memo) e i
+
+pub judged-index : (s : Bytes) (r : StoreAnswer) (u : ℕ) (index memo : List ℕ) → r ≡ answers.Used u → Indexed s r index memo → OpenedIndex s (opened.Used u) index memo
+judged-index s r u index memo e i = subst (λ (x : StoreAnswer). Indexed s x index memo) e i

@@ -3,6 +3,7 @@
 -- SoundAt s u          == the store s is sound, and its entries end at place u
 -- Asked s u o n        == n is the operation's number by its questions behind 1 and 2
 -- OpenedSays s r       == questions 1 and 2: the number of the first no, or where the entries end
+-- OpenedIndex          == what index and memo then hold
 -- CutSays s u o q r    == a deletion or removal: its number, or the place of the entry that the test q finds
 -- ImportsSays g a r    == the file g imports the AID a
 -- importer a e         == e is a package of another AID that imports a
@@ -25,6 +26,8 @@ use Rattle.rules.specs.Operations.{Question, firstNo, onStore, Operation, quest
 use lib.ListN.{length}
 use Rattle.store.specs.Entries.{Entries, AllRead, placeOf}
 use Rattle.places.specs.Reads.{Reads, Ends}
+use Rattle.index.specs.Index.{IndexIs}
+use Rattle.homes.specs.Memo.{generation, MemoBelow}
 use Rattle.judge.specs.Says.{Over, SoundSays}
 use Rattle.judge.specs.declared.StoreAnswer.the-variants as answers
 use Rattle.loader.specs.declared.Opened.{Opened}
@@ -46,6 +49,11 @@ Asked s u o n = (es : List Entry) → Over s u es → n ≡ firstNo (questions (
 abbrev pub OpenedSays : Bytes → Opened → Type 0
 OpenedSays s (opened.Refused n) = (n ≡ 0 → ⊥) × ((qs : List Question) → n ≡ onStore s qs)
 OpenedSays s (opened.Used u) = SoundAt s u
+
+-- index and memo behind the entries of a sound store
+abbrev pub OpenedIndex : Bytes → Opened → List ℕ → List ℕ → Type 0
+OpenedIndex s (opened.Refused n) index memo = Unit {0}
+OpenedIndex s (opened.Used u) index memo = IndexIs s u index × MemoBelow (generation u) memo
 
 -- a refusal, or from where up to where the entry stands that goes
 abbrev pub CutSays : Bytes → ℕ → Operation → (Entry → Bool) → Cut → Type 0

@@ -1,4 +1,5 @@
 // The six operations that the card's operating system calls. Each result is number + 256 × figure.
+use cursor::Limits;
 use files::Spot;
 use judge::LoadAnswer;
 use judge::StoreAnswer;
@@ -7,15 +8,16 @@ use store::FileSpot;
 use store::Spot as Place;
 ghost use mathlib.Core.Path.{_≡_};
 ghost use Prim.Native.Nat.{_≤_};
-ghost use lib.ListN.{length};
+ghost use lib.ListN.{length, replicate};
 ghost use Rattle.rules.specs.Operations.{create, delete, load, remove, number, after, freshNumber, freshBytes, isDomain, isPackage};
 ghost use Rattle.rules.specs.Package.{standard};
+ghost use Rattle.cursor.specs.Limits.{limitsOf};
 ghost use Rattle.files.specs.Say.{Readable};
 ghost use Rattle.store.specs.Entries.{FilesStand};
 ghost use Rattle.codes.specs.Table.{TableIs};
 ghost use Rattle.judge.specs.Says.{numberOf, figureOf, LoadSays};
 ghost use Rattle.loader.specs.Promises.{LoadPromise, QueryPromise};
-ghost use Rattle.loader.specs.Answers.{SoundAt, OpenedSays, CutSays, ImportsSays, OtherSays, ImportedSays, ClassOf, ClassAllows, FileAllows};
+ghost use Rattle.loader.specs.Answers.{SoundAt, OpenedSays, OpenedIndex, CutSays, ImportsSays, OtherSays, ImportedSays, ClassOf, ClassAllows, FileAllows};
 
 // Questions 1 and 2: the number of the first no, or where the entries of a sound store end.
 enum Opened {
@@ -181,7 +183,8 @@ fn create_on(store: &mut [u8], used: usize, domain: &[u8]) -> u32
     ensures { λ r. ⌜ r ≡ number (now (store .entry)) (create (now (domain .entry))) ⌝ }
     ensures { λ _. ⌜ now (store .exit) ≡ after (now (store .entry)) (create (now (domain .entry))) ⌝ }
 {
-    let n = judge::create_number(store, used, domain);
+    let known = judge::created(store, used, domain);
+    let n = judge::create_number(store, used, domain, known);
     if n != 0 {
         return n;
     }
@@ -255,15 +258,25 @@ fn load_on(store: &mut [u8], used: usize, domain: &[u8], file: &[u8], answer: Lo
     256 * figure_of(answer)
 }
 
-// Questions 1 and 2 of a store, with a table and marks lent.
-fn opened_with(s: &[u8], table: &[u8; 256], marks: &mut [bool]) -> Opened
-    requires { ⌜ TableIs (now table) × (4096 ≤ length (now marks)) ⌝ }
+// Questions 1 and 2 of a store, with tables lent; those of a sound store then hold all its entries.
+fn opened_with(
+    s: &[u8],
+    limits: Limits,
+    table: &[u8; 256],
+    marks: &mut [bool],
+    index: &mut [u16; 12288],
+    memo: &mut [u16; 21880],
+) -> Opened
+    requires { ⌜ TableIs (now table) × (limits .code ≤ length (now marks)) × (limitsOf limits ≡ standard) ⌝ }
+    requires { ⌜ (now index ≡ replicate 12288 0) × (now memo ≡ replicate 21880 0) ⌝ }
     ensures { λ r. ⌜ OpenedSays (now (s .entry)) r ⌝ }
+    ensures { λ _. ⌜ length (now (marks .exit)) ≡ length (now (marks .entry)) ⌝ }
+    ensures { λ r. ⌜ OpenedIndex (now (s .entry)) r (now (index .exit)) (now (memo .exit)) ⌝ }
 {
     if !store::size_ok(s) {
         return Opened::Refused(1);
     }
-    match judge::soundness(s, table, marks) {
+    match judge::soundness(s, limits, table, marks, index, memo) {
         StoreAnswer::Unsound => Opened::Refused(2),
         StoreAnswer::Used(used) => Opened::Used(used),
     }
@@ -275,7 +288,16 @@ fn opened_by(s: &[u8]) -> Opened
 {
     let table = codes::table();
     let mut marks = [false; 4096];
-    opened_with(s, &table, &mut marks)
+    let mut index = [0u16; 12288];
+    let mut memo = [0u16; 21880];
+    opened_with(
+        s,
+        Limits::standard(),
+        &table,
+        &mut marks,
+        &mut index,
+        &mut memo,
+    )
 }
 
 // Makes an empty store of a buffer of 64 to 65,535 bytes, whatever it held.
@@ -321,12 +343,25 @@ pub extern "C" fn loader_load(store: &mut [u8], domain: &[u8], file: &[u8]) -> u
     ensures { λ r. ⌜ LoadPromise (now (store .entry)) (now (domain .entry)) (now (file .entry)) r ⌝ }
     ensures { λ _. ⌜ now (store .exit) ≡ after (now (store .entry)) (load (now (domain .entry)) (now (file .entry))) ⌝ }
 {
+    let limits = Limits::standard();
     let table = codes::table();
     let mut marks = [false; 4096];
-    match opened_with(store, &table, &mut marks) {
+    let mut index = [0u16; 12288];
+    let mut memo = [0u16; 21880];
+    match opened_with(store, limits, &table, &mut marks, &mut index, &mut memo) {
         Opened::Refused(n) => n,
         Opened::Used(used) => {
-            let answer = judge::load_answer(store, used, domain, file, &table, &mut marks);
+            let answer = judge::load_answer(
+                store,
+                used,
+                domain,
+                file,
+                limits,
+                &table,
+                &mut marks,
+                &index,
+                &mut memo,
+            );
             load_on(store, used, domain, file, answer)
         }
     }

@@ -10,7 +10,7 @@ use lib.Dec.{eqb}
 use lib.ListN.{length, take, drop, getD}
 use lib.Seq.{drop-cons}
 use borrow.Author.Tests.{eq-eqb, ne-eqb}
-use Rattle.rules.specs.Bytes.{Bytes, Aid, any, many}
+use Rattle.rules.specs.Bytes.{Bytes, Aid, any, all, many}
 use Rattle.rules.specs.Package.{domainIndex}
 use Rattle.places.specs.Reads.{Reads}
 use Rattle.places.proofs.Inverse.{reads-left, reads-done}
@@ -62,20 +62,30 @@ module _ (q : Aid → Bool) (r : ℕ → Bool) (b : ℕ) where
       later false c e = refl
 
 -- one byte more
-take-more : (s : Bytes) (i n : ℕ) → 0 < n → i < length s → take n (drop i s) ≡ getD s i 0 ∷ take (n - 1) (drop (i + 1) s)
+pub take-more : (s : Bytes) (i n : ℕ) → 0 < n → i < length s → take n (drop i s) ≡ getD s i 0 ∷ take (n - 1) (drop (i + 1) s)
 take-more s i zero h k = absurd (omega arith)
 take-more s i (suc n) h k = let z : suc n - 1 ≡ n = omega arith in rw (z, add-one, drop-cons s i 0 k)
 
--- whether a number is among the bytes at a place
-module _ (s : Bytes) (k left c : ℕ) (h : 0 < left) (l : c < length s) where
-  pub byte-hit : getD s c 0 ≡ k → any (eqb k) (take left (drop c s)) ≡ true
-  byte-hit e = let t : eqb k (getD s c 0) ≡ true = eq-eqb k (getD s c 0) (sym e) in rw (take-more s c left h l, t)
+-- tests of the bytes at a place: of one, and of all
+module _ (s : Bytes) (p : ℕ → Bool) (left c : ℕ) where
+  module _ (h : 0 < left) (l : c < length s) where
+    pub byte-hit : p (getD s c 0) ≡ true → any p (take left (drop c s)) ≡ true
+    byte-hit e = rw (take-more s c left h l, e)
 
-  pub byte-miss : (getD s c 0 ≡ k → ⊥) → any (eqb k) (take left (drop c s)) ≡ any (eqb k) (take (left - 1) (drop (c + 1) s))
-  byte-miss e = let t : eqb k (getD s c 0) ≡ false = ne-eqb k (getD s c 0) (λ z. e (sym z)) in rw (take-more s c left h l, t)
+    pub byte-miss : p (getD s c 0) ≡ false → any p (take left (drop c s)) ≡ any p (take (left - 1) (drop (c + 1) s))
+    byte-miss e = rw (take-more s c left h l, e)
 
-pub byte-none : (s : Bytes) (k left c : ℕ) → left ≤ 0 → any (eqb k) (take left (drop c s)) ≡ false
-byte-none s k left c h = let z : left ≡ 0 = omega arith in rw z
+    pub byte-fails : p (getD s c 0) ≡ false → all p (take left (drop c s)) ≡ false
+    byte-fails e = rw (take-more s c left h l, e)
+
+    pub byte-passes : p (getD s c 0) ≡ true → all p (take left (drop c s)) ≡ all p (take (left - 1) (drop (c + 1) s))
+    byte-passes e = rw (take-more s c left h l, e)
+
+  pub byte-none : left ≤ 0 → any p (take left (drop c s)) ≡ false
+  byte-none h = let z : left ≡ 0 = omega arith in rw z
+
+  pub byte-all : left ≤ 0 → all p (take left (drop c s)) ≡ true
+  byte-all h = let z : left ≡ 0 = omega arith in rw z
 
 -- of the AIDs at the indexes one passes: of the domains one passes whose number is an index
 pub any-indexed : (q : Aid → Bool) (ds : List Aid) (s : Bytes) (n i : ℕ) (aids : List Aid) (j : ℕ) → Reads (many n (domainIndex ds)) s i aids j → any q aids ≡ anyFrom (λ k d. q d && any (eqb k) (take n (drop i s))) 0 ds

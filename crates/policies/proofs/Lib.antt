@@ -1,3 +1,5 @@
 -- The laws about policies at places.
 pub mod Indexes
+pub mod Numbers
+pub mod Compared
 pub mod Rules

@@ -28,10 +28,10 @@ use Rattle.policies.specs.Say.{indexesAt, IndexesThere, ListsIs, ListedI
 use Rattle.policies.proofs.Indexes.{anyFrom, any-indexed}
 
 -- a policy that is FF, and one that is not
-every-is : (ds : List Aid) (s : Bytes) (i : ℕ) (q : Policy) (e : ℕ) → Reads (policy ds) s i q e → getD s i 0 ≡ 255 → every ≡ q
+pub every-is : (ds : List Aid) (s : Bytes) (i : ℕ) (q : Policy) (e : ℕ) → Reads (policy ds) s i q e → getD s i 0 ≡ 255 → every ≡ q
 every-is ds s i q e p h = elim (policy-part ds s i q e p) [ inl x ↦ x .is | inr x ↦ absurd (omega (arith, x .few)) ]
 
-only-list : (ds : List Aid) (s : Bytes) (i : ℕ) (q : Policy) (e : ℕ) → Reads (policy ds) s i q e → (getD s i 0 ≡ 255 → ⊥) → OnlyPart ds s i q e
+pub only-list : (ds : List Aid) (s : Bytes) (i : ℕ) (q : Policy) (e : ℕ) → Reads (policy ds) s i q e → (getD s i 0 ≡ 255 → ⊥) → OnlyPart ds s i q e
 only-list ds s i q e p h = elim (policy-part ds s i q e p) [ inl x ↦ absurd (h (x .mark)) | inr x ↦ x ]
 
 module _ {s : Bytes} {d i : ℕ} (e : PolicyOver s d i) where

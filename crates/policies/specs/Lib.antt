@@ -1,2 +1,3 @@
 -- What the functions over policies require and ensure.
 pub mod Say
+pub mod Numbers

@@ -1,5 +1,5 @@
 -- Methods where they stand: the first of a name, the one that runs, and what it allows. Assumes nothing.
-use Prim.Native.Nat.{ℕ, suc, _≤_, _<_}
+use Prim.Native.Nat.{ℕ, suc, _≤_}
 use mathlib.Core.Path.{_≡_, refl, sym, _∙_, ap, subst}
 use mathlib.Core.Bool.{Bool, true, false, not}
 use mathlib.Core.List.{List}
@@ -25,8 +25,8 @@ use Rattle.homes.specs.Homes.{fileOf, ownHome, HomeIs, ClassPlaced}
 use Rattle.homes.specs.Homes as homes
 use Rattle.homes.specs.declared.Home.{Home}
 use Rattle.homes.proofs.Homes.{home-bounds}
-use Rattle.running.specs.Say.{Judged, Running, ClassThere, rank, Kind0ParentIs, InstanceAt, MethodsIn, FirstFound, FirstIs, RunningThere, OwnIs, RunsIs, MethodThere}
-use Rattle.running.specs.declared.ClassFound.{ClassFound}
+use Rattle.running.specs.Say.{Judged, Running, ClassThere, Kind0ParentIs, InstanceAt, MethodsIn, FirstFound, FirstIs, RunningThere, RunsIs}
+use Rattle.running.specs.Chain.{RecordAt}
 use Rattle.running.specs.declared.ClassFound.the-variants as classes
 use Rattle.running.specs.declared.ClassSpot.{ClassSpot}
 use Rattle.running.specs.declared.RunsFound.{RunsFound}
@@ -44,9 +44,8 @@ module _ (f s : Bytes) (h : Home) (n : ℕ) where
       let z : y .0 ≡ k = Option·some-injective _ _ (sym (y .2) ∙ e) in
       (y .1, subst (λ (a : Class). Reads (class standard (x .pack .domains)) (fileOf f s h) i a (y .1)) z (y .3))
 
-  pub class-nowhere : ClassPlaced f s h n spots.Nothing → (end : ℕ) (es : List Entry) (self : Installed) → Judged f s end es self → (x : Installed) → HomeIs f s end es self h x →
-      (k : Class) → at (x .pack .classes) n ≡ some k → ⊥
-  class-nowhere p end es self j x o k e = none-some (sym (placed-none (p end es self (j .parents .imported) x o)) ∙ e)
+  pub class-nowhere : (i : ℕ) → ClassPlaced f s h n spots.Nothing → ClassThere f s h n → RecordAt f s h n i
+  class-nowhere i p t = let c = t .1 in absurd (none-some (sym (placed-none (p (t .0) (c .entries) (c .self) (c .asked .parents .imported) (c .pack) (c .home))) ∙ c .is))
 
   pub class-there : (g : Bytes) (i : ℕ) → g ≡ fileOf f s h → ClassPlaced f s h n (spots.At i) → ClassThere f s h n → say.ClassThere g i
   class-there g i z p t =
@@ -61,9 +60,6 @@ module _ (f s : Bytes) (h : Home) (n : ℕ) where
       subst (λ (b : Bytes). Placed (method standard (x .pack .domains)) b (declaredInstance k name) (spot r)) z
       (q standard (x .pack .domains) k (y .0) (subst (λ (b : Bytes). Reads (class standard (x .pack .domains)) b i k (y .0)) (sym z) (y .1)))
 
-  pub instance-none : (name : ℕ) (r : Spot) → ClassPlaced f s h n spots.Nothing → InstanceAt f s h n name r
-  instance-none name r p end es self j x o k e = absurd (class-nowhere p end es self j x o k e)
-
   -- the list of methods
   pub methods-in : (g : Bytes) (i r : ℕ) → g ≡ fileOf f s h → ClassPlaced f s h n (spots.At i) → MethodsAt g i r → MethodsIn f s h n r
   methods-in g i r z p q end es self j x o k e =
@@ -72,9 +68,6 @@ module _ (f s : Bytes) (h : Home) (n : ℕ) where
         subst (λ (b : Bytes). Reads (counted mostMethods u1 (method standard (x .pack .domains))) b r (k .methods) (y .0)) z
             (q standard (x .pack .domains) k (y .0) (subst (λ (b : Bytes). Reads (class standard (x .pack .domains)) b i k (y .0)) (sym z) (y .1))),
       )
-
-  pub methods-none : (r : ℕ) → ClassPlaced f s h n spots.Nothing → MethodsIn f s h n r
-  methods-none r p end es self j x o k e = absurd (class-nowhere p end es self j x o k e)
 
   -- the first method of a name: the class declares it
   pub first-here : (name i : ℕ) → InstanceAt f s h n name (spots.At i) → FirstIs f s h n name (At h i)
@@ -111,49 +104,16 @@ module _ (f s : Bytes) (h : Home) (n : ℕ) where
     first-nowhere q end es self j x o k e m first =
         first-not (installed standard es) (record { home = x; number = n }) k e (placed-none (p end es self j x o k e)) (q end es self j x o k e) m first
 
-    -- the parent's rank, and that it is there
-    pub above-there : (d : ClassSpot) → Kind0ParentIs f s h n (classes.At d) → ClassThere f s h n → ClassThere f s (d .home) (d .number)
-    above-there d q t =
-        let c = t .1 in
-        let u = q (t .0) (c .entries) (c .self) (c .asked) (c .pack) (c .home) (c .class) (c .is) in
-        (t .0, record { entries = c .entries; self = c .self; asked = c .asked; pack = u .0; home = u .1; class = u .3; is = u .4 })
-
-    pub above-rank : (d : ClassSpot) → Kind0ParentIs f s h n (classes.At d) → ClassThere f s h n → rank (d .home) (d .number) < rank h n
-    above-rank d q t = let c = t .1 in (q (t .0) (c .entries) (c .self) (c .asked) (c .pack) (c .home) (c .class) (c .is)) .5
-
 -- own class b
 module _ (f s : Bytes) (end b : ℕ) where
   -- its record
-  pub own-class : (es : List Entry) (self : Installed) → Running f s end b es self → (k : Class) × (at (self .pack .classes) b ≡ some k)
+  own-class : (es : List Entry) (self : Installed) → Running f s end b es self → (k : Class) × (at (self .pack .classes) b ≡ some k)
   own-class es self r = let y = some-and-is (recordOf (own self b)) (λ k. not (k .interface)) (r .kind0) in (y .0, y .1)
 
   pub own-there : RunningThere f s end b → ClassThere f s (ownHome end) b
   own-there t =
       let y = own-class (t .0) (t .1) (t .2) in
       (end, record { entries = t .0; self = t .1; asked = t .2 .judged; pack = t .1; home = homes.own; class = y .0; is = y .1 })
-
-  -- its record at the place told
-  module _ (i : ℕ) (up : ClassFound) (p : OwnIs f s end b i up) where
-    pub own-record : RunningThere f s end b → say.ClassThere f i
-    own-record t = class-there f s (ownHome end) b f i refl (p .0) (own-there t)
-
-    own-at : (name : ℕ) (r : Spot) → InstancePlaced f i name r → InstanceAt f s (ownHome end) b name r
-    own-at name r q = instance-is f s (ownHome end) b f i name r refl (p .0) q
-
-    -- the class declares the method
-    pub own-here : (name j : ℕ) (h : Home) → h ≡ ownHome end → InstancePlaced f i name (spots.At j) → FirstIs f s (ownHome end) b name (At h j)
-    own-here name j h z q = subst (λ (a : Home). FirstIs f s (ownHome end) b name (At a j)) (sym z) (first-here f s (ownHome end) b name j (own-at name (spots.At j) q))
-
-    -- or its kind-0 parent has it
-    module _ (name : ℕ) (q : InstancePlaced f i name spots.Nothing) where
-      pub own-above-there : (d : ClassSpot) → up ≡ classes.At d → RunningThere f s end b → ClassThere f s (d .home) (d .number)
-      own-above-there d z t = above-there f s (ownHome end) b name (own-at name spots.Nothing q) d (subst (Kind0ParentIs f s (ownHome end) b) z (p .1)) (own-there t)
-
-      pub own-above : (d : ClassSpot) → up ≡ classes.At d → (r : RunsFound) → FirstIs f s (d .home) (d .number) name r → FirstIs f s (ownHome end) b name r
-      own-above d z r w = first-above f s (ownHome end) b name (own-at name spots.Nothing q) d r (subst (Kind0ParentIs f s (ownHome end) b) z (p .1)) w
-
-      pub own-nowhere : up ≡ classes.Nothing → FirstIs f s (ownHome end) b name Nothing
-      own-nowhere z = first-nowhere f s (ownHome end) b name (own-at name spots.Nothing q) (subst (Kind0ParentIs f s (ownHome end) b) z (p .1))
 
   -- its depth is within the limit
   pub own-depth : (es : List Entry) (self : Installed) → Judged f s end es self → (k : Class) → at (self .pack .classes) b ≡ some k →
@@ -185,9 +145,6 @@ module _ (f s : Bytes) (end b : ℕ) where
     runs-none p es self q = runs-never es self q name (first-own Nothing p es self q)
 
     module _ (h : Home) (i : ℕ) (p : FirstIs f s (ownHome end) b name (At h i)) where
-      pub first-bounds : RunningThere f s end b → (h .from ≤ h .to) × (h .to ≤ length s)
-      first-bounds t = let u = first-own (At h i) p (t .0) (t .1) (t .2) in home-bounds f s end (t .0) (t .1) h (u .0 .class .home) (u .2 .home)
-
       module _ (g : Bytes) (z : g ≡ fileOf f s h) where
         pub first-method : RunningThere f s end b → say.MethodThere g i
         first-method t =

@@ -150,15 +150,13 @@ module _ (f s : Bytes) (h : Home) (n count i : ℕ) (q : CountIs f s h n count) 
     pub kind0-hit : Kind0Is f s (r .home) (r .number) true → Kind0ParentIs f s h n (At r)
     kind0-hit y end es self j x o k e =
         let m = at-split (k .parents) i (omega (arith, q end es self j x o k e)) in
-        let u = p end es self j x o k e (m .0) (m .1) in
-        let c = u .0 in
+        let c = (p end es self j x o k e (m .0) (m .1)) .0 in
         let w : isKind0 (record { home = c .pack; number = r .number }) ≡ true = sym (y end es self j (c .pack) (c .home) (c .class) (c .is)) in (
           c .pack,
           c .home,
           inv end es self j x o k e ∙ ap (λ (ps : List ClassNumber). find isKind0 (parentsNamed (installed standard es) x ps)) (m .2) ∙ named-first (installed standard es) x (m .0) (drop (suc i) (k .parents)) _ true (c .named) w,
           c .class,
           c .is,
-          u .1,
         )
 
     pub kind0-miss : Kind0Is f s (r .home) (r .number) false → Kind0From f s h n (i + 1)

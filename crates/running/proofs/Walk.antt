@@ -20,14 +20,14 @@ use Rattle.rules.proofs.Tests.{of-true, flat-mem-is, listOf-mem}
 use Rattle.rules.proofs.Bounds.{flat-mem}
 use Rattle.rules.proofs.Lists.{at-mem}
 use Rattle.homes.specs.Homes.{HomeIs}
+use Rattle.homes.specs.Memo.{memoLength, key}
 use Rattle.homes.specs.declared.Home.{Home}
 use Rattle.homes.proofs.Homes.{home-reads}
-use Rattle.running.specs.Say.{Judged, Running, CountIs, ParentThere, rank, NamedAt, ParentIs, WalkThere, MethodsPass, Passes, ClassPasses, ParentsPass, ParentsThere, memoLength, Marks, SeenIs}
+use Rattle.running.specs.Say.{Judged, Running, CountIs, ParentThere, rank, NamedAt, ParentIs, WalkThere, MethodsPass, Passes, ClassPasses, ParentsPass, ParentsThere, Marks, SeenIs}
 use Rattle.running.specs.declared.ClassSpot.{ClassSpot}
-use Rattle.depths.proofs.Keys.{key-small, key-one, class-below}
+use Rattle.depths.proofs.Keys.{key-small, key-one}
 use Rattle.running.proofs.Records.{at-split, at-inside}
 use Rattle.running.proofs.Loops.{walk-class}
-use Rattle.running.proofs.Methods.{own-class}
 
 -- a member of a list has a number
 pub mem-at : {A : Type 0} (xs : List A) (x : A) → List·Memᴰ x xs → (i : ℕ) × (at xs i ≡ some x)
@@ -35,11 +35,11 @@ mem-at xs x (List·Memᴰ·head e) = (0, ap some (sym e))
 mem-at xs x (List·Memᴰ·tail {xs = ys} m) = let r = mem-at ys x m in (suc (r .0), r .1)
 
 -- a mark that was looked for
-pub seen-is : (memo : Bytes) (i b w : ℕ) → w ≡ getD memo i 0 → SeenIs memo i b (eqb w (b + 1))
-seen-is memo i b w e = go (eqb w (b + 1)) refl
+pub seen-is : (memo : List ℕ) (i mark w : ℕ) → w ≡ getD memo i 0 → SeenIs memo i mark (eqb w mark)
+seen-is memo i mark w e = go (eqb w mark) refl
   where
-    go : (v : Bool) → eqb w (b + 1) ≡ v → SeenIs memo i b v
-    go true q = sym e ∙ eqb→eq w (b + 1) (of-true q)
+    go : (v : Bool) → eqb w mark ≡ v → SeenIs memo i mark v
+    go true q = sym e ∙ eqb→eq w mark (of-true q)
     go false q = tt
 
 -- a class that a file names as a parent is a parent, and the other way
@@ -92,26 +92,20 @@ module _ (f s : Bytes) (end b : ℕ) (h : Home) (n : ℕ) where
           let i = mem-at (k .parents) (y .0) (y .1) in
           p es self r x o k e (i .0) (omega (arith, q end es self (r .judged) x o k e, at-inside (k .parents) (i .0) (y .0) (i .1))) (y .0) (i .1) (u .0) (y .2) a (u .2)
 
-  -- own class numbers are small
-  pub own-small : WalkThere f s end b h n → b < 32
-  own-small t =
-      let y = own-class f s end b (t .entries) (t .self) (t .asked) in
-      (class-below standard f (t .self .pack) (t .asked .judged .parents .imported .setting .reads) b (y .0) (y .1)) .1
-
   -- the place in the memo
-  pub key-inside : length s ≤ 65535 → WalkThere f s end b h n → h .before + n < memoLength
+  pub key-inside : length s ≤ 65535 → WalkThere f s end b h n → key h n < memoLength
   key-inside z t = key-small f s end (t .entries) (t .self) (t .asked .judged .parents .imported .setting) z h (t .pack) (t .home) n (t .class) (t .is)
 
   -- a class more is marked
-  module _ (memo : Bytes) (m : Marks f s end b memo) where
-    pub class-marked : getD memo (h .before + n) 0 ≡ b + 1 → ClassPasses f s end b h n true
+  module _ (mark : ℕ) (memo : List ℕ) (m : Marks f s end b mark memo) where
+    pub class-marked : getD memo (key h n) 0 ≡ mark → ClassPasses f s end b h n true
     class-marked e = m .hold h n e
 
-    pub mark-set : length s ≤ 65535 → WalkThere f s end b h n → ClassPasses f s end b h n true → Marks f s end b (set memo (h .before + n) (b + 1))
+    pub mark-set : length s ≤ 65535 → WalkThere f s end b h n → ClassPasses f s end b h n true → Marks f s end b mark (set memo (key h n) mark)
     mark-set z t p = record {
-      size = length-set memo (h .before + n) (b + 1) ∙ m .size;
-      small = λ i. small i (decide i (h .before + n));
-      hold = λ g l e es self r x o k q. hold g l e es self r x o k q (decide (g .before + l) (h .before + n));
+      below = record { size = length-set memo (key h n) mark ∙ m .below .size; small = λ i. small i (decide i (key h n)) };
+      fits = m .fits;
+      hold = λ g l e es self r x o k q. hold g l e es self r x o k q (decide (key g l) (key h n));
     }
       where
         decide : (i j : ℕ) → (i ≡ j) ⊎ (i ≡ j → ⊥)
@@ -120,24 +114,24 @@ module _ (f s : Bytes) (end b : ℕ) (h : Home) (n : ℕ) where
           | yes q ↦ elim (decLe j i) [ no w ↦ inr (λ e. omega arith) | yes w ↦ inl (omega arith) ]
         ]
 
-        inside : h .before + n < length memo
-        inside = omega (arith, key-inside z t, m .size)
+        inside : key h n < length memo
+        inside = omega (arith, key-inside z t, m .below .size)
 
-        small : (i : ℕ) → (i ≡ h .before + n) ⊎ (i ≡ h .before + n → ⊥) → getD (set memo (h .before + n) (b + 1)) i 0 ≤ b + 1
-        small i (inl e) = let y = getD-set-same memo (h .before + n) (b + 1) 0 inside in rw e (omega (arith, y))
-        small i (inr e) = let y = getD-set-other memo (h .before + n) i (b + 1) 0 e in omega (arith, y, m .small i)
+        small : (i : ℕ) → (i ≡ key h n) ⊎ (i ≡ key h n → ⊥) → getD (set memo (key h n) mark) i 0 ≤ mark
+        small i (inl e) = let y = getD-set-same memo (key h n) mark 0 inside in rw e (omega (arith, y))
+        small i (inr e) = let y = getD-set-other memo (key h n) i mark 0 e in omega (arith, y, m .below .small i)
 
-        hold : (g : Home) (l : ℕ) → getD (set memo (h .before + n) (b + 1)) (g .before + l) 0 ≡ b + 1 → (es : List Entry) (self : Installed) → Running f s end b es self →
+        hold : (g : Home) (l : ℕ) → getD (set memo (key h n) mark) (key g l) 0 ≡ mark → (es : List Entry) (self : Installed) → Running f s end b es self →
             (x : Installed) → HomeIs f s end es self g x → (k : Class) → at (x .pack .classes) l ≡ some k →
-            (g .before + l ≡ h .before + n) ⊎ (g .before + l ≡ h .before + n → ⊥) → Passes (installed standard es) self b (record { home = x; number = l })
-        hold g l e es self r x o k q (inr d) = m .hold g l (sym (getD-set-other memo (h .before + n) (g .before + l) (b + 1) 0 d) ∙ e) es self r x o k q
+            (key g l ≡ key h n) ⊎ (key g l ≡ key h n → ⊥) → Passes (installed standard es) self b (record { home = x; number = l })
+        hold g l e es self r x o k q (inr d) = m .hold g l (sym (getD-set-other memo (key h n) (key g l) mark 0 d) ∙ e) es self r x o k q
         hold g l e es self r x o k q (inl d) =
             let y = key-one f s end es (t .entries) self (t .self) (r .judged .parents .imported .setting) (t .asked .judged .parents .imported .setting) g h x (t .pack) o (t .home) l n k (t .class) q (t .is) d in
             subst (λ (i : ℕ). Passes (installed standard es) self b (record { home = x; number = i })) (sym (y .1))
             (p es self r x (subst (λ (a : Home). HomeIs f s end es self a x) (y .0) o) k (subst (λ (i : ℕ). at (x .pack .classes) i ≡ some k) (y .1) q))
 
-    pub mark-after : length s ≤ 65535 → WalkThere f s end b h n → ClassPasses f s end b h n true → (m′ : Bytes) → m′ ≡ set memo (h .before + n) (b + 1) → Marks f s end b m′
-    mark-after z t p m′ e = subst (Marks f s end b) (sym e) (mark-set z t p)
+    pub mark-after : length s ≤ 65535 → WalkThere f s end b h n → ClassPasses f s end b h n true → (m′ : List ℕ) → m′ ≡ set memo (key h n) mark → Marks f s end b mark m′
+    mark-after z t p m′ e = subst (Marks f s end b mark) (sym e) (mark-set z t p)
 
   -- parents: all are left
   pub parents-all : (left : ℕ) → CountIs f s h n left → WalkThere f s end b h n → ParentsThere f s end b h n left

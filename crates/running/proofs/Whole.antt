@@ -1,14 +1,14 @@
 -- Question 20 of own classes, one after another. Assumes nothing.
-use Prim.Native.Nat.{ℕ, zero, suc, _+_, _≤_, _<_}
+use Prim.Native.Nat.{ℕ, suc, _+_, _≤_, _<_}
 use native.Mathlib.Omega.{arith}
 use native.Mathlib.Numerals.{add-one}
 use mathlib.Core.Path.{_≡_, refl, sym, _∙_, ap}
 use mathlib.Core.Bool.{Bool, true, false, _&&_, _||_}
 use mathlib.Core.List.{List, [], _∷_, List·Memᴰ, List·Memᴰ·head, List·Memᴰ·tail}
 use mathlib.Core.Option.{Option, none, some}
-use lib.ListN.{length, drop, getD, replicate, drop-of-length-le, length-replicate}
+use lib.ListN.{length, drop, getD, drop-of-length-le}
 use Rattle.rules.specs.Bytes.{Bytes, all, allFrom, at, noneOr, u1}
-use Rattle.rules.specs.Package.{standard, mostClasses, Method, Class, class}
+use Rattle.rules.specs.Package.{Limits, standard, mostClasses, Method, Class, Package, class, readFile}
 use Rattle.rules.specs.Store.{Entry}
 use Rattle.rules.specs.Classes.{Installed, installed, ClassAt, recordOf, ancestorsUpTo, isKind0, runsUpTo, allowsAllOf}
 use Rattle.rules.specs.Questions.{own, runningAllows, q20-running}
@@ -18,13 +18,14 @@ use Rattle.places.proofs.Steady.{steady-u1, steady-class}
 use Rattle.places.proofs.Inverse.{reads-counted, reads-u1}
 use Rattle.places.proofs.Track.{many-length, counted-inside}
 use Rattle.files.specs.Say.{Readable, ClassesAt}
-use Rattle.files.specs.declared.Spot.the-variants as spots
 use Rattle.files.proofs.Walks.{classes-read}
-use Rattle.homes.specs.Homes.{ownHome, ClassPlaced}
+use Rattle.homes.specs.Homes.{ownHome}
 use Rattle.homes.specs.Homes as homes
-use Rattle.running.specs.Say.{Judged, Running, ClassThere, Kind0Is, WalkThere, Passes, Fails, Answers, ClassPasses, memoLength, Marks, Unmarked, OwnThere, OwnPasses, JudgedThere, RunningIs}
+use Rattle.homes.specs.Memo.{key, MemoBelow}
+use Rattle.running.specs.Say.{Judged, Running, ClassThere, Kind0Is, WalkThere, Passes, Fails, Answers, ClassPasses, Marks, OwnThere, OwnPasses, JudgedThere, RunningIs, MemoAfter}
+use Rattle.depths.proofs.Keys.{class-below}
 use Rattle.running.proofs.Records.{at-split}
-use Rattle.running.proofs.Methods.{own-depth, class-nowhere}
+use Rattle.running.proofs.Methods.{own-depth}
 
 -- all elements pass, or one does not
 all-true : {A : Type 0} (p : A → Bool) (xs : List A) → ((x : A) → List·Memᴰ x xs → p x ≡ true) → all p xs ≡ true
@@ -57,6 +58,10 @@ interface-allows is b a z = go (recordOf a) refl
     go none e = rw e
     go (some k) e = rw e (all-true _ (k .methods) (λ m i. each k m))
 
+-- numbers that do not pass m pass nothing greater
+pub below-more : (m n : ℕ) (memo : List ℕ) → m ≤ n → MemoBelow m memo → MemoBelow n memo
+below-more m n memo z u = record { size = u .size; small = λ i. omega (arith, u .small i) }
+
 module _ (f s : Bytes) (end b : ℕ) where
   pub own-class-there : OwnThere f s end b → ClassThere f s (ownHome end) b
   own-class-there t = (end, record { entries = t .0; self = t .1; asked = t .2; pack = t .1; home = homes.own; class = t .3; is = t .4 })
@@ -65,10 +70,6 @@ module _ (f s : Bytes) (end b : ℕ) where
   own-interface q es self j k e =
       sym (all-true (runningAllows standard (installed standard es) (own self b)) (ancestorsUpTo (installed standard es) (standard .depth) (own self b))
       (λ a m. interface-allows (installed standard es) (own self b) a (sym (q end es self j self homes.own k e))))
-
-  -- its record has a place
-  pub own-nothing : ClassPlaced f s (ownHome end) b spots.Nothing → OwnPasses f s end b true
-  own-nothing p es self j k e = absurd (class-nowhere f s (ownHome end) b p end es self j self homes.own k e)
 
   module _ (q : Kind0Is f s (ownHome end) b true) where
     own-running : (es : List Entry) (self : Installed) → Judged f s end es self → (k : Class) → at (self .pack .classes) b ≡ some k → Running f s end b es self
@@ -87,24 +88,17 @@ module _ (f s : Bytes) (end b : ℕ) where
         go false w = sym (all-false _ (ancestorsUpTo (installed standard es) (standard .depth) (own self b)) (w .0)
             (below-ancestors (installed standard es) (standard .depth) (own self b) (w .0) (own-depth f s end b es self j k e) (w .1)) (w .2))
 
+  -- own class numbers are small
+  pub own-small : OwnThere f s end b → b < 32
+  own-small t = (class-below standard f (t .1 .pack) (t .2 .parents .imported .setting .reads) b (t .3) (t .4)) .1
+
   -- the memo between two own classes
-  pub marks-start : (memo : Bytes) → Unmarked b memo → Marks f s end b memo
-  marks-start memo u = record { size = u .size; small = λ i. omega (arith, u .small i); hold = λ h n e es self r x o k q. absurd (omega (arith, u .small (h .before + n))) }
-
-  pub marks-done : (memo : Bytes) → Marks f s end b memo → Unmarked (b + 1) memo
-  marks-done memo m = record { size = m .size; small = m .small }
-
-  pub unmarked-more : (memo : Bytes) → Unmarked b memo → Unmarked (b + 1) memo
-  unmarked-more memo u = record { size = u .size; small = λ i. omega (arith, u .small i) }
-
--- a memo of zeros
-zeros-small : (n i : ℕ) → getD (replicate n 0) i 0 ≤ 0
-zeros-small zero i = omega arith
-zeros-small (suc n) zero = omega arith
-zeros-small (suc n) (suc i) = zeros-small n i
-
-pub unmarked-zeros : (n : ℕ) → n ≡ memoLength → Unmarked 0 (replicate n 0)
-unmarked-zeros n e = record { size = length-replicate n 0 ∙ e; small = zeros-small n }
+  pub marks-start : (base : ℕ) (memo : List ℕ) → MemoBelow (base + b) memo → base ≤ 65000 → OwnThere f s end b → Marks f s end b (base + b + 1) memo
+  marks-start base memo u z t = record {
+    below = below-more (base + b) (base + b + 1) memo (omega arith) u;
+    fits = omega (arith, own-small t);
+    hold = λ h n e es self r x o k q. absurd (omega (arith, u .small (key h n)));
+  }
 
 -- the test of own class i
 abbrev pub ownTest : List Entry → Installed → ℕ → Class → Bool
@@ -114,7 +108,7 @@ ownTest es self i k = all (runningAllows standard (installed standard es) (own s
 pub record OwnLeft (f s : Bytes) (end count b : ℕ) : Type 0 where
   pub few : b ≤ count
   pub left : (es : List Entry) (self : Installed) → Judged f s end es self → q20-running standard (installed standard es) self ≡ allFrom (ownTest es self) b (drop b (self .pack .classes))
-  pub count-is : (es : List Entry) (self : Installed) → Judged f s end es self → count ≡ length (self .pack .classes)
+  pub count-is : (l : Limits) (p : Package) → readFile l f ≡ some p → count ≡ length (p .classes)
 
 module _ (f s : Bytes) (end : ℕ) where
   pub judged-reads : JudgedThere f s end → Readable f
@@ -134,30 +128,36 @@ module _ (f s : Bytes) (end : ℕ) where
     own-start count z = record {
       few = omega arith;
       left = λ es self j. refl;
-      count-is = λ es self j.
-          let p = self .pack in
-          let c = reads-counted mostClasses u1 (class standard (p .domains)) steady-u1 f at-classes (p .classes) (length f) (classes-read q standard p (j .parents .imported .setting .reads)) in
+      count-is = λ l p r.
+          let c = reads-counted mostClasses u1 (class l (p .domains)) steady-u1 f at-classes (p .classes) (length f) (classes-read q l p r) in
           let w = reads-u1 f at-classes (c .number) (c .place) (c .count) in
-          z ∙ w .byte ∙ sym (many-length (class standard (p .domains)) (steady-class standard (p .domains)) (c .number) f (c .place) (p .classes) (length f) (c .list));
+          z ∙ w .byte ∙ sym (many-length (class l (p .domains)) (steady-class l (p .domains)) (c .number) f (c .place) (p .classes) (length f) (c .list));
     }
 
   module _ (count b : ℕ) (inv : OwnLeft f s end count b) where
+    own-count : (es : List Entry) (self : Installed) → Judged f s end es self → count ≡ length (self .pack .classes)
+    own-count es self j = inv .count-is standard (self .pack) (j .parents .imported .setting .reads)
+
+    -- the memo has no number above those of the classes so far
+    pub memo-after : (base m : ℕ) (memo : List ℕ) → m ≤ base + count → MemoBelow m memo → MemoAfter f base memo
+    memo-after base m memo z u l p r = below-more m (base + length (p .classes)) memo (omega (arith, inv .count-is l p r)) u
+
     pub own-done : count ≤ b → RunningIs f s end true
     own-done z es self p q =
         let j : Judged f s end es self = record { parents = p; q14 = q } in
-        let d : drop b (self .pack .classes) ≡ [] = drop-of-length-le (self .pack .classes) {i = b} (omega (arith, inv .count-is es self j)) in
+        let d : drop b (self .pack .classes) ≡ [] = drop-of-length-le (self .pack .classes) {i = b} (omega (arith, own-count es self j)) in
         sym (inv .left es self j ∙ ap (allFrom (ownTest es self) b) d)
 
     module _ (z : b < count) where
       pub own-there′ : JudgedThere f s end → OwnThere f s end b
       own-there′ t =
           let j = judged-there t in
-          let m = at-split (t .1 .pack .classes) b (omega (arith, inv .count-is (t .0) (t .1) j)) in
+          let m = at-split (t .1 .pack .classes) b (omega (arith, own-count (t .0) (t .1) j)) in
           (t .0, t .1, j, m .0, m .1)
 
       own-next : (es : List Entry) (self : Installed) (j : Judged f s end es self) (r : Bool) → OwnPasses f s end b r → q20-running standard (installed standard es) self ≡ (r && allFrom (ownTest es self) (suc b) (drop (suc b) (self .pack .classes)))
       own-next es self j r q =
-          let m = at-split (self .pack .classes) b (omega (arith, inv .count-is es self j)) in
+          let m = at-split (self .pack .classes) b (omega (arith, own-count es self j)) in
           inv .left es self j ∙ ap (allFrom (ownTest es self) b) (m .2) ∙ ap (λ (v : Bool). v && allFrom (ownTest es self) (suc b) (drop (suc b) (self .pack .classes))) (sym (q es self j (m .0) (m .1)))
 
       pub own-no : OwnPasses f s end b false → RunningIs f s end false

@@ -6,9 +6,10 @@
 -- MethodIn              == a method stands at a place of the file at home h
 -- ParentIs              == the class told is the parent with a number, and stands before the class of which it is one
 -- FirstIs, RunsIs       == the method told is the first non-static one of a name, the one that runs
--- OwnIs f s end b i up  == own class b's record stands at place i, and up is its first parent of kind 0
+-- IfImplemented         == the method at a place, told if it is implemented
 -- Passes, Fails         == of a class and its ancestors all, or not all, have `runningAllows` for own class b
--- Marks f s end b memo  == where the memo holds b + 1 the class and all its ancestors pass for own class b
+-- Marks f s end b mark memo == where the memo holds the mark the class and all its ancestors pass for own class b
+-- MemoAfter f base memo == no number in the memo passes base by more than f has classes
 use Prim.Native.Nat.{ℕ, _+_, _*_, _<_, _≤_}
 use mathlib.Core.Path.{_≡_}
 use mathlib.Core.Bool.{Bool, true, false, _||_}
@@ -17,7 +18,7 @@ use mathlib.Core.Option.{Option, none, some}
 use lib.Dec.{T}
 use lib.ListN.{length, getD}
 use Rattle.rules.specs.Bytes.{Bytes, all, at, noneOr, u1, counted}
-use Rattle.rules.specs.Package.{standard, mostMethods, ClassNumber, Class, method}
+use Rattle.rules.specs.Package.{Limits, standard, mostMethods, ClassNumber, Class, Package, method, readFile}
 use Rattle.rules.specs.Store.{Entry}
 use Rattle.rules.specs.Classes.{Installed, installed, ClassAt, classNamed, ancestorsUpTo, isKind0, kind0Parent, declaredInstance, MethodAt, runsUpTo, allowsAllOf}
 use Rattle.rules.specs.Questions.{own, q14-parents, runningAllows, q20-running}
@@ -26,8 +27,8 @@ use Rattle.places.specs.Reads.{Reads, Placed}
 use Rattle.files.specs.Say.{spot}
 use Rattle.files.specs.Say as files
 use Rattle.files.specs.declared.Spot.{Spot}
-use Rattle.files.specs.declared.Spot.the-variants as spots
-use Rattle.homes.specs.Homes.{Imports, Parents, fileOf, ownHome, HomeIs, ClassPlaced}
+use Rattle.homes.specs.Homes.{Imports, Parents, fileOf, HomeIs}
+use Rattle.homes.specs.Memo.{key, MemoBelow}
 use Rattle.homes.specs.declared.Home.{Home}
 use Rattle.running.specs.declared.ClassSpot.{ClassSpot}
 use Rattle.running.specs.declared.ClassFound.{ClassFound}
@@ -96,13 +97,13 @@ abbrev pub Kind0Is : Bytes → Bytes → Home → ℕ → Bool → Type 0
 Kind0Is f s h n r = AtClass f s h n λ end es self x k. r ≡ isKind0 (record { home = x; number = n })
 
 -- a class told, if one is told
-abbrev pub FoundAt : Bytes → Bytes → ℕ → List Entry → Installed → Home → ℕ → Option ClassAt → ClassFound → Type 0
-FoundAt f s end es self h n o (classes.At r) = (y : Installed) × HomeIs f s end es self (r .home) y × (o ≡ some (record { home = y; number = r .number })) ×
-    (k : Class) × (at (y .pack .classes) (r .number) ≡ some k) × (rank (r .home) (r .number) < rank h n)
-FoundAt f s end es self h n o classes.Nothing = o ≡ none
+abbrev pub FoundAt : Bytes → Bytes → ℕ → List Entry → Installed → Option ClassAt → ClassFound → Type 0
+FoundAt f s end es self o (classes.At r) = (y : Installed) × HomeIs f s end es self (r .home) y × (o ≡ some (record { home = y; number = r .number })) ×
+    (k : Class) × (at (y .pack .classes) (r .number) ≡ some k)
+FoundAt f s end es self o classes.Nothing = o ≡ none
 
 abbrev pub Kind0ParentIs : Bytes → Bytes → Home → ℕ → ClassFound → Type 0
-Kind0ParentIs f s h n r = AtClass f s h n λ end es self x k. FoundAt f s end es self h n (kind0Parent (installed standard es) (record { home = x; number = n })) r
+Kind0ParentIs f s h n r = AtClass f s h n λ end es self x k. FoundAt f s end es self (kind0Parent (installed standard es) (record { home = x; number = n })) r
 
 -- methods: a class record stands at a place
 abbrev pub RecordThere : Bytes → ℕ → Type 0
@@ -128,6 +129,15 @@ FirstFound f s end es self c name methods.Nothing = (o : MethodAt) → First (in
 abbrev pub FirstIs : Bytes → Bytes → Home → ℕ → ℕ → RunsFound → Type 0
 FirstIs f s h n name r = AtClass f s h n λ end es self x k. FirstFound f s end es self (record { home = x; number = n }) name r
 
+-- a method stands at a place
+abbrev pub MethodHere : Bytes → ℕ → Type 0
+MethodHere g i = files.MethodThere g i
+
+-- the method at place i of the file g, which lies at home h, if implemented
+abbrev pub IfImplemented : Bytes → Home → ℕ → RunsFound → Type 0
+IfImplemented g h i (methods.At x j) = (x ≡ h) × (j ≡ i) × files.ImplementedIs g i true
+IfImplemented g h i methods.Nothing = files.ImplementedIs g i false
+
 -- the method told is what runs
 abbrev pub RunsAt : Bytes → Bytes → ℕ → List Entry → Installed → Option MethodAt → RunsFound → Type 0
 RunsAt f s end es self o (methods.At h i) = (m : MethodAt) × (o ≡ some m) × MethodIn f s end es self h i m
@@ -136,10 +146,6 @@ RunsAt f s end es self o methods.Nothing = o ≡ none
 -- own class b of kind 0
 abbrev pub RunningThere : Bytes → Bytes → ℕ → ℕ → Type 0
 RunningThere f s end b = (es : List Entry) × (self : Installed) × Running f s end b es self
-
--- its record stands at place i of the file, and its first parent of kind 0 is the class told
-abbrev pub OwnIs : Bytes → Bytes → ℕ → ℕ → ℕ → ClassFound → Type 0
-OwnIs f s end b i up = ClassPlaced f s (ownHome end) b (spots.At i) × Kind0ParentIs f s (ownHome end) b up
 
 abbrev pub RunsIs : Bytes → Bytes → ℕ → ℕ → ℕ → RunsFound → Type 0
 RunsIs f s end b name r = (es : List Entry) (self : Installed) → Running f s end b es self →
@@ -204,24 +210,15 @@ pub record ParentsThere (f s : Bytes) (end b : ℕ) (h : Home) (n left : ℕ) : 
   pub class : WalkThere f s end b h n
   pub few : left ≤ length (class .class .parents)
 
--- the memo has a byte for each class
-abbrev pub memoLength : ℕ
-memoLength = 65568
+-- where the memo holds own class b's mark the class and all its ancestors pass for own class b, and no number passes the mark
+pub record Marks (f s : Bytes) (end b mark : ℕ) (memo : List ℕ) : Type 0 where
+  pub below : MemoBelow mark memo
+  pub fits : mark ≤ 65535
+  pub hold : (h : Home) (n : ℕ) → getD memo (key h n) 0 ≡ mark → OfWalk f s end b h n λ es self x k. Passes (installed standard es) self b (record { home = x; number = n })
 
--- where the memo holds b + 1 the class and all its ancestors pass for own class b
-pub record Marks (f s : Bytes) (end b : ℕ) (memo : Bytes) : Type 0 where
-  pub size : length memo ≡ memoLength
-  pub small : (i : ℕ) → getD memo i 0 ≤ b + 1
-  pub hold : (h : Home) (n : ℕ) → getD memo (h .before + n) 0 ≡ b + 1 → OfWalk f s end b h n λ es self x k. Passes (installed standard es) self b (record { home = x; number = n })
-
--- the mark of own class b stands at a place of the memo, or not
-abbrev pub SeenIs : Bytes → ℕ → ℕ → Bool → Type 0
-SeenIs memo i b r = Answers (getD memo i 0 ≡ b + 1) (Unit {0}) r
-
--- no mark of own class b is set yet
-pub record Unmarked (b : ℕ) (memo : Bytes) : Type 0 where
-  pub size : length memo ≡ memoLength
-  pub small : (i : ℕ) → getD memo i 0 ≤ b
+-- the mark stands at a place of the memo, or not
+abbrev pub SeenIs : List ℕ → ℕ → ℕ → Bool → Type 0
+SeenIs memo i mark r = Answers (getD memo i 0 ≡ mark) (Unit {0}) r
 
 -- own class b
 abbrev pub OwnThere : Bytes → Bytes → ℕ → ℕ → Type 0
@@ -238,3 +235,7 @@ JudgedThere f s end = (es : List Entry) × (self : Installed) × Parents f s end
 abbrev pub RunningIs : Bytes → Bytes → ℕ → Bool → Type 0
 RunningIs f s end r = (es : List Entry) (self : Installed) → Parents f s end es self → T (q14-parents standard (installed standard es) self) →
     r ≡ q20-running standard (installed standard es) self
+
+-- the memo after question 20 of a file with so many classes
+abbrev pub MemoAfter : Bytes → ℕ → List ℕ → Type 0
+MemoAfter f base memo = (l : Limits) (p : Package) → readFile l f ≡ some p → MemoBelow (base + length (p .classes)) memo

@@ -9,7 +9,9 @@ ghost use Prim.Native.Nat.{_+_, _<_, _≤_};
 ghost use lib.ListN.{length, set};
 ghost use Rattle.files.specs.Say.{InstancePlaced};
 ghost use Rattle.homes.specs.Homes.{ownHome};
-ghost use Rattle.running.specs.Say.{ClassThere, CountIs, ParentThere, ParentIs, Kind0Is, Kind0ParentIs, InstanceAt, MethodsIn, FirstIs, RunningThere, RunsIs, BothThere, AllowsAllOf, MethodThere, MethodPasses, WalkThere, MethodsPass, ClassPasses, ParentsPass, ParentsThere, memoLength, Marks, Unmarked, OwnThere, OwnIs, OwnPasses, JudgedThere, RunningIs, SeenIs, RecordThere};
+ghost use Rattle.homes.specs.Memo.{memoLength, MemoBelow};
+ghost use Rattle.running.specs.Chain.{RecordAt, mostLinks, chainLength, linkHome, linkPlace, withLink, ChainFrom, ChainKept, ChainRoom, ChainIs};
+ghost use Rattle.running.specs.Say.{ClassThere, CountIs, ParentThere, ParentIs, Kind0Is, Kind0ParentIs, MethodsIn, MethodHere, IfImplemented, RunningThere, RunsIs, BothThere, AllowsAllOf, MethodThere, MethodPasses, WalkThere, MethodsPass, ClassPasses, ParentsPass, ParentsThere, Marks, OwnThere, OwnPasses, JudgedThere, RunningIs, MemoAfter, SeenIs, RecordThere};
 
 // A class by its package's home and its number there.
 pub struct ClassSpot {
@@ -104,14 +106,14 @@ fn instance_in(g: &[u8], c: usize, name: usize) -> Spot
     files::find_instance(g, c, name)
 }
 
-// The same in class n of the package at a home.
-fn instance_at<'a>(f: &'a [u8], s: &'a [u8], h: Home, n: usize, name: usize) -> Spot
+// The place of the record of class n of the package at a home.
+fn record_at<'a>(f: &'a [u8], s: &'a [u8], h: Home, n: usize) -> usize
     requires { ⌜ ClassThere (now f) (now s) h n ⌝ }
-    ensures { λ r. ⌜ InstanceAt (now (f .entry)) (now (s .entry)) h n name r ⌝ }
+    ensures { λ r. ⌜ RecordAt (now (f .entry)) (now (s .entry)) h n r ⌝ }
 {
     match homes::class_place(f, s, h, n) {
-        Spot::At(c) => instance_in(homes::file_of(f, s, h), c, name),
-        Spot::Nothing => Spot::Nothing,
+        Spot::At(c) => c,
+        Spot::Nothing => 0,
     }
 }
 
@@ -120,80 +122,108 @@ fn methods_at<'a>(f: &'a [u8], s: &'a [u8], h: Home, n: usize) -> usize
     requires { ⌜ ClassThere (now f) (now s) h n ⌝ }
     ensures { λ r. ⌜ MethodsIn (now (f .entry)) (now (s .entry)) h n r ⌝ }
 {
-    match homes::class_place(f, s, h, n) {
-        Spot::At(c) => files::methods_of(homes::file_of(f, s, h), c),
-        Spot::Nothing => 0,
-    }
+    let c = record_at(f, s, h, n);
+    files::methods_of(homes::file_of(f, s, h), c)
 }
 
-// From a class along kind-0 parents, the first that declares a non-static method of a name.
-fn first_instance<'a>(f: &'a [u8], s: &'a [u8], h: Home, n: usize, name: usize) -> RunsFound
-    requires { ⌜ ClassThere (now f) (now s) h n ⌝ }
-    ensures { λ r. ⌜ FirstIs (now (f .entry)) (now (s .entry)) h n name r ⌝ }
+// Writes class i of a chain: the home of its package, and the place of its record in the file there.
+fn set_link(chain: &mut [usize; 32], i: usize, h: Home, c: usize)
+    requires { ⌜ (length (now chain) ≡ chainLength) × (i < mostLinks) ⌝ }
+    ensures { λ r. ⌜ now (chain .exit) ≡ withLink (now (chain .entry)) i h c ⌝ }
 {
-    match instance_at(f, s, h, n, name) {
-        Spot::At(m) => RunsFound::At(h, m),
-        Spot::Nothing => match kind0_parent(f, s, h, n) {
-            ClassFound::At(d) => {
-                let g = d.home;
-                let k = d.number;
-                first_instance(f, s, g, k, name)
-            }
-            ClassFound::Nothing => RunsFound::Nothing,
-        },
+    let at = 4 * i;
+    chain[at] = h.from;
+    chain[at + 1] = h.to;
+    chain[at + 2] = h.before;
+    chain[at + 3] = c;
+}
+
+// The home of class i of a chain.
+fn link_home(chain: &[usize; 32], i: usize) -> Home
+    requires { ⌜ (length (now chain) ≡ chainLength) × (i < mostLinks) ⌝ }
+    ensures { λ r. ⌜ r ≡ linkHome (now (chain .entry)) i ⌝ }
+{
+    let at = 4 * i;
+    Home {
+        from: chain[at],
+        to: chain[at + 1],
+        before: chain[at + 2],
     }
 }
 
-// The same from own class b, whose record stands at place own of the file, and whose first parent of kind 0 is up.
-fn own_instance<'a>(
+// The place of its record.
+fn link_place(chain: &[usize; 32], i: usize) -> usize
+    requires { ⌜ (length (now chain) ≡ chainLength) × (i < mostLinks) ⌝ }
+    ensures { λ r. ⌜ r ≡ linkPlace (now (chain .entry)) i ⌝ }
+{
+    chain[4 * i + 3]
+}
+
+// Writes class n of the package at a home as class i of a chain, then those along its kind-0 parents. How many classes the chain has.
+fn find_chain<'a>(
     f: &'a [u8],
     s: &'a [u8],
-    end: usize,
-    b: usize,
-    own: usize,
-    up: ClassFound,
-    name: usize,
-) -> RunsFound
-    requires { ⌜ RunningThere (now f) (now s) end b ⌝ }
-    requires { ⌜ OwnIs (now f) (now s) end b own up ⌝ }
-    ensures { λ r. ⌜ FirstIs (now (f .entry)) (now (s .entry)) (ownHome end) b name r ⌝ }
+    chain: &mut [usize; 32],
+    i: usize,
+    h: Home,
+    n: usize,
+) -> usize
+    requires { ⌜ ChainRoom (now f) (now s) i h n ⌝ }
+    requires { ⌜ length (now chain) ≡ chainLength ⌝ }
+    ensures { λ r. ⌜ ChainFrom (now (f .entry)) (now (s .entry)) (now (chain .exit)) h n i r × (r ≤ mostLinks) ⌝ }
+    ensures { λ r. ⌜ ChainKept i (now (chain .entry)) (now (chain .exit)) ⌝ }
 {
-    match instance_in(f, own, name) {
-        Spot::At(m) => RunsFound::At(own_home(end), m),
-        Spot::Nothing => match up {
-            ClassFound::At(d) => {
-                let g = d.home;
-                let k = d.number;
-                first_instance(f, s, g, k, name)
-            }
-            ClassFound::Nothing => RunsFound::Nothing,
-        },
+    let c = record_at(f, s, h, n);
+    set_link(chain, i, h, c);
+    match kind0_parent(f, s, h, n) {
+        ClassFound::At(d) => {
+            let g = d.home;
+            let m = d.number;
+            find_chain(f, s, chain, i + 1, g, m)
+        }
+        ClassFound::Nothing => i + 1,
     }
 }
 
-// The method that runs for own class b, of kind 0, and a name.
+// The method at a place of the file at a home, if implemented.
+fn if_implemented(g: &[u8], h: Home, at: usize) -> RunsFound
+    requires { ⌜ MethodHere (now g) at ⌝ }
+    ensures { λ r. ⌜ IfImplemented (now (g .entry)) h at r ⌝ }
+{
+    if !files::is_implemented(g, at) {
+        return RunsFound::Nothing;
+    }
+    RunsFound::At(h, at)
+}
+
+// The method that runs for own class b, of kind 0, and a name. The search ends at the first of the name, implemented or not.
 fn running_method<'a>(
     f: &'a [u8],
     s: &'a [u8],
     end: usize,
     b: usize,
-    own: usize,
-    up: ClassFound,
+    chain: &[usize; 32],
+    links: usize,
     name: usize,
 ) -> RunsFound
     requires { ⌜ RunningThere (now f) (now s) end b ⌝ }
-    requires { ⌜ OwnIs (now f) (now s) end b own up ⌝ }
+    requires { ⌜ ChainIs (now f) (now s) end b (now chain) links ⌝ }
     ensures { λ r. ⌜ RunsIs (now (f .entry)) (now (s .entry)) end b name r ⌝ }
 {
-    match own_instance(f, s, end, b, own, up, name) {
-        RunsFound::At(g, m) => {
-            if !files::is_implemented(homes::file_of(f, s, g), m) {
-                return RunsFound::Nothing;
-            }
-            RunsFound::At(g, m)
+    let mut i = 0;
+    while i < links {
+        let h = link_home(chain, i);
+        let g = homes::file_of(f, s, h);
+        let next = i + 1;
+        match instance_in(g, link_place(chain, i), name) {
+            Spot::At(m) => match if_implemented(g, h, m) {
+                RunsFound::At(x, k) => return RunsFound::At(x, k),
+                RunsFound::Nothing => i = links,
+            },
+            Spot::Nothing => i = next,
         }
-        RunsFound::Nothing => RunsFound::Nothing,
     }
+    RunsFound::Nothing
 }
 
 // Does the method at place i of the file at home g allow all that the one at place j of the file at home h allows?
@@ -214,20 +244,20 @@ fn method_passes<'a>(
     s: &'a [u8],
     end: usize,
     b: usize,
-    own: usize,
-    up: ClassFound,
+    chain: &[usize; 32],
+    links: usize,
     h: Home,
     at: usize,
 ) -> bool
     requires { ⌜ MethodThere (now f) (now s) end b h at ⌝ }
-    requires { ⌜ OwnIs (now f) (now s) end b own up ⌝ }
+    requires { ⌜ ChainIs (now f) (now s) end b (now chain) links ⌝ }
     ensures { λ r. ⌜ MethodPasses (now (f .entry)) (now (s .entry)) end b h at r ⌝ }
 {
     let g = homes::file_of(f, s, h);
     if files::is_static(g, at) {
         return true;
     }
-    match running_method(f, s, end, b, own, up, files::name_of(g, at)) {
+    match running_method(f, s, end, b, chain, links, files::name_of(g, at)) {
         RunsFound::At(x, m) => allows_all_of(f, s, x, m, h, at),
         RunsFound::Nothing => true,
     }
@@ -239,13 +269,13 @@ fn class_methods_pass<'a>(
     s: &'a [u8],
     end: usize,
     b: usize,
-    own: usize,
-    up: ClassFound,
+    chain: &[usize; 32],
+    links: usize,
     h: Home,
     n: usize,
 ) -> bool
     requires { ⌜ WalkThere (now f) (now s) end b h n ⌝ }
-    requires { ⌜ OwnIs (now f) (now s) end b own up ⌝ }
+    requires { ⌜ ChainIs (now f) (now s) end b (now chain) links ⌝ }
     ensures { λ r. ⌜ MethodsPass (now (f .entry)) (now (s .entry)) end b h n r ⌝ }
 {
     let g = homes::file_of(f, s, h);
@@ -253,7 +283,7 @@ fn class_methods_pass<'a>(
     let mut left = wide(g[start]);
     let mut c = start + 1;
     while 0 < left {
-        if !method_passes(f, s, end, b, own, up, h, c) {
+        if !method_passes(f, s, end, b, chain, links, h, c) {
             return false;
         }
         c = files::after_method(g, c);
@@ -262,53 +292,61 @@ fn class_methods_pass<'a>(
     true
 }
 
-// Does the memo hold own class b's mark at a place?
-fn is_marked(memo: &[u8; 65568], at: usize, b: usize) -> bool
-    requires { ⌜ (length (now memo) ≡ memoLength) × (at < memoLength) × (b < 32) ⌝ }
-    ensures { λ r. ⌜ SeenIs (now (memo .entry)) at b r ⌝ }
+// A number of the memo.
+fn number_in(x: u16) -> usize
+    ensures { λ r. ⌜ r ≡ x ⌝ }
 {
-    wide(memo[at]) == b + 1
+    x as usize
+}
+
+// Does the memo hold a mark at a place?
+fn is_marked(memo: &[u16; 21880], at: usize, mark: usize) -> bool
+    requires { ⌜ (length (now memo) ≡ memoLength) × (at < memoLength) ⌝ }
+    ensures { λ r. ⌜ SeenIs (now (memo .entry)) at mark r ⌝ }
+{
+    number_in(memo[at]) == mark
 }
 
 // Sets it.
-fn set_mark(memo: &mut [u8; 65568], at: usize, b: usize)
-    requires { ⌜ (length (now memo) ≡ memoLength) × (at < memoLength) × (b < 32) ⌝ }
-    ensures { λ r. ⌜ now (memo .exit) ≡ set (now (memo .entry)) at (b + 1) ⌝ }
+fn set_mark(memo: &mut [u16; 21880], at: usize, mark: usize)
+    requires { ⌜ (length (now memo) ≡ memoLength) × (at < memoLength) × (mark ≤ 65535) ⌝ }
+    ensures { λ r. ⌜ now (memo .exit) ≡ set (now (memo .entry)) at mark ⌝ }
 {
-    memo[at] = (b + 1) as u8;
+    memo[at] = mark as u16;
 }
 
-// Do class n of the package at a home and all its ancestors pass for own class b? A class that is marked passed before.
+// Do class n of the package at a home and all its ancestors pass for own class b? A class that holds b's mark passed before.
 fn class_passes<'a>(
     f: &'a [u8],
     s: &'a [u8],
-    memo: &mut [u8; 65568],
+    memo: &mut [u16; 21880],
     end: usize,
     b: usize,
-    own: usize,
-    up: ClassFound,
+    mark: usize,
+    chain: &[usize; 32],
+    links: usize,
     h: Home,
     n: usize,
 ) -> bool
     requires { ⌜ WalkThere (now f) (now s) end b h n ⌝ }
-    requires { ⌜ Marks (now f) (now s) end b (now memo) ⌝ }
+    requires { ⌜ Marks (now f) (now s) end b mark (now memo) ⌝ }
     requires { ⌜ length (now s) ≤ 65535 ⌝ }
-    requires { ⌜ OwnIs (now f) (now s) end b own up ⌝ }
+    requires { ⌜ ChainIs (now f) (now s) end b (now chain) links ⌝ }
     ensures { λ r. ⌜ ClassPasses (now (f .entry)) (now (s .entry)) end b h n r ⌝ }
-    ensures { λ r. ⌜ Marks (now (f .entry)) (now (s .entry)) end b (now (memo .exit)) ⌝ }
+    ensures { λ r. ⌜ Marks (now (f .entry)) (now (s .entry)) end b mark (now (memo .exit)) ⌝ }
 {
-    let at = h.before + n;
-    if is_marked(memo, at, b) {
+    let at = h.before / 3 + n;
+    if is_marked(memo, at, mark) {
         return true;
     }
-    if !class_methods_pass(f, s, end, b, own, up, h, n) {
+    if !class_methods_pass(f, s, end, b, chain, links, h, n) {
         return false;
     }
     let count = parent_count(f, s, h, n);
-    if !parents_pass(f, s, memo, end, b, own, up, h, n, count) {
+    if !parents_pass(f, s, memo, end, b, mark, chain, links, h, n, count) {
         return false;
     }
-    set_mark(memo, at, b);
+    set_mark(memo, at, mark);
     true
 }
 
@@ -316,21 +354,22 @@ fn class_passes<'a>(
 fn parents_pass<'a>(
     f: &'a [u8],
     s: &'a [u8],
-    memo: &mut [u8; 65568],
+    memo: &mut [u16; 21880],
     end: usize,
     b: usize,
-    own: usize,
-    up: ClassFound,
+    mark: usize,
+    chain: &[usize; 32],
+    links: usize,
     h: Home,
     n: usize,
     left: usize,
 ) -> bool
     requires { ⌜ ParentsThere (now f) (now s) end b h n left ⌝ }
-    requires { ⌜ Marks (now f) (now s) end b (now memo) ⌝ }
+    requires { ⌜ Marks (now f) (now s) end b mark (now memo) ⌝ }
     requires { ⌜ (length (now s) ≤ 65535) × (left ≤ 4) ⌝ }
-    requires { ⌜ OwnIs (now f) (now s) end b own up ⌝ }
+    requires { ⌜ ChainIs (now f) (now s) end b (now chain) links ⌝ }
     ensures { λ r. ⌜ ParentsPass (now (f .entry)) (now (s .entry)) end b h n left r ⌝ }
-    ensures { λ r. ⌜ Marks (now (f .entry)) (now (s .entry)) end b (now (memo .exit)) ⌝ }
+    ensures { λ r. ⌜ Marks (now (f .entry)) (now (s .entry)) end b mark (now (memo .exit)) ⌝ }
 {
     if left == 0 {
         return true;
@@ -338,48 +377,55 @@ fn parents_pass<'a>(
     let p = parent_at(f, s, h, n, left - 1);
     let g = p.home;
     let m = p.number;
-    if !class_passes(f, s, memo, end, b, own, up, g, m) {
+    if !class_passes(f, s, memo, end, b, mark, chain, links, g, m) {
         return false;
     }
-    parents_pass(f, s, memo, end, b, own, up, h, n, left - 1)
+    parents_pass(f, s, memo, end, b, mark, chain, links, h, n, left - 1)
 }
 
-// Question 20 of own class b. For an interface nothing runs.
+// Question 20 of own class b, whose mark is one more than base and b together. For an interface nothing runs.
 fn own_class_passes<'a>(
     f: &'a [u8],
     s: &'a [u8],
-    memo: &mut [u8; 65568],
+    memo: &mut [u16; 21880],
     end: usize,
+    base: usize,
     b: usize,
 ) -> bool
     requires { ⌜ OwnThere (now f) (now s) end b ⌝ }
-    requires { ⌜ Unmarked b (now memo) ⌝ }
-    requires { ⌜ length (now s) ≤ 65535 ⌝ }
+    requires { ⌜ MemoBelow (base + b) (now memo) ⌝ }
+    requires { ⌜ (length (now s) ≤ 65535) × (base ≤ 65000) ⌝ }
     ensures { λ r. ⌜ OwnPasses (now (f .entry)) (now (s .entry)) end b r ⌝ }
-    ensures { λ r. ⌜ Unmarked (b + 1) (now (memo .exit)) ⌝ }
+    ensures { λ r. ⌜ MemoBelow (base + b + 1) (now (memo .exit)) ⌝ }
 {
     let h = own_home(end);
     if !is_kind0(f, s, h, b) {
         return true;
     }
-    let up = kind0_parent(f, s, h, b);
-    match homes::class_place(f, s, h, b) {
-        Spot::At(own) => class_passes(f, s, memo, end, b, own, up, h, b),
-        Spot::Nothing => true,
-    }
+    let mark = base + b + 1;
+    let mut chain = [0usize; 32];
+    let links = find_chain(f, s, &mut chain, 0, h, b);
+    class_passes(f, s, memo, end, b, mark, &chain, links, h, b)
 }
 
-// Question 20 of a file, over the entries of the store that end at a place.
-pub fn running_ok<'a>(f: &'a [u8], s: &'a [u8], end: usize) -> bool
+// Question 20 of a file, over the entries of the store that end at a place. No number in the memo passes base before.
+pub fn running_ok<'a>(
+    f: &'a [u8],
+    s: &'a [u8],
+    end: usize,
+    memo: &mut [u16; 21880],
+    base: usize,
+) -> bool
     requires { ⌜ JudgedThere (now f) (now s) end ⌝ }
     requires { ⌜ length (now s) ≤ 65535 ⌝ }
+    requires { ⌜ MemoBelow base (now memo) × (base ≤ 65000) ⌝ }
     ensures { λ r. ⌜ RunningIs (now (f .entry)) (now (s .entry)) end r ⌝ }
+    ensures { λ r. ⌜ MemoAfter (now (f .entry)) base (now (memo .exit)) ⌝ }
 {
     let count = wide(f[files::classes_at(f)]);
-    let mut memo = [0u8; 65568];
     let mut b = 0;
     while b < count {
-        if !own_class_passes(f, s, &mut memo, end, b) {
+        if !own_class_passes(f, s, memo, end, base, b) {
             return false;
         }
         b += 1;

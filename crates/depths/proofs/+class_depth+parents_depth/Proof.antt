@@ -2,6 +2,7 @@
 -- parents left fall along the list; the memo keeps only true depths. Assumes nothing.
 use Rattle.depths.specs.Depths as says
 use Rattle.depths.proofs.Walk as walk
+use Rattle.depths.proofs.Memo as memos
 use Rattle.depths.proofs.ParentKinds as kinds
 use denote.Ref.{now}
 use Rattle.depths.specs.Depths.{rank}
@@ -62,7 +63,7 @@ class-depth-told-requires : (t : ℕ) → class-depth-lts.Need-told-requires (
   tell-reads.Asked,
   tell-reads.Learnt,
 ) (class-depth-at t) class-depth.Post
-class-depth-told-requires t c κs = ((c .before .before .before .pre .1 .1 .1) .size, (walk.key-fits (now (c .before .before .before .args .f)) (now (c .before .before .before .args .s)) (c .before .before .before .args .end) (c .before .before .before .args .h) (c .before .before .before .args .n) ((c .before .before .before .pre .1 .1 .0) .0) (c .before .before .before .pre .1 .0)))
+class-depth-told-requires t c κs = (c .before .before .before .pre .1 .1 .1 .size, (memos.key-fits (now (c .before .before .before .args .f)) (now (c .before .before .before .args .s)) (c .before .before .before .args .end) (c .before .before .before .args .h) (c .before .before .before .args .n) (c .before .before .before .pre .1 .1 .0 .0) (c .before .before .before .pre .1 .0)))
 
 class-depth-returns : (t : ℕ) → class-depth-lts.Need-returns (
   told-reads.Asked,
@@ -74,7 +75,7 @@ class-depth-returns : (t : ℕ) → class-depth-lts.Need-returns (
   tell-reads.Asked,
   tell-reads.Learnt,
 ) (class-depth-at t) class-depth.Post
-class-depth-returns t c = (walk.memo-told (now (c .before .before .before .before .before .args .f)) (now (c .before .before .before .before .before .args .s)) (c .before .before .before .before .before .args .end) (c .before .before .before .before .before .args .h) (c .before .before .before .before .before .args .n) (now (c .before .before .before .before .before .args .memo)) (c .before .told .result) (c .before .before .before .before .before .pre .1 .1 .1) (c .before .told .ensures) (c .if1 .taken), (c .before .before .before .before .before .pre .1 .1 .1))
+class-depth-returns t c = (memos.memo-told (now (c .before .before .before .before .before .args .f)) (now (c .before .before .before .before .before .args .s)) (c .before .before .before .before .before .args .end) (c .before .before .before .before .before .args .h) (c .before .before .before .before .before .args .n) (c .before .before .before .before .before .args .base) (c .before .before .before .before .before .args .most) (now (c .before .before .before .before .before .args .memo)) (c .before .before .before .before .before .pre .1 .1 .1) (c .before .told .result) (c .before .told .ensures) (c .if1 .taken), c .before .before .before .before .before .pre .1 .1 .1)
 
 class-depth-parents-depth-requires : (t : ℕ) → class-depth-lts.Need-parents-depth-requires (
   told-reads.Asked,
@@ -86,7 +87,7 @@ class-depth-parents-depth-requires : (t : ℕ) → class-depth-lts.Need-parents-
   tell-reads.Asked,
   tell-reads.Learnt,
 ) (class-depth-at t) class-depth.Post
-class-depth-parents-depth-requires t c κs = (omega (arith, c .before .before .before .before .before .before .pre .0), ((c .before .before .before .before .before .before .pre .1 .0), ((c .before .before .before .before .before .before .pre .1 .1 .0), (c .before .before .before .before .before .before .pre .1 .1 .1))))
+class-depth-parents-depth-requires t c κs = (omega (arith, c .before .before .before .before .before .before .pre .0), (c .before .before .before .before .before .before .pre .1 .0, (c .before .before .before .before .before .before .pre .1 .1 .0, c .before .before .before .before .before .before .pre .1 .1 .1)))
 
 class-depth-one-more-requires : (t : ℕ) → class-depth-lts.Need-one-more-requires (
   told-reads.Asked,
@@ -98,7 +99,7 @@ class-depth-one-more-requires : (t : ℕ) → class-depth-lts.Need-one-more-requ
   tell-reads.Asked,
   tell-reads.Learnt,
 ) (class-depth-at t) class-depth.Post
-class-depth-one-more-requires t c κs = walk.depth-small (c .before .before .before .before .before .before .before .args .most) ((c .before .before .before .before .before .before .before .pre .1 .1 .0) .1)
+class-depth-one-more-requires t c κs = walk.depth-small (c .before .before .before .before .before .before .before .args .most) (c .before .before .before .before .before .before .before .pre .1 .1 .0 .1)
 
 class-depth-tell-requires : (t : ℕ) → class-depth-lts.Need-tell-requires (
   told-reads.Asked,
@@ -110,7 +111,7 @@ class-depth-tell-requires : (t : ℕ) → class-depth-lts.Need-tell-requires (
   tell-reads.Asked,
   tell-reads.Learnt,
 ) (class-depth-at t) class-depth.Post
-class-depth-tell-requires t c κs = (c .before .before .parents-depth .ensures .1 .size, (walk.key-fits (now (c .before .before .before .before .before .before .before .before .before .args .f)) (now (c .before .before .before .before .before .before .before .before .before .args .s)) (c .before .before .before .before .before .before .before .before .before .args .end) (c .before .before .before .before .before .before .before .before .before .args .h) (c .before .before .before .before .before .before .before .before .before .args .n) ((c .before .before .before .before .before .before .before .before .before .pre .1 .1 .0) .0) (c .before .before .before .before .before .before .before .before .before .pre .1 .0)), c .before .one-more .ensures .1)
+class-depth-tell-requires t c κs = (c .before .before .parents-depth .ensures .1 .size, (memos.key-fits (now (c .before .before .before .before .before .before .before .before .before .args .f)) (now (c .before .before .before .before .before .before .before .before .before .args .s)) (c .before .before .before .before .before .before .before .before .before .args .end) (c .before .before .before .before .before .before .before .before .before .args .h) (c .before .before .before .before .before .before .before .before .before .args .n) (c .before .before .before .before .before .before .before .before .before .pre .1 .1 .0 .0) (c .before .before .before .before .before .before .before .before .before .pre .1 .0)), omega (arith, c .before .one-more .ensures .1, walk.depth-small (c .before .before .before .before .before .before .before .before .before .args .most) (c .before .before .before .before .before .before .before .before .before .pre .1 .1 .0 .1), c .before .before .before .before .before .before .before .before .before .pre .1 .1 .0 .2))
 
 class-depth-returns-2 : (t : ℕ) → class-depth-lts.Need-returns-2 (
   told-reads.Asked,
@@ -122,7 +123,7 @@ class-depth-returns-2 : (t : ℕ) → class-depth-lts.Need-returns-2 (
   tell-reads.Asked,
   tell-reads.Learnt,
 ) (class-depth-at t) class-depth.Post
-class-depth-returns-2 t c = ((walk.depth-is (now (c .before .before .before .before .before .before .before .before .before .before .args .f)) (now (c .before .before .before .before .before .before .before .before .before .before .args .s)) (c .before .before .before .before .before .before .before .before .before .before .args .end) (c .before .before .before .before .before .before .before .before .before .before .args .h) (c .before .before .before .before .before .before .before .before .before .before .args .n) (c .before .before .before .before .before .before .before .before .before .before .args .most) (c .before .before .before .parents-depth .result) (c .before .before .one-more .result) ((c .before .before .before .before .before .before .before .before .before .before .pre .1 .1 .0) .1) (c .before .before .before .parents-depth .ensures .0) (c .before .before .one-more .ensures .0)), subst (says.MemoIs (now (c .before .before .before .before .before .before .before .before .before .before .args .f)) (now (c .before .before .before .before .before .before .before .before .before .before .args .s)) (c .before .before .before .before .before .before .before .before .before .before .args .end)) (sym (c .tell .ensures)) (walk.memo-set (now (c .before .before .before .before .before .before .before .before .before .before .args .f)) (now (c .before .before .before .before .before .before .before .before .before .before .args .s)) (c .before .before .before .before .before .before .before .before .before .before .args .end) (c .before .before .before .before .before .before .before .before .before .before .args .h) (c .before .before .before .before .before .before .before .before .before .before .args .n) (c .before .before .before .parents-depth .last .1 .1 .1 .1 .1 .1 .1 .0) (c .before .before .one-more .result) (c .before .before .before .parents-depth .ensures .1) (walk.key-fits (now (c .before .before .before .before .before .before .before .before .before .before .args .f)) (now (c .before .before .before .before .before .before .before .before .before .before .args .s)) (c .before .before .before .before .before .before .before .before .before .before .args .end) (c .before .before .before .before .before .before .before .before .before .before .args .h) (c .before .before .before .before .before .before .before .before .before .before .args .n) ((c .before .before .before .before .before .before .before .before .before .before .pre .1 .1 .0) .0) (c .before .before .before .before .before .before .before .before .before .before .pre .1 .0)) (c .before .before .before .before .before .before .before .before .before .before .pre .1 .0) (walk.depth-is (now (c .before .before .before .before .before .before .before .before .before .before .args .f)) (now (c .before .before .before .before .before .before .before .before .before .before .args .s)) (c .before .before .before .before .before .before .before .before .before .before .args .end) (c .before .before .before .before .before .before .before .before .before .before .args .h) (c .before .before .before .before .before .before .before .before .before .before .args .n) (c .before .before .before .before .before .before .before .before .before .before .args .most) (c .before .before .before .parents-depth .result) (c .before .before .one-more .result) ((c .before .before .before .before .before .before .before .before .before .before .pre .1 .1 .0) .1) (c .before .before .before .parents-depth .ensures .0) (c .before .before .one-more .ensures .0))))
+class-depth-returns-2 t c = ((walk.depth-is (now (c .before .before .before .before .before .before .before .before .before .before .args .f)) (now (c .before .before .before .before .before .before .before .before .before .before .args .s)) (c .before .before .before .before .before .before .before .before .before .before .args .end) (c .before .before .before .before .before .before .before .before .before .before .args .h) (c .before .before .before .before .before .before .before .before .before .before .args .n) (c .before .before .before .before .before .before .before .before .before .before .args .most) (c .before .before .before .parents-depth .result) (c .before .before .one-more .result) (c .before .before .before .before .before .before .before .before .before .before .pre .1 .1 .0 .1) (c .before .before .before .parents-depth .ensures .0) (c .before .before .one-more .ensures .0)), subst (says.MemoIs (now (c .before .before .before .before .before .before .before .before .before .before .args .f)) (now (c .before .before .before .before .before .before .before .before .before .before .args .s)) (c .before .before .before .before .before .before .before .before .before .before .args .end) (c .before .before .before .before .before .before .before .before .before .before .args .base) (c .before .before .before .before .before .before .before .before .before .before .args .most)) (sym (c .tell .ensures)) (memos.memo-set (now (c .before .before .before .before .before .before .before .before .before .before .args .f)) (now (c .before .before .before .before .before .before .before .before .before .before .args .s)) (c .before .before .before .before .before .before .before .before .before .before .args .end) (c .before .before .before .before .before .before .before .before .before .before .args .h) (c .before .before .before .before .before .before .before .before .before .before .args .n) (c .before .before .before .before .before .before .before .before .before .before .args .base) (c .before .before .before .before .before .before .before .before .before .before .args .most) (c .before .before .before .parents-depth .last .1 .1 .1 .1 .1 .1 .1 .0) (c .before .before .before .parents-depth .ensures .1) (c .before .before .one-more .result) (memos.key-fits (now (c .before .before .before .before .before .before .before .before .before .before .args .f)) (now (c .before .before .before .before .before .before .before .before .before .before .args .s)) (c .before .before .before .before .before .before .before .before .before .before .args .end) (c .before .before .before .before .before .before .before .before .before .before .args .h) (c .before .before .before .before .before .before .before .before .before .before .args .n) (c .before .before .before .before .before .before .before .before .before .before .pre .1 .1 .0 .0) (c .before .before .before .before .before .before .before .before .before .before .pre .1 .0)) (c .before .before .before .before .before .before .before .before .before .before .pre .1 .0) (walk.depth-is (now (c .before .before .before .before .before .before .before .before .before .before .args .f)) (now (c .before .before .before .before .before .before .before .before .before .before .args .s)) (c .before .before .before .before .before .before .before .before .before .before .args .end) (c .before .before .before .before .before .before .before .before .before .before .args .h) (c .before .before .before .before .before .before .before .before .before .before .args .n) (c .before .before .before .before .before .before .before .before .before .before .args .most) (c .before .before .before .parents-depth .result) (c .before .before .one-more .result) (c .before .before .before .before .before .before .before .before .before .before .pre .1 .1 .0 .1) (c .before .before .before .parents-depth .ensures .0) (c .before .before .one-more .ensures .0)) (c .before .before .one-more .ensures .1)))
 
 parents-depth-nth-parent-requires : (t : ℕ) → parents-depth-lts.Need-nth-parent-requires (
   nth-parent-reads.Asked,

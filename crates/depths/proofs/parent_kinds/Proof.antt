@@ -1,8 +1,7 @@
 -- `depths::parent_kinds` meets its contract: the loop passes one own class a turn. Assumes nothing.
 use Rattle.depths.specs.Depths as says
-use Rattle.depths.proofs.Figures as figures
 use Rattle.depths.proofs.ParentKinds as kinds
-use Rattle.depths.proofs.Imports as imports
+use Rattle.depths.proofs.Counts as counts
 use Rattle.homes.specs.Homes.{ownHome}
 use denote.Ref.{now}
 use Rattle.depths.proofs.ByNumber.{not-true, not-false}
@@ -19,7 +18,7 @@ abbrev μ-loop : tie.MeasureT-loop
 μ-loop f s end k n₀ n = k - n
 
 class-count-requires : tie.Need-class-count-requires Inv-loop μ-loop
-class-count-requires c κs = (imports.setting-reads (now (c .before .before .args .f)) (now (c .before .before .args .s)) (c .before .before .args .end) (figures.parents-setting (now (c .before .before .args .f)) (now (c .before .before .args .s)) (c .before .before .args .end) (c .before .before .pre)))
+class-count-requires c κs = (counts.parents-read (now (c .before .before .args .f)) (now (c .before .before .args .s)) (c .before .before .args .end) (c .before .before .pre))
 
 loop-holds : tie.Need-loop-holds Inv-loop μ-loop
 loop-holds c = kinds.left-start (now (c .before .before .before .args .f)) (now (c .before .before .before .args .s)) (c .before .before .before .args .end)

@@ -2,7 +2,7 @@
 use Rattle.depths.proofs.ByNumber.{not-true, not-false}
 use Rattle.depths.specs.Depths as says
 use Rattle.depths.proofs.Exist as exist
-use Rattle.depths.proofs.Imports as imports
+use Rattle.depths.proofs.Counts as counts
 use denote.Ref.{now}
 use Prim.Native.Nat.{_-_}
 use mathlib.Core.Path.{subst}
@@ -17,7 +17,7 @@ abbrev μ-loop : tie.MeasureT-loop
 μ-loop f s end k n₀ n = k - n
 
 class-count-requires : tie.Need-class-count-requires Inv-loop μ-loop
-class-count-requires c κs = (imports.setting-reads (now (c .before .before .args .f)) (now (c .before .before .args .s)) (c .before .before .args .end) (imports.imports-setting (now (c .before .before .args .f)) (now (c .before .before .args .s)) (c .before .before .args .end) (c .before .before .pre)))
+class-count-requires c κs = (counts.imports-read (now (c .before .before .args .f)) (now (c .before .before .args .s)) (c .before .before .args .end) (c .before .before .pre))
 
 loop-holds : tie.Need-loop-holds Inv-loop μ-loop
 loop-holds c = exist.classes-start (now (c .before .before .before .args .f)) (now (c .before .before .before .args .s)) (c .before .before .before .args .end)

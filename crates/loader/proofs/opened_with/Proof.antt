@@ -1,9 +1,9 @@
--- `loader::opened_with` meets its contract: questions 1 and 2. Assumes nothing.
-use Rattle.judge.specs.Says.{SoundSays}
-use Rattle.loader.proofs.Numbers as numbers
+-- `loader::opened_with` meets its contract. Assumes nothing.
 use borrow.Author.Tests.{not-true, not-false}
+use Rattle.judge.specs.Says.{SoundSays}
 use denote.Ref.{now}
-use mathlib.Core.Path.{sym, _∙_, subst}
+use Rattle.loader.proofs.Numbers as numbers
+use mathlib.Core.Path.{refl, sym, _∙_, subst}
 use borrow.Author.Needs.{needs}
 use Rattle.loader.proofs.opened_with.Statement.{statement}
 use Rattle.loader.proofs.opened_with.Tie as tie
@@ -12,15 +12,10 @@ size-ok-requires : tie.Need-size-ok-requires
 size-ok-requires c κs = search needs
 
 returns : tie.Need-returns
-returns c =
-    let start = c .before .before .before .before in
-    let size = c .before .size-ok in
-    numbers.refused-1 (now (start .args .s)) (sym (size .ensures) ∙ not-true (size .result) (c .if1 .taken))
+returns c = (numbers.refused-1 (now (c .before .before .before .before .args .s)) (sym (c .before .size-ok .ensures) ∙ not-true (c .before .size-ok .result) (c .if1 .taken)), (refl, tt))
 
 soundness-requires : tie.Need-soundness-requires
-soundness-requires c κs =
-    let start = c .before .before .before .before .before in
-    start .pre
+soundness-requires c κs = c .before .before .before .before .before .before .before .pre
 
 enum-told : tie.Need-enum-told
 enum-told c = search needs
@@ -32,22 +27,13 @@ same-length : tie.Need-same-length
 same-length c = search needs
 
 returns-2 : tie.Need-returns-2
-returns-2 c =
-    let start = c .before .before .before .before .before .before .before .before .before .before in
-    let s = now (start .args .s) in
-    let size = c .before .before .before .before .before .before .before .size-ok in
-    let test = c .before .before .before .before .before .before .if1 in
-    let judged = c .before .before .before .before .soundness in
-    numbers.refused-2 s (sym (size .ensures) ∙ not-false (size .result) (test .left)) (subst (SoundSays s) (c .enum-told .given .1) (judged .ensures .0))
+returns-2 c = (numbers.refused-2 (now (c .before .before .before .before .before .before .before .before .before .before .before .before .args .s)) (sym (c .before .before .before .before .before .before .before .before .before .size-ok .ensures) ∙ not-false (c .before .before .before .before .before .before .before .before .before .size-ok .result) (c .before .before .before .before .before .before .before .before .if1 .left)) (subst (SoundSays (now (c .before .before .before .before .before .before .before .before .before .before .before .before .args .s))) (c .enum-told .given .1) (c .before .before .before .before .soundness .ensures .0)), (c .before .before .before .before .soundness .ensures .1 .0, tt))
 
 same-length-2 : tie.Need-same-length-2
 same-length-2 c = search needs
 
 returns-3 : tie.Need-returns-3
-returns-3 c =
-    let start = c .before .before .before .before .before .before .before .before .before .before .before in
-    let judged = c .before .before .before .before .before .soundness in
-    subst (SoundSays (now (start .args .s))) (c .before .used .given .1) (judged .ensures .0)
+returns-3 c = (subst (SoundSays (now (c .before .before .before .before .before .before .before .before .before .before .before .before .before .args .s))) (c .before .used .given .1) (c .before .before .before .before .before .soundness .ensures .0), (c .before .before .before .before .before .soundness .ensures .1 .0, numbers.judged-index (now (c .before .before .before .before .before .before .before .before .before .before .before .before .before .args .s)) (c .before .before .before .before .before .soundness .result) (c .before .used .given .0 .0) _ _ (c .before .used .given .1) (c .before .before .before .before .before .soundness .ensures .1 .1)))
 
 pub opened-with-spec : {M : Type 1} → statement M
 opened-with-spec =

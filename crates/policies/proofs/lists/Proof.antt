@@ -6,6 +6,7 @@ use lib.Dec.{eqb}
 use lib.ListN.{length, take, drop}
 use denote.Ref.{now}
 use borrow.Author.Needs.{needs}
+use borrow.Author.Tests.{eq-eqb, ne-eqb}
 use Rattle.rules.specs.Bytes.{any}
 use Rattle.policies.proofs.Indexes as indexes
 use Rattle.policies.specs.Say.{indexesAt}
@@ -37,7 +38,7 @@ wide-requires-2 : tie.Need-wide-requires-2 Inv-loop μ-loop
 wide-requires-2 c κs = search needs
 
 returns : tie.Need-returns Inv-loop μ-loop
-returns c = sym (c .before .before .before .before .loop .inv .1 ∙ indexes.byte-hit (now (c .before .before .before .before .before .before .before .before .args .s)) (c .before .before .before .before .before .before .before .before .args .k) (c .before .before .before .before .loop .left) (c .before .before .before .before .loop .c) (c .before .before .before .loop-test .taken) (omega arith) (sym (c .before .wide2 .ensures .0) ∙ c .if1 .taken))
+returns c = sym (c .before .before .before .before .loop .inv .1 ∙ indexes.byte-hit (now (c .before .before .before .before .before .before .before .before .args .s)) (eqb (c .before .before .before .before .before .before .before .before .args .k)) (c .before .before .before .before .loop .left) (c .before .before .before .before .loop .c) (c .before .before .before .loop-test .taken) (omega arith) (eq-eqb _ _ (sym (sym (c .before .wide2 .ensures .0) ∙ c .if1 .taken))))
 
 add-c-2 : tie.Need-add-c-2 Inv-loop μ-loop
 add-c-2 c = omega arith
@@ -49,10 +50,10 @@ loop-less : tie.Need-loop-less Inv-loop μ-loop
 loop-less c = omega arith
 
 loop-again : tie.Need-loop-again Inv-loop μ-loop
-loop-again c = (omega arith, c .before .before .before .before .loop .inv .1 ∙ indexes.byte-miss (now (c .before .before .before .before .before .before .before .before .args .s)) (c .before .before .before .before .before .before .before .before .args .k) (c .before .before .before .before .loop .left) (c .before .before .before .before .loop .c) (c .before .before .before .loop-test .taken) (omega arith) (λ e. c .if1 .left (c .before .wide2 .ensures .0 ∙ e)))
+loop-again c = (omega arith, c .before .before .before .before .loop .inv .1 ∙ indexes.byte-miss (now (c .before .before .before .before .before .before .before .before .args .s)) (eqb (c .before .before .before .before .before .before .before .before .args .k)) (c .before .before .before .before .loop .left) (c .before .before .before .before .loop .c) (c .before .before .before .loop-test .taken) (omega arith) (ne-eqb _ _ (λ e. c .if1 .left (c .before .wide2 .ensures .0 ∙ sym e))))
 
 returns-2 : tie.Need-returns-2 Inv-loop μ-loop
-returns-2 c = sym (c .before .loop .inv .1 ∙ indexes.byte-none (now (c .before .before .before .before .before .args .s)) (c .before .before .before .before .before .args .k) (c .before .loop .left) (c .before .loop .c) (c .loop-test .left))
+returns-2 c = sym (c .before .loop .inv .1 ∙ indexes.byte-none (now (c .before .before .before .before .before .args .s)) (eqb (c .before .before .before .before .before .args .k)) (c .before .loop .left) (c .before .loop .c) (c .loop-test .left))
 
 pub lists-spec : {M : Type 1} → statement M
 lists-spec =

@@ -1,5 +1,6 @@
 -- `running::class_passes` and `running::parents_pass` meet their contracts. The measure is 16 times the rank of the class, and 15 or the parents left. What is marked is true. Assumes nothing.
 use Rattle.running.specs.Say.{MethodsPass, ClassPasses, ParentsPass, SeenIs}
+use Rattle.homes.specs.Memo.{key}
 use Rattle.running.proofs.Walk as walk
 use Rattle.running.proofs.Loops as loops
 use Rattle.running.proofs.Records as records
@@ -25,34 +26,34 @@ use Rattle.running.proofs.set_mark.Reads as set-mark-reads
 use Rattle.running.proofs.+class_passes+parents_pass.{statement}
 use Rattle.running.proofs.+class_passes+parents_pass.Tie.{close}
 
-abbrev μ-class-passes : Measures 2 class-passes-kinds.ps ℕ
-μ-class-passes κs a = 16 * (256 * a .1 .1 .1 .1 .1 .1 .1 .0 .before + a .1 .1 .1 .1 .1 .1 .1 .1 .0) + 15
+abbrev μ-class-passes : Measures 3 class-passes-kinds.ps ℕ
+μ-class-passes κs a = 16 * (256 * a .1 .1 .1 .1 .1 .1 .1 .1 .0 .before + a .1 .1 .1 .1 .1 .1 .1 .1 .1 .0) + 15
 
-abbrev μ-parents-pass : Measures 2 parents-pass-kinds.ps ℕ
-μ-parents-pass κs a = 16 * (256 * a .1 .1 .1 .1 .1 .1 .1 .0 .before + a .1 .1 .1 .1 .1 .1 .1 .1 .0) + a .1 .1 .1 .1 .1 .1 .1 .1 .1 .0
+abbrev μ-parents-pass : Measures 3 parents-pass-kinds.ps ℕ
+μ-parents-pass κs a = 16 * (256 * a .1 .1 .1 .1 .1 .1 .1 .1 .0 .before + a .1 .1 .1 .1 .1 .1 .1 .1 .1 .0) + a .1 .1 .1 .1 .1 .1 .1 .1 .1 .1 .0
 
-abbrev class-passes-at : ℕ → In 2 class-passes-kinds.ps
+abbrev class-passes-at : ℕ → In 3 class-passes-kinds.ps
 class-passes-at t =
-    and 2 class-passes-kinds.ps (is 2 class-passes-kinds.ps μ-class-passes t) class-passes.Pre
+    and 3 class-passes-kinds.ps (is 3 class-passes-kinds.ps μ-class-passes t) class-passes.Pre
 
-abbrev class-passes-below : ℕ → In 2 class-passes-kinds.ps
+abbrev class-passes-below : ℕ → In 3 class-passes-kinds.ps
 class-passes-below t =
     and
-    2
+    3
     class-passes-kinds.ps
-    (falls 2 class-passes-kinds.ps _<_ μ-class-passes t)
+    (falls 3 class-passes-kinds.ps _<_ μ-class-passes t)
     class-passes.Pre
 
-abbrev parents-pass-at : ℕ → In 2 parents-pass-kinds.ps
+abbrev parents-pass-at : ℕ → In 3 parents-pass-kinds.ps
 parents-pass-at t =
-    and 2 parents-pass-kinds.ps (is 2 parents-pass-kinds.ps μ-parents-pass t) parents-pass.Pre
+    and 3 parents-pass-kinds.ps (is 3 parents-pass-kinds.ps μ-parents-pass t) parents-pass.Pre
 
-abbrev parents-pass-below : ℕ → In 2 parents-pass-kinds.ps
+abbrev parents-pass-below : ℕ → In 3 parents-pass-kinds.ps
 parents-pass-below t =
     and
-    2
+    3
     parents-pass-kinds.ps
-    (falls 2 parents-pass-kinds.ps _<_ μ-parents-pass t)
+    (falls 3 parents-pass-kinds.ps _<_ μ-parents-pass t)
     parents-pass.Pre
 
 class-passes-add-at : (t : ℕ) → class-passes-lts.Need-add-at (
@@ -81,7 +82,7 @@ class-passes-is-marked-requires : (t : ℕ) → class-passes-lts.Need-is-marked-
   set-mark-reads.Asked,
   set-mark-reads.Learnt,
 ) (class-passes-at t) class-passes.Post
-class-passes-is-marked-requires t c κs = ((c .before .before .before .before .pre .1 .1 .0) .size, walk.key-inside (now (c .before .before .before .before .args .f)) (now (c .before .before .before .before .args .s)) (c .before .before .before .before .args .end) (c .before .before .before .before .args .b) (c .before .before .before .before .args .h) (c .before .before .before .before .args .n) (c .before .before .before .before .pre .1 .1 .1 .0) (c .before .before .before .before .pre .1 .0), walk.own-small (now (c .before .before .before .before .args .f)) (now (c .before .before .before .before .args .s)) (c .before .before .before .before .args .end) (c .before .before .before .before .args .b) (c .before .before .before .before .args .h) (c .before .before .before .before .args .n) (c .before .before .before .before .pre .1 .0))
+class-passes-is-marked-requires t c κs = ((c .before .before .before .before .pre .1 .1 .0) .below .size, walk.key-inside (now (c .before .before .before .before .args .f)) (now (c .before .before .before .before .args .s)) (c .before .before .before .before .args .end) (c .before .before .before .before .args .b) (c .before .before .before .before .args .h) (c .before .before .before .before .args .n) (c .before .before .before .before .pre .1 .1 .1 .0) (c .before .before .before .before .pre .1 .0))
 
 class-passes-returns : (t : ℕ) → class-passes-lts.Need-returns (
   is-marked-reads.Asked,
@@ -95,7 +96,7 @@ class-passes-returns : (t : ℕ) → class-passes-lts.Need-returns (
   set-mark-reads.Asked,
   set-mark-reads.Learnt,
 ) (class-passes-at t) class-passes.Post
-class-passes-returns t c = (walk.class-marked (now (c .before .before .before .before .before .before .args .f)) (now (c .before .before .before .before .before .before .args .s)) (c .before .before .before .before .before .before .args .end) (c .before .before .before .before .before .before .args .b) (c .before .before .before .before .before .before .args .h) (c .before .before .before .before .before .before .args .n) (now (c .before .before .before .before .before .before .args .memo)) (c .before .before .before .before .before .before .pre .1 .1 .0) (subst (λ (v : Bool). SeenIs (now (c .before .before .before .before .before .before .args .memo)) ((c .before .before .before .before .before .before .args .h) .before + (c .before .before .before .before .before .before .args .n)) (c .before .before .before .before .before .before .args .b) v) (c .if1 .taken) (c .before .is-marked .ensures)), (c .before .before .before .before .before .before .pre .1 .1 .0))
+class-passes-returns t c = (walk.class-marked (now (c .before .before .before .before .before .before .args .f)) (now (c .before .before .before .before .before .before .args .s)) (c .before .before .before .before .before .before .args .end) (c .before .before .before .before .before .before .args .b) (c .before .before .before .before .before .before .args .h) (c .before .before .before .before .before .before .args .n) (c .before .before .before .before .before .before .args .mark) (now (c .before .before .before .before .before .before .args .memo)) (c .before .before .before .before .before .before .pre .1 .1 .0) (subst (λ (v : Bool). SeenIs (now (c .before .before .before .before .before .before .args .memo)) (key (c .before .before .before .before .before .before .args .h) (c .before .before .before .before .before .before .args .n)) (c .before .before .before .before .before .before .args .mark) v) (c .if1 .taken) (c .before .is-marked .ensures)), (c .before .before .before .before .before .before .pre .1 .1 .0))
 
 class-passes-class-methods-pass-requires :
     (t : ℕ) → class-passes-lts.Need-class-methods-pass-requires (
@@ -180,7 +181,7 @@ class-passes-set-mark-requires : (t : ℕ) → class-passes-lts.Need-set-mark-re
   set-mark-reads.Asked,
   set-mark-reads.Learnt,
 ) (class-passes-at t) class-passes.Post
-class-passes-set-mark-requires t c κs = (c .before .before .parents-pass .ensures .1 .size, walk.key-inside (now (c .before .before .before .before .before .before .before .before .before .before .before .before .before .args .f)) (now (c .before .before .before .before .before .before .before .before .before .before .before .before .before .args .s)) (c .before .before .before .before .before .before .before .before .before .before .before .before .before .args .end) (c .before .before .before .before .before .before .before .before .before .before .before .before .before .args .b) (c .before .before .before .before .before .before .before .before .before .before .before .before .before .args .h) (c .before .before .before .before .before .before .before .before .before .before .before .before .before .args .n) (c .before .before .before .before .before .before .before .before .before .before .before .before .before .pre .1 .1 .1 .0) (c .before .before .before .before .before .before .before .before .before .before .before .before .before .pre .1 .0), walk.own-small (now (c .before .before .before .before .before .before .before .before .before .before .before .before .before .args .f)) (now (c .before .before .before .before .before .before .before .before .before .before .before .before .before .args .s)) (c .before .before .before .before .before .before .before .before .before .before .before .before .before .args .end) (c .before .before .before .before .before .before .before .before .before .before .before .before .before .args .b) (c .before .before .before .before .before .before .before .before .before .before .before .before .before .args .h) (c .before .before .before .before .before .before .before .before .before .before .before .before .before .args .n) (c .before .before .before .before .before .before .before .before .before .before .before .before .before .pre .1 .0))
+class-passes-set-mark-requires t c κs = (c .before .before .parents-pass .ensures .1 .below .size, walk.key-inside (now (c .before .before .before .before .before .before .before .before .before .before .before .before .before .args .f)) (now (c .before .before .before .before .before .before .before .before .before .before .before .before .before .args .s)) (c .before .before .before .before .before .before .before .before .before .before .before .before .before .args .end) (c .before .before .before .before .before .before .before .before .before .before .before .before .before .args .b) (c .before .before .before .before .before .before .before .before .before .before .before .before .before .args .h) (c .before .before .before .before .before .before .before .before .before .before .before .before .before .args .n) (c .before .before .before .before .before .before .before .before .before .before .before .before .before .pre .1 .1 .1 .0) (c .before .before .before .before .before .before .before .before .before .before .before .before .before .pre .1 .0), c .before .before .parents-pass .ensures .1 .fits)
 
 class-passes-returns-4 : (t : ℕ) → class-passes-lts.Need-returns-4 (
   is-marked-reads.Asked,
@@ -194,7 +195,7 @@ class-passes-returns-4 : (t : ℕ) → class-passes-lts.Need-returns-4 (
   set-mark-reads.Asked,
   set-mark-reads.Learnt,
 ) (class-passes-at t) class-passes.Post
-class-passes-returns-4 t c = ((walk.class-yes (now (c .before .before .before .before .before .before .before .before .before .before .before .before .before .before .args .f)) (now (c .before .before .before .before .before .before .before .before .before .before .before .before .before .before .args .s)) (c .before .before .before .before .before .before .before .before .before .before .before .before .before .before .args .end) (c .before .before .before .before .before .before .before .before .before .before .before .before .before .before .args .b) (c .before .before .before .before .before .before .before .before .before .before .before .before .before .before .args .h) (c .before .before .before .before .before .before .before .before .before .before .before .before .before .before .args .n) (c .before .before .before .before .before .parent-count .result) (subst (λ (v : Bool). MethodsPass (now (c .before .before .before .before .before .before .before .before .before .before .before .before .before .before .args .f)) (now (c .before .before .before .before .before .before .before .before .before .before .before .before .before .before .args .s)) (c .before .before .before .before .before .before .before .before .before .before .before .before .before .before .args .end) (c .before .before .before .before .before .before .before .before .before .before .before .before .before .before .args .b) (c .before .before .before .before .before .before .before .before .before .before .before .before .before .before .args .h) (c .before .before .before .before .before .before .before .before .before .before .before .before .before .before .args .n) v) (records.not-no (c .before .before .before .before .before .before .before .class-methods-pass .result) (c .before .before .before .before .before .before .if2 .left)) (c .before .before .before .before .before .before .before .class-methods-pass .ensures)) (c .before .before .before .before .before .parent-count .ensures .0) (subst (λ (v : Bool). ParentsPass (now (c .before .before .before .before .before .before .before .before .before .before .before .before .before .before .args .f)) (now (c .before .before .before .before .before .before .before .before .before .before .before .before .before .before .args .s)) (c .before .before .before .before .before .before .before .before .before .before .before .before .before .before .args .end) (c .before .before .before .before .before .before .before .before .before .before .before .before .before .before .args .b) (c .before .before .before .before .before .before .before .before .before .before .before .before .before .before .args .h) (c .before .before .before .before .before .before .before .before .before .before .before .before .before .before .args .n) (c .before .before .before .before .before .parent-count .result) v) (records.not-no (c .before .before .before .parents-pass .result) (c .before .before .if3 .left)) (c .before .before .before .parents-pass .ensures .0))), walk.mark-after (now (c .before .before .before .before .before .before .before .before .before .before .before .before .before .before .args .f)) (now (c .before .before .before .before .before .before .before .before .before .before .before .before .before .before .args .s)) (c .before .before .before .before .before .before .before .before .before .before .before .before .before .before .args .end) (c .before .before .before .before .before .before .before .before .before .before .before .before .before .before .args .b) (c .before .before .before .before .before .before .before .before .before .before .before .before .before .before .args .h) (c .before .before .before .before .before .before .before .before .before .before .before .before .before .before .args .n) _ (c .before .before .before .parents-pass .ensures .1) (c .before .before .before .before .before .before .before .before .before .before .before .before .before .before .pre .1 .1 .1 .0) (c .before .before .before .before .before .before .before .before .before .before .before .before .before .before .pre .1 .0) (walk.class-yes (now (c .before .before .before .before .before .before .before .before .before .before .before .before .before .before .args .f)) (now (c .before .before .before .before .before .before .before .before .before .before .before .before .before .before .args .s)) (c .before .before .before .before .before .before .before .before .before .before .before .before .before .before .args .end) (c .before .before .before .before .before .before .before .before .before .before .before .before .before .before .args .b) (c .before .before .before .before .before .before .before .before .before .before .before .before .before .before .args .h) (c .before .before .before .before .before .before .before .before .before .before .before .before .before .before .args .n) (c .before .before .before .before .before .parent-count .result) (subst (λ (v : Bool). MethodsPass (now (c .before .before .before .before .before .before .before .before .before .before .before .before .before .before .args .f)) (now (c .before .before .before .before .before .before .before .before .before .before .before .before .before .before .args .s)) (c .before .before .before .before .before .before .before .before .before .before .before .before .before .before .args .end) (c .before .before .before .before .before .before .before .before .before .before .before .before .before .before .args .b) (c .before .before .before .before .before .before .before .before .before .before .before .before .before .before .args .h) (c .before .before .before .before .before .before .before .before .before .before .before .before .before .before .args .n) v) (records.not-no (c .before .before .before .before .before .before .before .class-methods-pass .result) (c .before .before .before .before .before .before .if2 .left)) (c .before .before .before .before .before .before .before .class-methods-pass .ensures)) (c .before .before .before .before .before .parent-count .ensures .0) (subst (λ (v : Bool). ParentsPass (now (c .before .before .before .before .before .before .before .before .before .before .before .before .before .before .args .f)) (now (c .before .before .before .before .before .before .before .before .before .before .before .before .before .before .args .s)) (c .before .before .before .before .before .before .before .before .before .before .before .before .before .before .args .end) (c .before .before .before .before .before .before .before .before .before .before .before .before .before .before .args .b) (c .before .before .before .before .before .before .before .before .before .before .before .before .before .before .args .h) (c .before .before .before .before .before .before .before .before .before .before .before .before .before .before .args .n) (c .before .before .before .before .before .parent-count .result) v) (records.not-no (c .before .before .before .parents-pass .result) (c .before .before .if3 .left)) (c .before .before .before .parents-pass .ensures .0))) _ (c .set-mark .ensures))
+class-passes-returns-4 t c = ((walk.class-yes (now (c .before .before .before .before .before .before .before .before .before .before .before .before .before .before .args .f)) (now (c .before .before .before .before .before .before .before .before .before .before .before .before .before .before .args .s)) (c .before .before .before .before .before .before .before .before .before .before .before .before .before .before .args .end) (c .before .before .before .before .before .before .before .before .before .before .before .before .before .before .args .b) (c .before .before .before .before .before .before .before .before .before .before .before .before .before .before .args .h) (c .before .before .before .before .before .before .before .before .before .before .before .before .before .before .args .n) (c .before .before .before .before .before .parent-count .result) (subst (λ (v : Bool). MethodsPass (now (c .before .before .before .before .before .before .before .before .before .before .before .before .before .before .args .f)) (now (c .before .before .before .before .before .before .before .before .before .before .before .before .before .before .args .s)) (c .before .before .before .before .before .before .before .before .before .before .before .before .before .before .args .end) (c .before .before .before .before .before .before .before .before .before .before .before .before .before .before .args .b) (c .before .before .before .before .before .before .before .before .before .before .before .before .before .before .args .h) (c .before .before .before .before .before .before .before .before .before .before .before .before .before .before .args .n) v) (records.not-no (c .before .before .before .before .before .before .before .class-methods-pass .result) (c .before .before .before .before .before .before .if2 .left)) (c .before .before .before .before .before .before .before .class-methods-pass .ensures)) (c .before .before .before .before .before .parent-count .ensures .0) (subst (λ (v : Bool). ParentsPass (now (c .before .before .before .before .before .before .before .before .before .before .before .before .before .before .args .f)) (now (c .before .before .before .before .before .before .before .before .before .before .before .before .before .before .args .s)) (c .before .before .before .before .before .before .before .before .before .before .before .before .before .before .args .end) (c .before .before .before .before .before .before .before .before .before .before .before .before .before .before .args .b) (c .before .before .before .before .before .before .before .before .before .before .before .before .before .before .args .h) (c .before .before .before .before .before .before .before .before .before .before .before .before .before .before .args .n) (c .before .before .before .before .before .parent-count .result) v) (records.not-no (c .before .before .before .parents-pass .result) (c .before .before .if3 .left)) (c .before .before .before .parents-pass .ensures .0))), walk.mark-after (now (c .before .before .before .before .before .before .before .before .before .before .before .before .before .before .args .f)) (now (c .before .before .before .before .before .before .before .before .before .before .before .before .before .before .args .s)) (c .before .before .before .before .before .before .before .before .before .before .before .before .before .before .args .end) (c .before .before .before .before .before .before .before .before .before .before .before .before .before .before .args .b) (c .before .before .before .before .before .before .before .before .before .before .before .before .before .before .args .h) (c .before .before .before .before .before .before .before .before .before .before .before .before .before .before .args .n) (c .before .before .before .before .before .before .before .before .before .before .before .before .before .before .args .mark) _ (c .before .before .before .parents-pass .ensures .1) (c .before .before .before .before .before .before .before .before .before .before .before .before .before .before .pre .1 .1 .1 .0) (c .before .before .before .before .before .before .before .before .before .before .before .before .before .before .pre .1 .0) (walk.class-yes (now (c .before .before .before .before .before .before .before .before .before .before .before .before .before .before .args .f)) (now (c .before .before .before .before .before .before .before .before .before .before .before .before .before .before .args .s)) (c .before .before .before .before .before .before .before .before .before .before .before .before .before .before .args .end) (c .before .before .before .before .before .before .before .before .before .before .before .before .before .before .args .b) (c .before .before .before .before .before .before .before .before .before .before .before .before .before .before .args .h) (c .before .before .before .before .before .before .before .before .before .before .before .before .before .before .args .n) (c .before .before .before .before .before .parent-count .result) (subst (λ (v : Bool). MethodsPass (now (c .before .before .before .before .before .before .before .before .before .before .before .before .before .before .args .f)) (now (c .before .before .before .before .before .before .before .before .before .before .before .before .before .before .args .s)) (c .before .before .before .before .before .before .before .before .before .before .before .before .before .before .args .end) (c .before .before .before .before .before .before .before .before .before .before .before .before .before .before .args .b) (c .before .before .before .before .before .before .before .before .before .before .before .before .before .before .args .h) (c .before .before .before .before .before .before .before .before .before .before .before .before .before .before .args .n) v) (records.not-no (c .before .before .before .before .before .before .before .class-methods-pass .result) (c .before .before .before .before .before .before .if2 .left)) (c .before .before .before .before .before .before .before .class-methods-pass .ensures)) (c .before .before .before .before .before .parent-count .ensures .0) (subst (λ (v : Bool). ParentsPass (now (c .before .before .before .before .before .before .before .before .before .before .before .before .before .before .args .f)) (now (c .before .before .before .before .before .before .before .before .before .before .before .before .before .before .args .s)) (c .before .before .before .before .before .before .before .before .before .before .before .before .before .before .args .end) (c .before .before .before .before .before .before .before .before .before .before .before .before .before .before .args .b) (c .before .before .before .before .before .before .before .before .before .before .before .before .before .before .args .h) (c .before .before .before .before .before .before .before .before .before .before .before .before .before .before .args .n) (c .before .before .before .before .before .parent-count .result) v) (records.not-no (c .before .before .before .parents-pass .result) (c .before .before .if3 .left)) (c .before .before .before .parents-pass .ensures .0))) _ (c .set-mark .ensures))
 
 parents-pass-returns : (t : ℕ) → parents-pass-lts.Need-returns (
   parent-at-reads.Asked,

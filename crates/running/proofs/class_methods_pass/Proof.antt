@@ -11,10 +11,10 @@ use Rattle.running.proofs.class_methods_pass.Statement.{statement}
 use Rattle.running.proofs.class_methods_pass.Tie as tie
 
 abbrev Inv-loop : tie.InvT-loop
-Inv-loop f s end b own up h n g start left₀ c₀ left c = loops.MethodsLeft f s end b h n start left c
+Inv-loop f s end b chain links h n g start left₀ c₀ left c = loops.MethodsLeft f s end b h n start left c
 
 abbrev μ-loop : tie.MeasureT-loop
-μ-loop f s end b own up h n g start left₀ c₀ left c = left
+μ-loop f s end b chain links h n g start left₀ c₀ left c = left
 
 file-of-requires : tie.Need-file-of-requires Inv-loop μ-loop
 file-of-requires c κs = loops.walk-bounds (now (c .before .before .args .f)) (now (c .before .before .args .s)) (c .before .before .args .end) (c .before .before .args .b) (c .before .before .args .h) (c .before .before .args .n) (c .before .before .pre .0)

@@ -5,17 +5,17 @@ use borrow.Author.Needs.{needs}
 use Rattle.running.proofs.is_marked.Statement.{statement}
 use Rattle.running.proofs.is_marked.Tie as tie
 
-element-copy-out-wide : tie.Need-element-copy-out-wide
-element-copy-out-wide c = search needs
+mul-number-in : tie.Need-mul-number-in
+mul-number-in c = search needs
 
-wide-requires : tie.Need-wide-requires
-wide-requires c κs = search needs
+element-copy-out-number-in : tie.Need-element-copy-out-number-in
+element-copy-out-number-in c = search needs
 
-add-result : tie.Need-add-result
-add-result c = search needs
+number-in-requires : tie.Need-number-in-requires
+number-in-requires c κs = search needs
 
 returns : tie.Need-returns
-returns c = walk.seen-is (now (c .before .before .args .memo)) (c .before .before .args .at) (c .before .before .args .b) (c .wide .result) (c .wide .ensures .0)
+returns c = walk.seen-is (now (c .before .before .args .memo)) (c .before .before .args .at) (c .before .before .args .mark) (c .number-in .result) (c .number-in .ensures)
 
 pub is-marked-spec : {M : Type 1} → statement M
-is-marked-spec = tie.close (tie.spec element-copy-out-wide wide-requires add-result returns)
+is-marked-spec = tie.close (tie.spec mul-number-in element-copy-out-number-in number-in-requires returns)

@@ -1,0 +1,59 @@
+-- `calls::references::home_at` meets its contract. Assumes nothing.
+use Rattle.calls.proofs.Lookups as look
+use denote.Ref.{now}
+use native.Mathlib.Omega.{arith}
+use Rattle.calls.proofs.references.home_at.Statement.{statement}
+use Rattle.calls.proofs.references.home_at.Tie as tie
+
+returns : tie.Need-returns
+returns c = rw (c .if1 .taken)
+
+sub-i : tie.Need-sub-i
+sub-i c = omega arith
+
+mul-i : tie.Need-mul-i
+mul-i c = omega (arith, c .before .pre .0, c .before .pre .1)
+
+mul-t6 : tie.Need-mul-t6
+mul-t6 c = omega (arith, c .before .pre .0, c .before .pre .1)
+
+element-copy-out-t9 : tie.Need-element-copy-out-t9
+element-copy-out-t9 c = omega (arith, c .before .pre .0, c .before .pre .1)
+
+add-t10 : tie.Need-add-t10
+add-t10 c = omega (arith, c .before .before .pre .0, c .before .before .pre .1)
+
+mul-t11 : tie.Need-mul-t11
+mul-t11 c = omega (arith, c .before .before .pre .0, c .before .before .pre .1)
+
+element-copy-out-t14 : tie.Need-element-copy-out-t14
+element-copy-out-t14 c = omega (arith, c .before .before .pre .0, c .before .before .pre .1)
+
+add-t15 : tie.Need-add-t15
+add-t15 c = omega (arith, c .before .before .before .pre .0, c .before .before .before .pre .1)
+
+mul-t16 : tie.Need-mul-t16
+mul-t16 c = omega (arith, c .before .before .before .pre .0, c .before .before .before .pre .1)
+
+element-copy-out-t19 : tie.Need-element-copy-out-t19
+element-copy-out-t19 c = omega (arith, c .before .before .before .pre .0, c .before .before .before .pre .1)
+
+returns-2 : tie.Need-returns-2
+returns-2 c = look.home-import (c .before .before .before .before .args .end) (now (c .before .before .before .before .args .homes)) (c .before .before .before .before .args .p) (c .before .before .before .if1 .left)
+
+pub home-at-spec : {M : Type 1} → statement M
+home-at-spec =
+    tie.close
+    (tie.spec
+    returns
+    sub-i
+    mul-i
+    mul-t6
+    element-copy-out-t9
+    add-t10
+    mul-t11
+    element-copy-out-t14
+    add-t15
+    mul-t16
+    element-copy-out-t19
+    returns-2)

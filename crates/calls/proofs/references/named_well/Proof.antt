@@ -1,0 +1,23 @@
+-- `calls::references::named_well` meets its contract. Assumes nothing.
+use Rattle.calls.specs.Named.{SeenIs}
+use Rattle.calls.proofs.Numbers.{was-no, was-yes}
+use Rattle.calls.proofs.Lookups as look
+use denote.Ref.{now}
+use borrow.Author.Needs.{needs}
+use Rattle.calls.proofs.references.named_well.Statement.{statement}
+use Rattle.calls.proofs.references.named_well.Tie as tie
+
+is-seen-requires : tie.Need-is-seen-requires
+is-seen-requires c κs = search needs
+
+returns : tie.Need-returns
+returns c = look.well-unseen (c .before .before .before .args .imported) (c .before .before .before .args .kind) (was-no (SeenIs (now (c .before .before .before .args .g)) (c .before .before .before .args .m) (c .before .before .before .args .imported)) (c .if1 .taken) (c .before .is-seen .ensures))
+
+has-form-requires : tie.Need-has-form-requires
+has-form-requires c κs = search needs
+
+returns-2 : tie.Need-returns-2
+returns-2 c = look.well-seen (c .before .before .before .before .args .imported) (c .before .before .before .before .args .kind) (c .has-form .result) (was-yes (SeenIs (now (c .before .before .before .before .args .g)) (c .before .before .before .before .args .m) (c .before .before .before .before .args .imported)) (c .before .if1 .left) (c .before .before .is-seen .ensures)) (c .has-form .ensures)
+
+pub named-well-spec : {M : Type 1} → statement M
+named-well-spec = tie.close (tie.spec is-seen-requires returns has-form-requires returns-2)

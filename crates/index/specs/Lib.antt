@@ -1,0 +1,2 @@
+-- What the functions over an index require and ensure.
+pub mod Index

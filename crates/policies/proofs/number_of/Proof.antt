@@ -1,0 +1,85 @@
+-- `policies::number_of` meets its contract: the loop passes one domain a turn, and none passed is x; the loading domain is compared last. Assumes nothing.
+use Prim.Native.Nat.{_+_, _≤_}
+use native.Mathlib.Omega.{arith}
+use mathlib.Core.Path.{sym, _∙_}
+use mathlib.Core.Bool.{true, false}
+use denote.Ref.{now}
+use borrow.Author.Needs.{needs}
+use Rattle.files.proofs.Loops as loops
+use Rattle.files.proofs.Steps as steps
+use Rattle.policies.proofs.Numbers as numbers
+use Rattle.policies.proofs.number_of.Statement.{statement}
+use Rattle.policies.proofs.number_of.Tie as tie
+
+abbrev Inv-loop : tie.InvT-loop
+Inv-loop f u domain x left₀ c₀ k₀ left c k = (k + left ≤ 32) × numbers.NumberLoop f u domain x k left c
+
+abbrev μ-loop : tie.MeasureT-loop
+μ-loop f u domain x left₀ c₀ k₀ left c k = left
+
+shared-slice-read-wide : tie.Need-shared-slice-read-wide Inv-loop μ-loop
+shared-slice-read-wide c = steps.aids-in (numbers.domains-aids (c .before .before .before .before .pre))
+
+wide-requires : tie.Need-wide-requires Inv-loop μ-loop
+wide-requires c κs = search needs
+
+add-c : tie.Need-add-c Inv-loop μ-loop
+add-c c = omega (arith, steps.aids-in (numbers.domains-aids (c .before .before .before .before .before .pre)))
+
+loop-holds : tie.Need-loop-holds Inv-loop μ-loop
+loop-holds c = (omega (arith, c .wide .ensures .0, numbers.domains-few (c .before .before .before .before .before .pre)), numbers.number-start (now (c .before .before .before .before .before .args .domain)) (now (c .before .before .before .before .before .args .x)) (c .wide .ensures .0))
+
+aid-is-requires : tie.Need-aid-is-requires Inv-loop μ-loop
+aid-is-requires c κs = loops.aids-here (c .before .loop .inv .1) (c .loop-test .taken) (numbers.domains-aids (c .before .before .before .before .before .before .before .pre))
+
+returns : tie.Need-returns Inv-loop μ-loop
+returns c = (numbers.number-hit (now (c .before .before .before .before .before .before .before .before .before .args .domain)) (now (c .before .before .before .before .before .before .before .before .before .args .x)) (c .before .before .before .loop .k) (c .before .before .before .loop .inv .1) (c .before .before .loop-test .taken) (λ a j p. sym (c .if1 .taken) ∙ c .before .aid-is .ensures a j p), omega arith)
+
+after-aid-requires : tie.Need-after-aid-requires Inv-loop μ-loop
+after-aid-requires c κs = loops.aids-here (c .before .before .before .loop .inv .1) (c .before .before .loop-test .taken) (numbers.domains-aids (c .before .before .before .before .before .before .before .before .before .pre))
+
+add-k : tie.Need-add-k Inv-loop μ-loop
+add-k c = omega arith
+
+sub-left : tie.Need-sub-left Inv-loop μ-loop
+sub-left c = omega arith
+
+loop-less : tie.Need-loop-less Inv-loop μ-loop
+loop-less c = omega arith
+
+loop-again : tie.Need-loop-again Inv-loop μ-loop
+loop-again c = (omega arith, numbers.number-miss (now (c .before .before .before .before .before .before .before .before .before .before .args .domain)) (now (c .before .before .before .before .before .before .before .before .before .before .args .x)) (c .before .before .before .before .loop .k) (c .before .before .before .before .loop .inv .1) (c .before .before .before .loop-test .taken) (λ a j p. sym (c .before .if1 .left) ∙ c .before .before .aid-is .ensures a j p) (c .after-aid .ensures))
+
+same-bytes-requires : tie.Need-same-bytes-requires Inv-loop μ-loop
+same-bytes-requires c κs = search needs
+
+returns-2 : tie.Need-returns-2 Inv-loop μ-loop
+returns-2 c = (numbers.number-behind (now (c .before .before .before .before .before .before .before .before .before .args .domain)) (now (c .before .before .before .before .before .before .before .before .before .args .x)) (c .before .before .before .loop .k) (c .before .before .before .loop .inv .1) (c .before .before .loop-test .left) true (sym (c .before .same-bytes .ensures) ∙ c .if2 .taken), omega arith)
+
+add-result : tie.Need-add-result Inv-loop μ-loop
+add-result c = omega arith
+
+returns-3 : tie.Need-returns-3 Inv-loop μ-loop
+returns-3 c = (numbers.number-behind (now (c .before .before .before .before .before .before .before .before .before .args .domain)) (now (c .before .before .before .before .before .before .before .before .before .args .x)) (c .before .before .before .loop .k) (c .before .before .before .loop .inv .1) (c .before .before .loop-test .left) false (sym (c .before .same-bytes .ensures) ∙ c .if2 .left), omega arith)
+
+pub number-of-spec : {M : Type 1} → statement M
+number-of-spec =
+    tie.close
+    (tie.spec
+    Inv-loop
+    μ-loop
+    shared-slice-read-wide
+    wide-requires
+    add-c
+    loop-holds
+    aid-is-requires
+    returns
+    after-aid-requires
+    add-k
+    sub-left
+    loop-less
+    loop-again
+    same-bytes-requires
+    returns-2
+    add-result
+    returns-3)
