@@ -18,7 +18,7 @@ use Rattle.files.proofs.Loops.{AidLoop}
 use Rattle.files.proofs.Walks.{imports-read}
 use Rattle.store.specs.Entries.{part, AllRead}
 use Rattle.store.specs.Answers.{PartAt}
-use Rattle.store.specs.declared.EntryPart.the-variants.{AtEnd}
+use Rattle.store.specs.declared.EntryPart.the-variants.{Package as PackagePart, AtEnd}
 use Rattle.store.proofs.Walk.{place-any}
 use Rattle.store.proofs.Find.{Walks, found-package, found-none}
 use Rattle.loader.specs.Answers.{ImportsSays, OtherSays, importer, ImportedSays}
