@@ -8,7 +8,7 @@ use lib.Dec.{T, eqb}
 use lib.ListN.{length, getD}
 use Rattle.rules.specs.Bytes.{Bytes, Aid, Reader, pick, all, u1, many, counted}
 use Rattle.rules.specs.Code.{Call, splitFrom, codeSplits, callsOf}
-use Rattle.rules.specs.Package.{Limits, standard, mostMethods, mostClasses, Method, codeIf, method, class}
+use Rattle.rules.specs.Package.{Limits, storeLimits, mostMethods, mostClasses, Method, codeIf, method, class}
 use Rattle.rules.specs.Store.{Entry}
 use Rattle.rules.specs.Classes.{Installed}
 use Rattle.rules.specs.Questions.{q16-splits, q18-calls, q19-allowed, ownMethod}
@@ -58,10 +58,10 @@ module _ {f s : Bytes} {end : ℕ} {d : Numbering} {i : ℕ} (code : Bytes) wher
   calls-begin h g =
       let ds = g .1 .pack .domains in
       let m = g .3 .0 in
-      let t = method-part standard ds f i m (g .3 .1) (g .3 .2) in
+      let t = method-part (storeLimits s) ds f i m (g .3 .1) (g .3 .2) in
       record {
-        splits = rw (h standard ds m (g .3 .1) (g .3 .2)) (splits-from standard f (t .middle) (m .implemented) (m .code) (g .3 .1) (t .code) (g .3 .3));
-        left = λ a m j p. ap (listNumber 18 19 (callNames a) (callAllows a m) 0) (ap callsOf (sym (h standard (a .self .pack .domains) m j p)) ∙ sym (calls-start code));
+        splits = rw (h (storeLimits s) ds m (g .3 .1) (g .3 .2)) (splits-from (storeLimits s) f (t .middle) (m .implemented) (m .code) (g .3 .1) (t .code) (g .3 .3));
+        left = λ a m j p. ap (listNumber 18 19 (callNames a) (callAllows a m) 0) (ap callsOf (sym (h (storeLimits s) (a .self .pack .domains) m j p)) ∙ sym (calls-start code));
       }
 
   module _ (from past : ℕ) (t : CallLoop f s end d i code from past) where
@@ -151,39 +151,39 @@ module _ {A : Type 0} (R : List Aid → Reader A) (steady : (ds : List Aid) → 
 
 -- the methods of a class
 abbrev pub MethodsLoop : Bytes → Bytes → ℕ → Numbering → ℕ → ℕ → ℕ → ℕ → Type 0
-MethodsLoop f s end d i past left c = AskLoop (method standard) mostMethods (codeTest codeSplits) f s end d methodNames methodAllows i past left c
+MethodsLoop f s end d i past left c = AskLoop (method (storeLimits s)) mostMethods (codeTest codeSplits) f s end d methodNames methodAllows i past left c
 
 -- the classes of a file
 abbrev pub ClassesLoop : Bytes → Bytes → ℕ → Numbering → ℕ → ℕ → ℕ → ℕ → Type 0
-ClassesLoop f s end d i past left c = AskLoop (class standard) mostClasses (classTest codeSplits) f s end d classNames classAllows i past left c
+ClassesLoop f s end d i past left c = AskLoop (class (storeLimits s)) mostClasses (classTest codeSplits) f s end d classNames classAllows i past left c
 
 module _ {f s : Bytes} {end : ℕ} {d : Numbering} where
   pub methods-begin : {i k n : ℕ} → OwnClass f s end i → MethodsAt f i k → n ≡ getD f k 0 → MethodsLoop f s end d k 0 n (k + 1)
   methods-begin {k = k} {n} g h e =
       let ds = g .1 .pack .domains in
-      ask-begin (method standard) (steady-method standard) mostMethods (codeTest codeSplits) methodNames methodAllows k (g .0) (g .1) (g .2)
-      (g .3 .0 .methods, g .3 .1, h standard ds (g .3 .0) (g .3 .1) (g .3 .2), g .3 .3) n e
+      ask-begin (method (storeLimits s)) (steady-method (storeLimits s)) mostMethods (codeTest codeSplits) methodNames methodAllows k (g .0) (g .1) (g .2)
+      (g .3 .0 .methods, g .3 .1, h (storeLimits s) ds (g .3 .0) (g .3 .1) (g .3 .2), g .3 .3) n e
 
   module _ (k past : ℕ) {left c : ℕ} (l : MethodsLoop f s end d k past left c) where
     pub methods-one : 0 < left → OwnMethod f s end c
-    methods-one h = ask-one (method standard) (steady-method standard) mostMethods (codeTest codeSplits) methodNames methodAllows k l h
+    methods-one h = ask-one (method (storeLimits s)) (steady-method (storeLimits s)) mostMethods (codeTest codeSplits) methodNames methodAllows k l h
 
     pub methods-18 : {i : ℕ} (n : ℕ) → 0 < left → MethodCallsAre f s end d c n → n ≡ 18 → MethodsAt f i k → ClassCallsAre f s end d i 18
-    methods-18 n h b z m a x j p = ask-18 (method standard) (steady-method standard) mostMethods (codeTest codeSplits) methodNames methodAllows k l h n b z a (x .methods) j (m standard (a .self .pack .domains) x j p)
+    methods-18 n h b z m a x j p = ask-18 (method (storeLimits s)) (steady-method (storeLimits s)) mostMethods (codeTest codeSplits) methodNames methodAllows k l h n b z a (x .methods) j (m (storeLimits s) (a .self .pack .domains) x j p)
 
     pub methods-on : (n m e : ℕ) → 0 < left → MethodCallsAre f s end d c n → (n ≡ 18 → ⊥) → m ≡ pick (eqb n 0) past n → AfterMethod f c e → MethodsLoop f s end d k m (left - 1) e
-    methods-on n m e h b z w r = ask-on (method standard) (steady-method standard) mostMethods (codeTest codeSplits) methodNames methodAllows k l h n b z m e w (r standard)
+    methods-on n m e h b z w r = ask-on (method (storeLimits s)) (steady-method (storeLimits s)) mostMethods (codeTest codeSplits) methodNames methodAllows k l h n b z m e w (r (storeLimits s))
 
     pub methods-end : {i : ℕ} → left ≤ 0 → MethodsAt f i k → ClassCallsAre f s end d i past
-    methods-end h m a x j p = ask-end (method standard) (steady-method standard) mostMethods (codeTest codeSplits) methodNames methodAllows k l h a (x .methods) j (m standard (a .self .pack .domains) x j p)
+    methods-end h m a x j p = ask-end (method (storeLimits s)) (steady-method (storeLimits s)) mostMethods (codeTest codeSplits) methodNames methodAllows k l h a (x .methods) j (m (storeLimits s) (a .self .pack .domains) x j p)
 
 -- each class of a file whose codes split
-classes-split : (f s : Bytes) (end i : ℕ) (g : Judged f s end) → CodesSplit f → ClassesAt f i → Reading (counted mostClasses u1 (class standard (g .1 .pack .domains))) (all (classTest codeSplits)) f i
+classes-split : (f s : Bytes) (end i : ℕ) (g : Judged f s end) → CodesSplit f → ClassesAt f i → Reading (counted mostClasses u1 (class (storeLimits s) (g .1 .pack .domains))) (all (classTest codeSplits)) f i
 unfolding q16-splits
 classes-split f s end i g h k =
     let p = g .1 .pack in
     let r = g .2 .setting .reads in
-    (p .classes, length f, classes-read k standard p r, subst T (allFrom-all (classTest codeSplits) 0 (p .classes)) (h standard p r))
+    (p .classes, length f, classes-read k (storeLimits s) p r, subst T (allFrom-all (classTest codeSplits) 0 (p .classes)) (h (storeLimits s) p r))
 
 module _ {f s : Bytes} {end : ℕ} {d : Numbering} where
   -- a file's number is that of its list of classes
@@ -193,22 +193,22 @@ module _ {f s : Bytes} {end : ℕ} {d : Numbering} where
 
   pub classes-begin : {k n : ℕ} → Judged f s end → CodesSplit f → ClassesAt f k → n ≡ getD f k 0 → ClassesLoop f s end d k 0 n (k + 1)
   classes-begin {k} {n} g h m e =
-      ask-begin (class standard) (steady-class standard) mostClasses (classTest codeSplits) classNames classAllows k (g .0) (g .1) (g .2) (classes-split f s end k g h m) n e
+      ask-begin (class (storeLimits s)) (steady-class (storeLimits s)) mostClasses (classTest codeSplits) classNames classAllows k (g .0) (g .1) (g .2) (classes-split f s end k g h m) n e
 
   module _ (k past : ℕ) {left c : ℕ} (l : ClassesLoop f s end d k past left c) where
     pub classes-one : 0 < left → OwnClass f s end c
-    classes-one h = ask-one (class standard) (steady-class standard) mostClasses (classTest codeSplits) classNames classAllows k l h
+    classes-one h = ask-one (class (storeLimits s)) (steady-class (storeLimits s)) mostClasses (classTest codeSplits) classNames classAllows k l h
 
     pub classes-18 : (n : ℕ) → 0 < left → ClassCallsAre f s end d c n → n ≡ 18 → ClassesAt f k → FileCallsAre f s end d 18
     classes-18 n h b z m = file-calls 18 λ a.
-        ask-18 (class standard) (steady-class standard) mostClasses (classTest codeSplits) classNames classAllows k l h n b z a (a .self .pack .classes) (length f) (classes-read m standard (a .self .pack) (a .imports .setting .reads))
+        ask-18 (class (storeLimits s)) (steady-class (storeLimits s)) mostClasses (classTest codeSplits) classNames classAllows k l h n b z a (a .self .pack .classes) (length f) (classes-read m (storeLimits s) (a .self .pack) (a .imports .setting .reads))
 
     pub classes-on : (n m e : ℕ) → 0 < left → ClassCallsAre f s end d c n → (n ≡ 18 → ⊥) → m ≡ pick (eqb n 0) past n → AfterClass f c e → ClassesLoop f s end d k m (left - 1) e
-    classes-on n m e h b z w r = ask-on (class standard) (steady-class standard) mostClasses (classTest codeSplits) classNames classAllows k l h n b z m e w (r standard)
+    classes-on n m e h b z w r = ask-on (class (storeLimits s)) (steady-class (storeLimits s)) mostClasses (classTest codeSplits) classNames classAllows k l h n b z m e w (r (storeLimits s))
 
     pub classes-end : left ≤ 0 → ClassesAt f k → FileCallsAre f s end d past
     classes-end h m = file-calls past λ a.
-        ask-end (class standard) (steady-class standard) mostClasses (classTest codeSplits) classNames classAllows k l h a (a .self .pack .classes) (length f) (classes-read m standard (a .self .pack) (a .imports .setting .reads))
+        ask-end (class (storeLimits s)) (steady-class (storeLimits s)) mostClasses (classTest codeSplits) classNames classAllows k l h a (a .self .pack .classes) (length f) (classes-read m (storeLimits s) (a .self .pack) (a .imports .setting .reads))
 
 -- with the tables for the loading domain
 pub calls-number : {f s : Bytes} {end : ℕ} (t : Numbering) (d : Aid) (n : ℕ) → DomainMap f s end d t → FileCallsAre f s end t n → CallsNumberIs f s end d n

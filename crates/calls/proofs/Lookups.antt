@@ -8,7 +8,7 @@ use mathlib.Core.Option.{Option, none, some}
 use lib.Dec.{eqb}
 use lib.ListN.{length, getD}
 use Rattle.rules.specs.Bytes.{Bytes, at, someAnd, u1, aid, _andThen_}
-use Rattle.rules.specs.Package.{Limits, standard, mostImports, Reference, Method, Class, Package, method, class, readFile}
+use Rattle.rules.specs.Package.{Limits, storeLimits, mostImports, Reference, Method, Class, Package, method, class, readFile}
 use Rattle.rules.specs.Classes.{Installed, installed, ClassAt, packageNumbered, recordOf, declared}
 use Rattle.rules.specs.Questions.{Named, referenceNames, callForm}
 use Rattle.places.proofs.Steady.{steady-u1, steady-aid}
@@ -33,7 +33,7 @@ use Rattle.calls.specs.declared.NamedFound.the-variants as found
 
 -- the file being judged reads
 pub judged-reads : {f s : Bytes} {end : ℕ} → Judged f s end → Readable f
-judged-reads g = (standard, g .1 .pack, g .2 .setting .reads)
+judged-reads {s = s} g = (storeLimits s, g .1 .pack, g .2 .setting .reads)
 
 -- the number of imports
 pub imports-few : (l : Limits) (f : Bytes) (p : Package) → readFile l f ≡ some p → length (p .imports) ≤ mostImports
@@ -72,13 +72,13 @@ module _ {f s : Bytes} {end : ℕ} (t : List ℕ) where
   pub numbered-none : (p c n : ℕ) {count : ℕ} → ImportCount f count → count < p → NumbersName f s end t p c n found.Nothing
   numbered-none zero c n k h es self m = absurd (omega arith)
   numbered-none (suc p) c n k h es self m =
-      let e = at-none (self .pack .imports) p (omega (arith, k standard (self .pack) (m .setting .reads))) in
+      let e = at-none (self .pack .imports) p (omega (arith, k (storeLimits s) (self .pack) (m .setting .reads))) in
       rw e
 
   module _ (i : ImportHomes f s end t) {count : ℕ} (k : ImportCount f count) where
-    numbered-at : (p : ℕ) → p ≤ count → OfJudged f s end λ es self. (y : Installed) × (packageNumbered (installed standard es) self p ≡ some y) × HomeIs f s end es self (homeOf end t p) y
+    numbered-at : (p : ℕ) → p ≤ count → OfJudged f s end λ es self. (y : Installed) × (packageNumbered (installed (storeLimits s) es) self p ≡ some y) × HomeIs f s end es self (homeOf end t p) y
     numbered-at zero h es self m = (self, refl, own)
-    numbered-at (suc p) h es self m = let z = i .found es self m p (omega (arith, k standard (self .pack) (m .setting .reads))) in (z .0, z .1, z .2)
+    numbered-at (suc p) h es self m = let z = i .found es self m p (omega (arith, k (storeLimits s) (self .pack) (m .setting .reads))) in (z .0, z .1, z .2)
 
     module _ (p : ℕ) (h : p ≤ count) where
       pub numbered-there : Judged f s end → HomeThere f s (homeOf end t p)
@@ -102,13 +102,13 @@ module _ {f s : Bytes} {end : ℕ} (t : List ℕ) where
           class-there j =
               let y = numbered-at p h (j .0) (j .1) (j .2) in
               let z = placed-at (q end (j .0) (j .1) (j .2) (y .0) (y .2)) in
-              rw e (standard, y .0 .pack .domains, (z .0, z .1, z .3))
+              rw e (storeLimits s, y .0 .pack .domains, (z .0, z .1, z .3))
 
           pub method-missing : DeclaredPlaced g o n Nothing → NumbersName f s end t p c n found.Nothing
           method-missing d = numbers-name found.Nothing λ es self m y l.
               let z = placed-at (q end es self m y l) in
               let b = subst (λ (v : Bytes). DeclaredPlaced v o n Nothing) e d in
-              let w = placed-none (b standard (y .pack .domains) (z .0) (z .1) (z .3)) in
+              let w = placed-none (b (storeLimits s) (y .pack .domains) (z .0) (z .1) (z .3)) in
               rw (z .2, w)
 
           pub method-found : (v : ℕ) → DeclaredPlaced g o n (At v) → NumbersName f s end t p c n (found.Method p o v)
@@ -116,30 +116,30 @@ module _ {f s : Bytes} {end : ℕ} (t : List ℕ) where
               let b = not (eqb p 0) in
               let z = placed-at (q end es self m y l) in
               let x = subst (λ (v′ : Bytes). DeclaredPlaced v′ o n (At v)) e d in
-              let w = placed-at (x standard (y .pack .domains) (z .0) (z .1) (z .3)) in
+              let w = placed-at (x (storeLimits s) (y .pack .domains) (z .0) (z .1) (z .3)) in
               let a : Named = record { imported = b; class = record { home = y; number = c }; declaring = z .0; method = w .0 } in
               let u : Class → Option Named = λ k. declared k n andThen λ z. some (record { imported = b; class = record { home = y; number = c }; declaring = k; method = z }) in
               let r : Method → Option Named = λ k. some (record { imported = b; class = record { home = y; number = c }; declaring = z .0; method = k }) in
               let j : declaredAs b (record { home = y; number = c }) n ≡ some a = ap (λ (k : Option Class). k andThen u) (z .2) ∙ ap (λ (k : Option Method). k andThen r) (w .2) in
-              let small : p ≤ length (self .pack .imports) = omega (arith, h, k standard (self .pack) (m .setting .reads)) in
+              let small : p ≤ length (self .pack .imports) = omega (arith, h, k (storeLimits s) (self .pack) (m .setting .reads)) in
               (a, j, record { number = small; lies = l; classEnd = z .1; methodEnd = w .1; declaring = z .3; method = w .3; imported = refl })
 
 -- the numbers and the name of a reference
 module _ {f s : Bytes} {end : ℕ} (t : List ℕ) (i k : ℕ) (a : ReferencesAt f i) where
   reference-is : (r : Referenced) → ReferenceNth f i k r → OfJudged f s end λ es self. at (self .pack .references) k ≡ referenced r
-  reference-is r q es self m = let z = references-read a standard (self .pack) (m .setting .reads) in sym (q (self .pack .references) (z .0) (z .1))
+  reference-is r q es self m = let z = references-read a (storeLimits s) (self .pack) (m .setting .reads) in sym (q (self .pack .references) (z .0) (z .1))
 
   pub reference-named : (p c n : ℕ) → ReferenceNth f i k (referenced′.To p c n) → (r : NamedFound) → NumbersName f s end t p c n r → ReferenceIs f s end t k r
   reference-named p c n q r d es self m =
       let e = reference-is (referenced′.To p c n) q es self m in
-      subst (λ (o : Option Reference). NamedIs f s end t es self (o andThen referenceNames (installed standard es) self) r) (sym e) (d es self m)
+      subst (λ (o : Option Reference). NamedIs f s end t es self (o andThen referenceNames (installed (storeLimits s) es) self) r) (sym e) (d es self m)
 
   pub reference-none : ReferenceNth f i k referenced′.Nothing → ReferenceIs f s end t k found.Nothing
   reference-none q es self m = rw (reference-is referenced′.Nothing q es self m)
 
 -- the package number of what is named
 pub pack-fits : {f s : Bytes} {end : ℕ} (t : List ℕ) (k : ℕ) (r : NamedFound) → Judged f s end → ReferenceIs f s end t k r → PackFits r
-pack-fits {f} t k (found.Method p c m) g q = let z = q (g .0) (g .1) (g .2) in omega (arith, z .2 .number, imports-few standard f (g .1 .pack) (g .2 .setting .reads))
+pack-fits {f} {s} t k (found.Method p c m) g q = let z = q (g .0) (g .1) (g .2) in omega (arith, z .2 .number, imports-few (storeLimits s) f (g .1 .pack) (g .2 .setting .reads))
 pack-fits t k found.Nothing g q = tt
 
 -- visible if imported
@@ -192,14 +192,14 @@ module _ {f s : Bytes} {end index : ℕ} (t : List ℕ) (kind : Calling) where
 
     module _ (b : Bytes) (e : b ≡ fileOf f s (homeOf end t p)) where
       pub named-class : Judged f s end → ClassThere b c
-      named-class g = let z = q (g .0) (g .1) (g .2) in rw e (standard, z .0 .class .home .pack .domains, (z .0 .declaring, z .2 .classEnd, z .2 .declaring))
+      named-class g = let z = q (g .0) (g .1) (g .2) in rw e (storeLimits s, z .0 .class .home .pack .domains, (z .0 .declaring, z .2 .classEnd, z .2 .declaring))
 
       pub named-method : Judged f s end → MethodThere b m
-      named-method g = let z = q (g .0) (g .1) (g .2) in rw e (standard, z .0 .class .home .pack .domains, (z .0 .method, z .2 .methodEnd, z .2 .method))
+      named-method g = let z = q (g .0) (g .1) (g .2) in rw e (storeLimits s, z .0 .class .home .pack .domains, (z .0 .method, z .2 .methodEnd, z .2 .method))
 
       pub call-named-is : (r : Bool) → WellIs b c m (not (eqb p 0)) kind r → CallNamedIs f s end kind index r
       call-named-is r w es self u =
           let z = q es self u in
           let x = z .0 in
-          let y = subst (λ (v : Bytes). WellIs v c m (not (eqb p 0)) kind r) e w x standard (x .class .home .pack .domains) (z .2 .classEnd) (z .2 .methodEnd) (z .2 .declaring) (z .2 .method) (z .2 .imported) in
+          let y = subst (λ (v : Bytes). WellIs v c m (not (eqb p 0)) kind r) e w x (storeLimits s) (x .class .home .pack .domains) (z .2 .classEnd) (z .2 .methodEnd) (z .2 .declaring) (z .2 .method) (z .2 .imported) in
           subst (λ (o : Option Named). r ≡ someAnd o (λ v. (not (v .imported) || v .method .visible) && callForm (kindOf kind) v)) (sym (z .1)) y

@@ -6,7 +6,7 @@ use mathlib.Core.Path.{_≡_, sym, _∙_, subst}
 use mathlib.Core.List.{List}
 use lib.ListN.{length}
 use Rattle.rules.specs.Bytes.{Bytes, Aid, aid}
-use Rattle.rules.specs.Package.{standard}
+use Rattle.rules.specs.Package.{storeLimits}
 use Rattle.places.proofs.Inverse.{reads-same}
 use Rattle.files.specs.Say.{Readable, DomainsAt}
 use Rattle.files.proofs.Walks.{domains-read}
@@ -56,5 +56,5 @@ module _ {f s : Bytes} {end u : ℕ} {d : Aid} {h : List ℕ} where
         stands = a;
         own = subst (λ (j : ℕ). MapIs f u d f j 0 m) (domains-same (o .0) u (judged-reads g) (o .1) a) (o .2);
         loads = q;
-        maps = λ es self k p z. t .maps p (omega (arith, c standard (self .pack) (k .setting .reads)));
+        maps = λ es self k p z. t .maps p (omega (arith, c (storeLimits s) (self .pack) (k .setting .reads)));
       }

@@ -6,11 +6,12 @@ use borrow.Author.Tests.{ne-eqb}
 use mathlib.Core.Path.{_≡_, refl, sym, _∙_, ap, subst}
 use mathlib.Core.Bool.{Bool, true, false, _&&_, not}
 use mathlib.Core.List.{List, [], _∷_}
+use mathlib.Core.Option.{some}
 use lib.Dec.{eqb}
 use lib.ListN.{length, drop, getD, length-take}
 use Rattle.rules.specs.Bytes.{Bytes, Aid, Reader, pick, all, allFrom, u1, counted}
 use Rattle.rules.specs.Code.{u2At, codeSplits, codeBranches}
-use Rattle.rules.specs.Package.{Limits, standard, mostMethods, mostClasses, Method, Class, Package, codeIf, method, class}
+use Rattle.rules.specs.Package.{Limits, mostMethods, mostClasses, Method, Class, Package, codeIf, method, class, readFile}
 use Rattle.rules.specs.Questions.{q16-splits, q17-targets}
 use Rattle.places.specs.Reads.{Reads, Ends, EndsAt, Tracks}
 use Rattle.places.proofs.Steady.{Steady, steady-method, steady-class}
@@ -19,7 +20,7 @@ use Rattle.places.proofs.Parts.{code-none, code-part, method-part}
 use Rattle.files.specs.Say.{ImplementedIs, CodeIs, MethodsAt, ClassesAt, AfterMethod, AfterClass}
 use Rattle.files.proofs.Walks.{classes-read}
 use Rattle.codes.specs.Marks.{codeNumber}
-use Rattle.calls.specs.Codes.{codeTest, classTest, numberOf, fileNumber, MethodHere, ClassHere, FileHere, MethodNumberIs, ClassNumberIs, FileNumberIs}
+use Rattle.calls.specs.Codes.{codeTest, classTest, numberOf, fileNumber, MethodHere, MethodNumberIs, ClassNumberIs, FileNumberIs}
 
 -- tests that do not ask for the number of an element
 pub allFrom-all : {A : Type 0} (p : A → Bool) (k : ℕ) (xs : List A) → allFrom (λ i x. p x) k xs ≡ all p xs
@@ -103,12 +104,10 @@ pub methods-number-start : {f : Bytes} {k n : ℕ} → n ≡ getD f k 0 → Meth
 methods-number-start {f} {k} {n} h = numbers-start 16 17 (omega arith) (omega arith) methodReader (λ w. steady-method (w .0) (w .1)) mostMethods (λ w. codeTest codeSplits) (λ w. codeTest codeBranches) f k n h
 
 module _ {f : Bytes} (k past left c : ℕ) (t : MethodNumbers f k past left c) where
-  pub methods-number-here : {i : ℕ} → ClassHere f i → MethodsAt f i k → 0 < left → MethodHere f c
-  methods-number-here g m h = (
-    g .0,
-    numbers-here 16 17 (omega arith) (omega arith) methodReader (λ w. steady-method (w .0) (w .1)) mostMethods (λ w. codeTest codeSplits) (λ w. codeTest codeBranches) f k past left c t h (standard, g .0)
-        (g .1 .0 .methods, g .1 .1, m standard (g .0) (g .1 .0) (g .1 .1) (g .1 .2)),
-  )
+  pub methods-number-here : {i : ℕ} (l : Limits) (ds : List Aid) → Ends (class l ds) f i → MethodsAt f i k → 0 < left → Ends (method l ds) f c
+  methods-number-here l ds g m h =
+      numbers-here 16 17 (omega arith) (omega arith) methodReader (λ w. steady-method (w .0) (w .1)) mostMethods (λ w. codeTest codeSplits) (λ w. codeTest codeBranches) f k past left c t h (l, ds)
+      (g .0 .methods, g .1, m l ds (g .0) (g .1) (g .2))
 
   pub methods-number-16 : {i : ℕ} (n : ℕ) → MethodsAt f i k → 0 < left → MethodNumberIs f c n → n ≡ 16 → ClassNumberIs f i 16
   methods-number-16 n m h e z l ds x j r =
@@ -135,13 +134,10 @@ pub classes-number-start : {f : Bytes} {k n : ℕ} → n ≡ getD f k 0 → Clas
 classes-number-start {f} {k} {n} h = numbers-start 16 17 (omega arith) (omega arith) classReader (λ w. steady-class (w .0) (w .1)) mostClasses (λ w. classTest codeSplits) (λ w. classTest codeBranches) f k n h
 
 module _ {f : Bytes} (k past left c : ℕ) (t : ClassNumbers f k past left c) where
-  pub classes-number-here : FileHere f → ClassesAt f k → 0 < left → ClassHere f c
-  classes-number-here g m h =
-      let p = g .0 in (
-        p .domains,
-        numbers-here 16 17 (omega arith) (omega arith) classReader (λ w. steady-class (w .0) (w .1)) mostClasses (λ w. classTest codeSplits) (λ w. classTest codeBranches) f k past left c t h (standard, p .domains)
-            (p .classes, length f, classes-read m standard p (g .1)),
-      )
+  pub classes-number-here : (l : Limits) (p : Package) → readFile l f ≡ some p → ClassesAt f k → 0 < left → Ends (class l (p .domains)) f c
+  classes-number-here l p g m h =
+      numbers-here 16 17 (omega arith) (omega arith) classReader (λ w. steady-class (w .0) (w .1)) mostClasses (λ w. classTest codeSplits) (λ w. classTest codeBranches) f k past left c t h (l, p .domains)
+      (p .classes, length f, classes-read m l p g)
 
   pub classes-number-16 : (n : ℕ) → ClassesAt f k → 0 < left → ClassNumberIs f c n → n ≡ 16 → FileNumberIs f 16
   classes-number-16 n m h e z l p r =
@@ -161,17 +157,16 @@ module _ {f : Bytes} (k past left c : ℕ) (t : ClassNumbers f k past left c) wh
       (length f) (classes-read m l p r))
 
 -- the code of a method
-code-short : (s : Bytes) (i : ℕ) (b : Bool) (c : Bytes) (j : ℕ) → Reads (codeIf standard b) s i c j → length c ≤ 4096
-unfolding standard
-code-short s i false c j p = let z = code-none standard s i c j p in rw (← z .0) (omega arith)
-code-short s i true c j p = let z = code-part standard s i c j p in rw (← z .bytes) (omega (arith, z .most, length-take (u2At s i) (drop (i + 2) s)))
+code-short : (l : Limits) (s : Bytes) (i : ℕ) (b : Bool) (c : Bytes) (j : ℕ) → Reads (codeIf l b) s i c j → length c ≤ l .code
+code-short l s i false c j p = let z = code-none l s i c j p in rw (← z .0) (omega arith)
+code-short l s i true c j p = let z = code-part l s i c j p in rw (← z .bytes) (omega (arith, z .most, length-take (u2At s i) (drop (i + 2) s)))
 
 module _ {f : Bytes} {i : ℕ} where
-  pub method-short : (code : Bytes) → CodeIs f i code → MethodHere f i → length code ≤ 4096
-  method-short code h e =
-      let m = e .1 .0 in
-      let t = method-part standard (e .0) f i m (e .1 .1) (e .1 .2) in
-      rw (h standard (e .0) m (e .1 .1) (e .1 .2)) (code-short f (t .middle) (m .implemented) (m .code) (e .1 .1) (t .code))
+  pub method-short : (marks : List Bool) (code : Bytes) → CodeIs f i code → MethodHere f marks i → length code ≤ length marks
+  method-short marks code h e =
+      let m = e .2 .0 in
+      let t = method-part (e .0) (e .1) f i m (e .2 .1) (e .2 .2) in
+      rw (h (e .0) (e .1) m (e .2 .1) (e .2 .2)) (omega (arith, code-short (e .0) f (t .middle) (m .implemented) (m .code) (e .2 .1) (t .code), e .3))
 
   pub bare-number : ImplementedIs f i false → MethodNumberIs f i 0
   bare-number h l ds m j p = rw (← h l ds m j p)

@@ -5,7 +5,7 @@ use mathlib.Core.Bool.{Bool, _&&_}
 use mathlib.Core.List.{List}
 use mathlib.Core.Option.{Option}
 use Rattle.rules.specs.Bytes.{Bytes, noneOr}
-use Rattle.rules.specs.Package.{standard}
+use Rattle.rules.specs.Package.{storeLimits}
 use Rattle.rules.specs.Classes.{rights, allows, allowsAllOf}
 use Rattle.rules.specs.Questions.{Named, methodNamed, ownMethod}
 use Rattle.files.specs.Say.{Readable, DomainsAt, PolicyAt, MethodThere}
@@ -28,20 +28,20 @@ module _ {f s : Bytes} {h : Home} {m : ℕ} where
 
   module _ (g : Bytes) (e : g ≡ fileOf f s h) where
     pub stands-reads : StandsThere f s h m → Readable g
-    stands-reads t = rw e (standard, t .4 .class .home .pack, home-reads f s (t .0) (t .1) (t .2) (t .3 .setting) h (t .4 .class .home) (t .5 .lies))
+    stands-reads t = rw e (storeLimits s, t .4 .class .home .pack, home-reads f s (t .0) (t .1) (t .2) (t .3 .setting) h (t .4 .class .home) (t .5 .lies))
 
     pub stands-method : StandsThere f s h m → MethodThere g m
-    stands-method t = rw e (standard, t .4 .class .home .pack .domains, (t .4 .method, t .5 .to, t .5 .reads))
+    stands-method t = rw e (storeLimits s, t .4 .class .home .pack .domains, (t .4 .method, t .5 .to, t .5 .reads))
 
     -- the domains stand at d, the policy at i
     pub rights-at : (d i : ℕ) → DomainsAt g d → PolicyAt g m i → RightsAt f s h m (record { domains = d; policy = i })
     rights-at d i q p =
-        (subst (λ (b : Bytes). DomainsAt b d) e q, λ end es self t x y. subst (λ (b : Bytes). PolicyAt b m i) e p standard (x .class .home .pack .domains) (x .method) (y .to) (y .reads))
+        (subst (λ (b : Bytes). DomainsAt b d) e q, λ end es self t x y. subst (λ (b : Bytes). PolicyAt b m i) e p (storeLimits s) (x .class .home .pack .domains) (x .method) (y .to) (y .reads))
 
     pub rights-over : (r : RightsPlace) → RightsAt f s h m r → StandsThere f s h m → SomePolicy g (r .policy)
     rights-over r q t =
         let k = t .4 .class .home in
-        let a = domains-read (q .0) standard (k .pack) (home-reads f s (t .0) (t .1) (t .2) (t .3 .setting) h k (t .5 .lies)) in
+        let a = domains-read (q .0) (storeLimits s) (k .pack) (home-reads f s (t .0) (t .1) (t .2) (t .3 .setting) h k (t .5 .lies)) in
         let b = q .1 (t .0) (t .1) (t .2) (t .3) (t .4) (t .5) in
         rw e (r .domains, (k .pack .domains, a .0, a .1, (rights (t .4), b .0, b .1)))
 
@@ -51,8 +51,8 @@ pub covers-is : {f s : Bytes} {end : ℕ} (m : List ℕ) (n : ℕ) (h : Home) (b
 covers-is {f} {s} {end} m n h b i j g e q r v w a c u t d z y mu mt l end′ es self k x p end″ es′ self′ k′ x′ p′ =
     let o = x .class .home in
     let o′ = x′ .class .home in
-    let ds = domains-read y standard (o .pack) (home-reads f s end′ es self (k .setting) h o (p .lies)) in
-    let ds′ = domains-read z standard (o′ .pack) (home-reads f s end″ es′ self′ (k′ .setting) (ownHome end) o′ (p′ .lies)) in
+    let ds = domains-read y (storeLimits s) (o .pack) (home-reads f s end′ es self (k .setting) h o (p .lies)) in
+    let ds′ = domains-read z (storeLimits s) (o′ .pack) (home-reads f s end″ es′ self′ (k′ .setting) (ownHome end) o′ (p′ .lies)) in
     let policy = w .1 end′ es self k x p in
     let policy′ = v .1 end″ es′ self′ k′ x′ p′ in
     subst (λ (y : Bytes). policies.CoversIs f (q .policy) y (r .policy) m b n a) e c u t d mu mt l (o .pack .domains) (ds .0) (ds .1) (rights x) (policy .0) (policy .1) (o′ .pack .domains) (ds′ .0) (ds′ .1) (rights x′) (policy′ .0) (policy′ .1)

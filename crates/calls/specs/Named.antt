@@ -16,7 +16,7 @@ use mathlib.Core.Option.{Option, none, some}
 use lib.Dec.{eqb}
 use lib.ListN.{length}
 use Rattle.rules.specs.Bytes.{Bytes, Aid, at, _andThen_}
-use Rattle.rules.specs.Package.{Limits, standard, Package, method, class, readFile}
+use Rattle.rules.specs.Package.{Limits, storeLimits, Package, method, class, readFile}
 use Rattle.rules.specs.Store.{Entry}
 use Rattle.rules.specs.Classes.{Installed, installed}
 use Rattle.rules.specs.Questions.{Named, referenceNames, callForm, callNamesWell}
@@ -57,8 +57,8 @@ pub record NamedAt (f s : Bytes) (end : ℕ) (t : List ℕ) (es : List Entry) (s
   pub lies : HomeIs f s end es self (homeOf end t p) (x .class .home)
   pub classEnd : ℕ
   pub methodEnd : ℕ
-  pub declaring : Reads (class standard (x .class .home .pack .domains)) (fileOf f s (homeOf end t p)) c (x .declaring) classEnd
-  pub method : Reads (method standard (x .class .home .pack .domains)) (fileOf f s (homeOf end t p)) m (x .method) methodEnd
+  pub declaring : Reads (class (storeLimits s) (x .class .home .pack .domains)) (fileOf f s (homeOf end t p)) c (x .declaring) classEnd
+  pub method : Reads (method (storeLimits s) (x .class .home .pack .domains)) (fileOf f s (homeOf end t p)) m (x .method) methodEnd
   pub imported : x .imported ≡ not (eqb p 0)
 
 -- what is named, if anything is
@@ -68,10 +68,10 @@ NamedIs f s end t es self o found.Nothing = o ≡ none
 
 -- the method that package number p, class number c and name n name
 abbrev pub NumbersName : Bytes → Bytes → ℕ → List ℕ → ℕ → ℕ → ℕ → NamedFound → Type 0
-NumbersName f s end t p c n r = OfJudged f s end λ es self. NamedIs f s end t es self (referenceNames (installed standard es) self (record { class = record { pack = p; class = c }; name = n })) r
+NumbersName f s end t p c n r = OfJudged f s end λ es self. NamedIs f s end t es self (referenceNames (installed (storeLimits s) es) self (record { class = record { pack = p; class = c }; name = n })) r
 
 abbrev pub ReferenceIs : Bytes → Bytes → ℕ → List ℕ → ℕ → NamedFound → Type 0
-ReferenceIs f s end t k r = OfJudged f s end λ es self. NamedIs f s end t es self (referenceNamed (installed standard es) self k) r
+ReferenceIs f s end t k r = OfJudged f s end λ es self. NamedIs f s end t es self (referenceNamed (installed (storeLimits s) es) self k) r
 
 -- a fact of whatever is named by the class record at c and the method at m of a file
 abbrev pub OfNamed : Bytes → ℕ → ℕ → (Named → Type 0) → Type 0
@@ -91,4 +91,4 @@ WellIs g c m i k r = OfNamed g c m λ x. x .imported ≡ i → r ≡ ((not (x .i
 
 -- question 18 of a call
 abbrev pub CallNamedIs : Bytes → Bytes → ℕ → Calling → ℕ → Bool → Type 0
-CallNamedIs f s end kind index r = OfJudged f s end λ es self. r ≡ callNamesWell (installed standard es) self (record { kind = kindOf kind; index = index })
+CallNamedIs f s end kind index r = OfJudged f s end λ es self. r ≡ callNamesWell (installed (storeLimits s) es) self (record { kind = kindOf kind; index = index })

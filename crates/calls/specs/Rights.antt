@@ -10,7 +10,7 @@ use mathlib.Core.Path.{_≡_}
 use mathlib.Core.Bool.{Bool, _&&_}
 use mathlib.Core.List.{List}
 use Rattle.rules.specs.Bytes.{Bytes, Aid, noneOr}
-use Rattle.rules.specs.Package.{standard, policy, method}
+use Rattle.rules.specs.Package.{storeLimits, policy, method}
 use Rattle.rules.specs.Store.{Entry}
 use Rattle.rules.specs.Classes.{Installed, installed, MethodAt, rights, allows, allowsAllOf}
 use Rattle.rules.specs.Questions.{methodNamed}
@@ -27,7 +27,7 @@ use Rattle.calls.specs.declared.RightsPlace.{RightsPlace}
 pub record Stands (f s : Bytes) (end : ℕ) (es : List Entry) (self : Installed) (h : Home) (m : ℕ) (x : MethodAt) : Type 0 where
   pub lies : HomeIs f s end es self h (x .class .home)
   pub to : ℕ
-  pub reads : Reads (method standard (x .class .home .pack .domains)) (fileOf f s h) m (x .method) to
+  pub reads : Reads (method (storeLimits s) (x .class .home .pack .domains)) (fileOf f s h) m (x .method) to
 
 abbrev pub StandsThere : Bytes → Bytes → Home → ℕ → Type 0
 StandsThere f s h m = (end : ℕ) × (es : List Entry) × (self : Installed) × Imports f s end es self × (x : MethodAt) × Stands f s end es self h m x
@@ -49,4 +49,4 @@ CoversIs f s end m n h b i j r = (u t : ℕ) (d : Aid) → DomainsAt f u → Dom
 -- question 19 of a call in the method at place i of the file being judged
 abbrev pub CallAllowedIs : Bytes → Bytes → ℕ → Numbering → ℕ → ℕ → Bool → Type 0
 CallAllowedIs f s end t i index r = OfJudged f s end λ es self. DomainMap f s end (self .domain) t → (y : MethodAt) → Stands f s end es self (ownHome end) i y →
-    r ≡ noneOr (referenceNamed (installed standard es) self index) (λ x. allows (methodNamed x) (self .domain) && allowsAllOf (methodNamed x) y)
+    r ≡ noneOr (referenceNamed (installed (storeLimits s) es) self index) (λ x. allows (methodNamed x) (self .domain) && allowsAllOf (methodNamed x) y)

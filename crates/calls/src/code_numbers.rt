@@ -1,9 +1,7 @@
 // Questions 16 and 17 of the codes of a class.
 use fields::wide;
 ghost use mathlib.Core.Path.{_≡_};
-ghost use Prim.Native.Nat.{_≤_};
 ghost use lib.Dec.{eqb};
-ghost use lib.ListN.{length};
 ghost use Rattle.rules.specs.Bytes.{pick};
 ghost use Rattle.codes.specs.Table.{TableIs};
 ghost use Rattle.calls.specs.Codes.{MethodHere, ClassHere, MethodNumberIs, ClassNumberIs};
@@ -20,9 +18,8 @@ pub fn later(number: u8, n: u8) -> u8
 
 // Questions 16 and 17 of the code of the method at a place: the number of the first no, or 0.
 fn method_number(f: &[u8], table: &[u8; 256], marks: &mut [bool], at: usize) -> u8
-    requires { ⌜ MethodHere (now f) at ⌝ }
+    requires { ⌜ MethodHere (now f) (now marks) at ⌝ }
     requires { ⌜ TableIs (now table) ⌝ }
-    requires { ⌜ 4096 ≤ length (now marks) ⌝ }
     ensures { λ r. ⌜ MethodNumberIs (now (f .entry)) at r ⌝ }
 {
     if !files::is_implemented(f, at) {
@@ -33,9 +30,8 @@ fn method_number(f: &[u8], table: &[u8; 256], marks: &mut [bool], at: usize) -> 
 
 // Of the codes of the class at a place: 16 of every code before 17 of any.
 pub fn class_number(f: &[u8], table: &[u8; 256], marks: &mut [bool], at: usize) -> u8
-    requires { ⌜ ClassHere (now f) at ⌝ }
+    requires { ⌜ ClassHere (now f) (now marks) at ⌝ }
     requires { ⌜ TableIs (now table) ⌝ }
-    requires { ⌜ 4096 ≤ length (now marks) ⌝ }
     ensures { λ r. ⌜ ClassNumberIs (now (f .entry)) at r ⌝ }
 {
     let start = files::methods_of(f, at);

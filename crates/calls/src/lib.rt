@@ -16,7 +16,6 @@ use references::name_references;
 use references::named_at;
 use references::named_well;
 ghost use mathlib.Core.Path.{_≡_};
-ghost use Prim.Native.Nat.{_≤_};
 ghost use lib.ListN.{length};
 ghost use Rattle.codes.specs.Table.{TableIs};
 ghost use Rattle.policies.specs.Numbers.{tableSize};
@@ -42,9 +41,8 @@ pub struct RightsPlace {
 
 // Questions 16 and 17 of a file: the number of the first no, or 0.
 pub fn codes_ok(f: &[u8], table: &[u8; 256], marks: &mut [bool]) -> u8
-    requires { ⌜ FileHere (now f) ⌝ }
+    requires { ⌜ FileHere (now f) (now marks) ⌝ }
     requires { ⌜ TableIs (now table) ⌝ }
-    requires { ⌜ 4096 ≤ length (now marks) ⌝ }
     ensures { λ r. ⌜ FileNumberIs (now (f .entry)) r ⌝ }
 {
     let start = files::classes_at(f);

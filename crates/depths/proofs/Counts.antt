@@ -4,7 +4,7 @@ use mathlib.Core.Path.{_≡_, sym, _∙_}
 use mathlib.Core.Bool.{true, false}
 use lib.ListN.{length, getD}
 use Rattle.rules.specs.Bytes.{Bytes, u1}
-use Rattle.rules.specs.Package.{standard, mostClasses, class}
+use Rattle.rules.specs.Package.{storeLimits, mostClasses, class}
 use Rattle.places.proofs.Steady.{steady-u1, steady-class}
 use Rattle.places.proofs.Inverse.{reads-u1, reads-counted}
 use Rattle.places.proofs.Track.{placed-at, placed-none, many-length, counted-inside}
@@ -18,10 +18,10 @@ use Rattle.depths.specs.Depths.{ImportsThere, ParentsThere, ClassCount, 
 -- the file being judged reads
 module _ (f s : Bytes) (end : ℕ) where
   pub imports-read : ImportsThere f s end → Readable f
-  imports-read t = (standard, t .1 .pack, t .2 .setting .reads)
+  imports-read t = (storeLimits s, t .1 .pack, t .2 .setting .reads)
 
   pub parents-read : ParentsThere f s end → Readable f
-  parents-read t = (standard, t .1 .pack, t .2 .imported .setting .reads)
+  parents-read t = (storeLimits s, t .1 .pack, t .2 .imported .setting .reads)
 
 -- the class count
 pub count-inside : (f : Bytes) (i : ℕ) → ClassesAt f i → Readable f → i < length f

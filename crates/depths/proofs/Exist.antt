@@ -8,7 +8,7 @@ use mathlib.Core.Option.{none, some}
 use lib.Dec.{eqb, ltb}
 use lib.ListN.{length, getD}
 use Rattle.rules.specs.Bytes.{Bytes, all, at, isSome}
-use Rattle.rules.specs.Package.{standard, ClassNumber, Class}
+use Rattle.rules.specs.Package.{storeLimits, ClassNumber, Class}
 use Rattle.rules.specs.Store.{Entry}
 use Rattle.rules.specs.Classes.{Installed, installed, packageNumbered}
 use Rattle.rules.specs.Questions.{parentExists}
@@ -23,7 +23,7 @@ use Rattle.depths.proofs.Records.{RecordBy, record-by}
 -- a package by its number, found at a home
 pub record NumberedAt (f s : Bytes) (end : ℕ) (es : List Entry) (self : Installed) (h : Home) (x : Installed) (k : ℕ) (g : Home) : Type 0 where
   pub pack : Installed
-  pub is : packageNumbered (installed standard es) x k ≡ some pack
+  pub is : packageNumbered (installed (storeLimits s) es) x k ≡ some pack
   pub home : HomeIs f s end es self g pack
   pub same : k ≡ 0 → g ≡ h
   pub earlier : (k ≡ 0 → ⊥) → g .before < h .before
@@ -35,7 +35,7 @@ module _ (f s : Bytes) (end : ℕ) (es : List Entry) (self : Installed) (i : Imp
       record { pack = x; is = refl; home = subst (λ (v : Home). HomeIs f s end es self v x) (sym e) t; same = λ z. e; earlier = λ n. absurd (n refl) }
   numbered-at (suc k) g q = let y = q end es self i x t in record { pack = y .0; is = y .1; home = y .2; same = λ z. absurd (omega arith); earlier = λ n. y .3 }
 
-  pub numbered-none : (k : ℕ) → NumberedIs f s h k Nothing → packageNumbered (installed standard es) x k ≡ none
+  pub numbered-none : (k : ℕ) → NumberedIs f s h k Nothing → packageNumbered (installed (storeLimits s) es) x k ≡ none
   numbered-none zero q = let z : _≡_ {A = ℕ} 0 1 = cc in absurd (omega arith)
   numbered-none (suc k) q = q end es self i x t
 
@@ -53,7 +53,7 @@ module _ (f s : Bytes) (end : ℕ) where
 
   module _ (n p c : ℕ) where
     pub exists-nowhere : NumberedIs f s (ownHome end) p Nothing → ExistsIs f s end n (record { pack = p; class = c }) false
-    exists-nowhere q es self i = sym (exists-none (installed standard es) self n p c (numbered-none f s end es self i (ownHome end) self homes.own p q))
+    exists-nowhere q es self i = sym (exists-none (installed (storeLimits s) es) self n p c (numbered-none f s end es self i (ownHome end) self homes.own p q))
 
     module _ (g : Home) (q : NumberedIs f s (ownHome end) p (At g)) where
       pub found-there : ImportsThere f s end → HomeThere f s g
@@ -65,11 +65,11 @@ module _ (f s : Bytes) (end : ℕ) where
       exists-as b d r a z w es self i =
           let y = numbered-at f s end es self i (ownHome end) self homes.own p g q in
           let v : b ≡ isSome (at (y .pack .pack .classes) c) = a end es self i (y .pack) (y .home) in
-          w ∙ ap₂ (λ (u v : Bool). u && (not v || ltb c n)) v (sym z) ∙ sym (exists-some (installed standard es) self (y .pack) n p c (y .is))
+          w ∙ ap₂ (λ (u v : Bool). u && (not v || ltb c n)) v (sym z) ∙ sym (exists-some (installed (storeLimits s) es) self (y .pack) n p c (y .is))
 
   -- the parents of own class n from parent i on are left
   abbrev pub ExistLeft : ℕ → ℕ → Type 0
-  ExistLeft n i = OfOwnClass f s end n λ es self k. Left (λ j x. parentExists (installed standard es) self n x) (k .parents) i
+  ExistLeft n i = OfOwnClass f s end n λ es self k. Left (λ j x. parentExists (installed (storeLimits s) es) self n x) (k .parents) i
 
   pub exist-start : (n : ℕ) → ExistLeft n 0
   exist-start n es self t k e = refl
@@ -86,30 +86,30 @@ module _ (f s : Bytes) (end : ℕ) where
 
     module _ (i m a b : ℕ) (z : m ≡ getD r 1 0) (h : i < m) (za : a ≡ getD r (2 + 2 * i) 0) (zb : b ≡ getD r (3 + 2 * i) 0) (t : ExistLeft n i) where
       parent-is : (v : Bool) → ExistsIs f s end n (record { pack = a; class = b }) v → OfOwnClass f s end n λ es self k.
-          (x : ClassNumber) × (at (k .parents) i ≡ some x) × (parentExists (installed standard es) self n x ≡ v)
+          (x : ClassNumber) × (at (k .parents) i ≡ some x) × (parentExists (installed (storeLimits s) es) self n x ≡ v)
       parent-is v y es self u k e =
           let w = (own-by es self u k e) .parent i (omega (arith, z)) in
           let j : record { pack = a; class = b } ≡ w .number = ap₂ (λ (x y : ℕ). record { pack = x; class = y }) (za ∙ w .pack) (zb ∙ w .class) in
-          (w .number, w .listed, ap (parentExists (installed standard es) self n) (sym j) ∙ sym (y es self u))
+          (w .number, w .listed, ap (parentExists (installed (storeLimits s) es) self n) (sym j) ∙ sym (y es self u))
 
       pub exist-more : ExistsIs f s end n (record { pack = a; class = b }) true → ExistLeft n (i + 1)
       exist-more y es self u k e =
           let w = parent-is true y es self u k e in
-          left-more (λ j x. parentExists (installed standard es) self n x) (k .parents) i (w .0) (w .1) (w .2) (t es self u k e)
+          left-more (λ j x. parentExists (installed (storeLimits s) es) self n x) (k .parents) i (w .0) (w .1) (w .2) (t es self u k e)
 
       pub exist-bad : ExistsIs f s end n (record { pack = a; class = b }) false → AllExist f s end n false
       exist-bad y es self u k e =
           let w = parent-is false y es self u k e in
-          sym (all-from (parentExists (installed standard es) self n) 0 (k .parents) ∙ left-bad (λ j x. parentExists (installed standard es) self n x) (k .parents) i (w .0) (w .1) (w .2) (t es self u k e))
+          sym (all-from (parentExists (installed (storeLimits s) es) self n) 0 (k .parents) ∙ left-bad (λ j x. parentExists (installed (storeLimits s) es) self n x) (k .parents) i (w .0) (w .1) (w .2) (t es self u k e))
 
     pub exist-done : (i m : ℕ) → m ≡ getD r 1 0 → m ≤ i → ExistLeft n i → AllExist f s end n true
     exist-done i m z h t es self u k e =
         let w = own-by es self u k e in
-        sym (all-from (parentExists (installed standard es) self n) 0 (k .parents) ∙ left-done (λ j x. parentExists (installed standard es) self n x) (k .parents) i (omega (arith, z, w .count)) (t es self u k e))
+        sym (all-from (parentExists (installed (storeLimits s) es) self n) 0 (k .parents) ∙ left-done (λ j x. parentExists (installed (storeLimits s) es) self n x) (k .parents) i (omega (arith, z, w .count)) (t es self u k e))
 
   -- the own classes from class n on are left
   abbrev pub ClassesLeft : ℕ → Type 0
-  ClassesLeft n = OfImports f s end λ es self. Left (λ j k. all (parentExists (installed standard es) self j) (k .parents)) (self .pack .classes) n
+  ClassesLeft n = OfImports f s end λ es self. Left (λ j k. all (parentExists (installed (storeLimits s) es) self j) (k .parents)) (self .pack .classes) n
 
   pub classes-start : ClassesLeft 0
   classes-start es self t = refl
@@ -117,24 +117,24 @@ module _ (f s : Bytes) (end : ℕ) where
   module _ (m : ℕ) (c : ClassCount f m) (n : ℕ) where
     pub own-class : n < m → ImportsThere f s end → OwnClass f s end n
     own-class h t =
-        let z = c standard (t .1 .pack) (t .2 .setting .reads) in
+        let z = c (storeLimits s) (t .1 .pack) (t .2 .setting .reads) in
         let y = at-there (t .1 .pack .classes) n (omega (arith, z)) in
         (t .0, t .1, t .2, y .0, y .1)
 
     module _ (t : ClassesLeft n) where
       pub classes-more : n < m → AllExist f s end n true → ClassesLeft (n + 1)
       classes-more h q es self i =
-          let z = c standard (self .pack) (i .setting .reads) in
+          let z = c (storeLimits s) (self .pack) (i .setting .reads) in
           let y = at-there (self .pack .classes) n (omega (arith, z)) in
-          left-more (λ j k. all (parentExists (installed standard es) self j) (k .parents)) (self .pack .classes) n (y .0) (y .1) (sym (q es self i (y .0) (y .1))) (t es self i)
+          left-more (λ j k. all (parentExists (installed (storeLimits s) es) self j) (k .parents)) (self .pack .classes) n (y .0) (y .1) (sym (q es self i (y .0) (y .1))) (t es self i)
 
       pub classes-bad : n < m → AllExist f s end n false → ParentsExist f s end false
       classes-bad h q es self i =
-          let z = c standard (self .pack) (i .setting .reads) in
+          let z = c (storeLimits s) (self .pack) (i .setting .reads) in
           let y = at-there (self .pack .classes) n (omega (arith, z)) in
-          sym (left-bad (λ j k. all (parentExists (installed standard es) self j) (k .parents)) (self .pack .classes) n (y .0) (y .1) (sym (q es self i (y .0) (y .1))) (t es self i))
+          sym (left-bad (λ j k. all (parentExists (installed (storeLimits s) es) self j) (k .parents)) (self .pack .classes) n (y .0) (y .1) (sym (q es self i (y .0) (y .1))) (t es self i))
 
       pub classes-done : m ≤ n → ParentsExist f s end true
       classes-done h es self i =
-          let z = c standard (self .pack) (i .setting .reads) in
-          sym (left-done (λ j k. all (parentExists (installed standard es) self j) (k .parents)) (self .pack .classes) n (omega (arith, z)) (t es self i))
+          let z = c (storeLimits s) (self .pack) (i .setting .reads) in
+          sym (left-done (λ j k. all (parentExists (installed (storeLimits s) es) self j) (k .parents)) (self .pack .classes) n (omega (arith, z)) (t es self i))

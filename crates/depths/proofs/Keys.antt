@@ -8,7 +8,7 @@ use mathlib.Core.List.{List, [], _∷_, _++_}
 use mathlib.Core.Option.{some}
 use lib.ListN.{length, drop, length-drop}
 use Rattle.rules.specs.Bytes.{Bytes, Aid, Reader, at, u1, u2, many, aid, counted}
-use Rattle.rules.specs.Package.{Limits, standard, mostDomains, mostImports, mostReferences, mostClasses, mostMethods, Class, Package, classNumber, reference, method, class, readFile}
+use Rattle.rules.specs.Package.{Limits, storeLimits, mostDomains, mostImports, mostReferences, mostClasses, mostMethods, Class, Package, classNumber, reference, method, class, readFile}
 use Rattle.rules.specs.Store.{Entry, loaded, openingLength}
 use Rattle.rules.specs.Classes.{Installed}
 use Rattle.rules.proofs.Tests.{none-some}
@@ -121,7 +121,7 @@ module _ (s : Bytes) (es : List Entry) (h : Home) (x : Installed) (t : Stored s 
   stored-key : (n : ℕ) (k : Class) → at (x .pack .classes) n ≡ some k → key h n < h .to / 3
   stored-key n k e =
       let b = at-below (x .pack .classes) n k e in
-      let c = file-classes standard (part s (h .from) (h .to)) (x .pack) (t .reads) in
+      let c = file-classes (storeLimits s) (part s (h .from) (h .to)) (x .pack) (t .reads) in
       omega (arith, part-length s (h .from) (h .to) (t .entry .to), t .inside, t .order)
 
   -- and its entry ends where the entries end, or before
@@ -142,7 +142,7 @@ module _ (s : Bytes) (es : List Entry) (h : Home) (x : Installed) (t : Stored s 
 pub key-small : (f s : Bytes) (end : ℕ) (es : List Entry) (self : Installed) → Setting f s end es self → length s ≤ 65535 →
     (h : Home) (x : Installed) → HomeIs f s end es self h x → (n : ℕ) (k : Class) → at (x .pack .classes) n ≡ some k → key h n < memoLength
 key-small f s end es self g b _ _ homes.own n k e =
-    omega (arith, (class-below standard f (self .pack) (g .reads) n k e) .1, (entries-to s openingLength es end (g .stand)) .1)
+    omega (arith, (class-below (storeLimits s) f (self .pack) (g .reads) n k e) .1, (entries-to s openingLength es end (g .stand)) .1)
 key-small f s end es self g b h x (homes.stored t) n k e = omega (arith, stored-key s es h x t n k e, t .entry .to)
 
 -- two classes have two places, whatever the domain of the package being judged

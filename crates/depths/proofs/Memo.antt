@@ -41,8 +41,8 @@ module _ (f s : Bytes) (end : ℕ) (h : Home) (n : ℕ) where
       let o = key-one f s end es (t .0) self (t .1) a b g h x (t .2) (c .home) (t .4 .home) m n k (t .3) (c .is) (t .4 .is) e in
       go g m (o .0) (o .1) c
     where
-      go : (g : Home) (m : ℕ) → g ≡ h → m ≡ n → ClassIs f s end g m es self x k → d ≡ depthOf es (own x m)
-      go g m u v c = p es self x k (subst (λ (w : ℕ). ClassIs f s end h w es self x k) v (subst (λ (w : Home). ClassIs f s end w m es self x k) u c)) ∙ ap (λ (w : ℕ). depthOf es (own x w)) (sym v)
+      go : (g : Home) (m : ℕ) → g ≡ h → m ≡ n → ClassIs f s end g m es self x k → d ≡ depthOf s es (own x m)
+      go g m u v c = p es self x k (subst (λ (w : ℕ). ClassIs f s end h w es self x k) v (subst (λ (w : Home). ClassIs f s end w m es self x k) u c)) ∙ ap (λ (w : ℕ). depthOf s es (own x w)) (sym v)
 
   module _ (base most : ℕ) (memo : List ℕ) (q : MemoIs f s end base most memo) where
     -- what the memo tells

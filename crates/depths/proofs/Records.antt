@@ -8,7 +8,7 @@ use lib.Dec.{eqb}
 use lib.ListN.{length, drop, getD, length-drop}
 use lib.Seq.{drop-drop}
 use Rattle.rules.specs.Bytes.{Bytes, Aid, Reader, at, u1, many}
-use Rattle.rules.specs.Package.{standard, ClassNumber, Class, classNumber, class}
+use Rattle.rules.specs.Package.{Limits, storeLimits, ClassNumber, Class, classNumber, class}
 use Rattle.rules.specs.Store.{Entry}
 use Rattle.rules.specs.Classes.{Installed}
 use Rattle.rules.proofs.Tests.{none-some}
@@ -50,10 +50,10 @@ reads-part r steady s i a j p =
     more h = omega arith
 
 -- by its bytes
-class-by : (ds : List Aid) (r : Bytes) (k : Class) (j : ℕ) → Reads (class standard ds) r 0 k j → RecordBy r k
-class-by ds r k j p =
-    let t = class-part standard ds r 0 k j p in
-    let c = reads-counted (standard .parents) u1 classNumber steady-u1 r 1 (k .parents) (t .middle) (t .parents) in
+class-by : (l : Limits) (ds : List Aid) (r : Bytes) (k : Class) (j : ℕ) → Reads (class l ds) r 0 k j → RecordBy r k
+class-by l ds r k j p =
+    let t = class-part l ds r 0 k j p in
+    let c = reads-counted (l .parents) u1 classNumber steady-u1 r 1 (k .parents) (t .middle) (t .parents) in
     let u = reads-u1 r 1 (c .number) (c .place) (c .count) in
     let m = many-length classNumber steady-number (c .number) r (c .place) (k .parents) (t .middle) (c .list) in
     record { inside = u .inside; kind = t .interface; count = u .byte ∙ sym m; parent = λ i h. go (c .number) (c .place) (u .next) (c .list) i (omega (arith, u .byte)) }
@@ -77,10 +77,10 @@ pub record-by : (f s : Bytes) (h : Home) (n : ℕ) (r : Bytes) → RecordIs f s 
     (x : Installed) → HomeIs f s end es self h x → (k : Class) → at (x .pack .classes) n ≡ some k → RecordBy r k
 record-by f s h n r q end es self i x t k e = let z = q end es self i x t in go (z .0) (z .1) (z .2)
   where
-    go : (c : Spot) → Placed (class standard (x .pack .domains)) (fileOf f s h) (at (x .pack .classes) n) (spot c) → r ≡ recordFrom (fileOf f s h) c → RecordBy r k
+    go : (c : Spot) → Placed (class (storeLimits s) (x .pack .domains)) (fileOf f s h) (at (x .pack .classes) n) (spot c) → r ≡ recordFrom (fileOf f s h) c → RecordBy r k
     go Nothing p z = absurd (none-some (sym (placed-none p) ∙ e))
     go (At c) p z =
         let y = placed-at p in
         let w : y .0 ≡ k = Option·some-injective _ _ (sym (y .2) ∙ e) in
-        let v = reads-part (class standard (x .pack .domains)) (steady-class standard (x .pack .domains)) (fileOf f s h) c (y .0) (y .1) (y .3) in
-        subst (λ (b : Bytes). RecordBy b k) (sym z) (subst (RecordBy (drop c (fileOf f s h))) w (class-by (x .pack .domains) (drop c (fileOf f s h)) (y .0) (y .1 - c) v))
+        let v = reads-part (class (storeLimits s) (x .pack .domains)) (steady-class (storeLimits s) (x .pack .domains)) (fileOf f s h) c (y .0) (y .1) (y .3) in
+        subst (λ (b : Bytes). RecordBy b k) (sym z) (subst (RecordBy (drop c (fileOf f s h))) w (class-by (storeLimits s) (x .pack .domains) (drop c (fileOf f s h)) (y .0) (y .1 - c) v))

@@ -8,9 +8,10 @@ use mathlib.Core.Option.{some}
 use lib.ListN.{drop}
 use borrow.Author.Tests.{le-leb, lt-leb}
 use Rattle.rules.specs.Bytes.{Bytes, listOf}
-use Rattle.rules.specs.Package.{standard, ClassNumber, Class}
+use Rattle.rules.specs.Package.{storeLimits, ClassNumber, Class}
 use Rattle.rules.specs.Classes.{Installed, installed, ClassAt, classNamed, parentsNamed, parentsOf, greatest, depthUpTo}
 use Rattle.rules.specs.Questions.{own}
+use Rattle.rules.proofs.Limits.{limits-range}
 use Rattle.homes.specs.declared.Home.{Home}
 use Rattle.depths.specs.Depths.{ParentIs, capped, depthOf, DepthIs, DeepestIs}
 use Rattle.depths.specs.declared.Parent.the-variants.{In, End}
@@ -64,28 +65,27 @@ module _ (is : List Installed) where
   depth-more k c = ap suc (greatest-capped k (parentsOf is c) (depth-capped k))
 
 -- the limit is small
-pub depth-small : (most : ℕ) → most ≡ standard .depth → most < 255
-unfolding standard
-depth-small most e = omega (arith, e)
+pub depth-small : (s : Bytes) (most : ℕ) → most ≡ storeLimits s .depth → most < 255
+depth-small s most e = omega (arith, e, (limits-range s) .0)
 
 module _ (f s : Bytes) (end : ℕ) (h : Home) (n : ℕ) where
   -- a class
-  pub depth-is : (most d r : ℕ) → most ≡ standard .depth → DeepestIs f s end h n 0 d → r ≡ suc (capped most d) → DepthIs f s end h n r
+  pub depth-is : (most d r : ℕ) → most ≡ storeLimits s .depth → DeepestIs f s end h n 0 d → r ≡ suc (capped most d) → DepthIs f s end h n r
   depth-is most d r e q z es self x k c =
-      let p : parentsOf (installed standard es) (own x n) ≡ parentsNamed (installed standard es) x (k .parents) = ap (λ (o : _). listOf o (λ (k : Class). parentsNamed (installed standard es) x (k .parents))) (c .is) in
-      z ∙ ap₂ (λ (m v : ℕ). suc (capped m v)) e (q es self x k c ∙ ap (greatest (depthOf es)) (sym p)) ∙ sym (depth-more (installed standard es) (standard .depth) (own x n))
+      let p : parentsOf (installed (storeLimits s) es) (own x n) ≡ parentsNamed (installed (storeLimits s) es) x (k .parents) = ap (λ (o : _). listOf o (λ (k : Class). parentsNamed (installed (storeLimits s) es) x (k .parents))) (c .is) in
+      z ∙ ap₂ (λ (m v : ℕ). suc (capped m v)) e (q es self x k c ∙ ap (greatest (depthOf s es)) (sym p)) ∙ sym (depth-more (installed (storeLimits s) es) (storeLimits s .depth) (own x n))
 
   -- its parents from parent i on
   module _ (i : ℕ) where
     pub deepest-end : ParentIs f s end h n i End → DeepestIs f s end h n i 0
-    deepest-end p es self x k c = sym (ap (λ (l : List ClassNumber). greatest (depthOf es) (parentsNamed (installed standard es) x l)) (drop-none (k .parents) i (p es self x k c)))
+    deepest-end p es self x k c = sym (ap (λ (l : List ClassNumber). greatest (depthOf s es) (parentsNamed (installed (storeLimits s) es) x l)) (drop-none (k .parents) i (p es self x k c)))
 
     pub deepest-in : (g : Home) (m d e r : ℕ) → ParentIs f s end h n i (In g m) → DepthIs f s end g m d → DeepestIs f s end h n (i + 1) e → r ≡ max d e → DeepestIs f s end h n i r
     deepest-in g m d e r p q t z es self x k c =
         let y = p .2 es self x k c in
         z ∙ ap₂ max (q es self (y .home) (y .class) (y .there)) (t es self x k c)
-        ∙ sym (ap (λ (l : List ClassNumber). greatest (depthOf es) (parentsNamed (installed standard es) x l)) (drop-at (k .parents) i (y .number) (y .listed)) ∙ front (y .number) (own (y .home) m) (y .named) (drop (i + 1) (k .parents)))
+        ∙ sym (ap (λ (l : List ClassNumber). greatest (depthOf s es) (parentsNamed (installed (storeLimits s) es) x l)) (drop-at (k .parents) i (y .number) (y .listed)) ∙ front (y .number) (own (y .home) m) (y .named) (drop (i + 1) (k .parents)))
       where
-        front : (w : ClassNumber) (a : ClassAt) → classNamed (installed standard es) x w ≡ some a → (ws : List ClassNumber) →
-            greatest (depthOf es) (parentsNamed (installed standard es) x (w ∷ ws)) ≡ max (depthOf es a) (greatest (depthOf es) (parentsNamed (installed standard es) x ws))
+        front : (w : ClassNumber) (a : ClassAt) → classNamed (installed (storeLimits s) es) x w ≡ some a → (ws : List ClassNumber) →
+            greatest (depthOf s es) (parentsNamed (installed (storeLimits s) es) x (w ∷ ws)) ≡ max (depthOf s es a) (greatest (depthOf s es) (parentsNamed (installed (storeLimits s) es) x ws))
         front w a e ws = rw e

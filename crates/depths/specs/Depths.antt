@@ -7,7 +7,7 @@
 -- ClassThere, OfClass                      == what a function over a class requires, and how it ensures
 -- ParentIs                                 == parent i of a class: the class that it is, or that there is none
 -- capped most d                            == a number, or the limit where it is more
--- depthOf es c                             == the depth of a class, told up to one more than the limit
+-- depthOf s es c                           == the depth of a class, told up to one more than the limit
 -- DepthIs, DeepestIs                       == the depth of a class; the greatest of its parents' from parent i on
 -- MemoIs f s end base most memo            == what the memo tells above base is true, and no number in it passes base + most + 1
 -- ParentedIs                               == question 14 and the depth figure
@@ -19,7 +19,7 @@ use mathlib.Core.Option.{none, some}
 use lib.Dec.{leb}
 use lib.ListN.{length, drop, getD}
 use Rattle.rules.specs.Bytes.{Bytes, pick, all, allFrom, at, count, isSome}
-use Rattle.rules.specs.Package.{Limits, standard, ClassNumber, Class, Package, readFile}
+use Rattle.rules.specs.Package.{Limits, storeLimits, ClassNumber, Class, Package, readFile}
 use Rattle.rules.specs.Store.{Entry}
 use Rattle.rules.specs.Classes.{Installed, installed, ClassAt, classNamed, parentsNamed, greatest, depthUpTo}
 use Rattle.rules.specs.Questions.{own, parentExists, parentIsKind0, parentKinds, depthWithin, q14-parents}
@@ -63,15 +63,15 @@ OfOwnClass f s end n q = (es : List Entry) (self : Installed) → Imports f s en
 
 -- a parent of own class n exists, an own one with a smaller number
 abbrev pub ExistsIs : Bytes → Bytes → ℕ → ℕ → ClassNumber → Bool → Type 0
-ExistsIs f s end n p r = OfImports f s end λ es self. r ≡ parentExists (installed standard es) self n p
+ExistsIs f s end n p r = OfImports f s end λ es self. r ≡ parentExists (installed (storeLimits s) es) self n p
 
 -- all parents of own class n do
 abbrev pub AllExist : Bytes → Bytes → ℕ → ℕ → Bool → Type 0
-AllExist f s end n r = OfOwnClass f s end n λ es self k. r ≡ all (parentExists (installed standard es) self n) (k .parents)
+AllExist f s end n r = OfOwnClass f s end n λ es self k. r ≡ all (parentExists (installed (storeLimits s) es) self n) (k .parents)
 
 -- all parents of all own classes do
 abbrev pub ParentsExist : Bytes → Bytes → ℕ → Bool → Type 0
-ParentsExist f s end r = OfImports f s end λ es self. r ≡ allFrom (λ i k. all (parentExists (installed standard es) self i) (k .parents)) 0 (self .pack .classes)
+ParentsExist f s end r = OfImports f s end λ es self. r ≡ allFrom (λ i k. all (parentExists (installed (storeLimits s) es) self i) (k .parents)) 0 (self .pack .classes)
 
 -- class n of the package at home h, where each parent exists
 pub record ClassIs (f s : Bytes) (end : ℕ) (h : Home) (n : ℕ) (es : List Entry) (self x : Installed) (k : Class) : Type 0 where
@@ -94,7 +94,7 @@ pub record ParentAt (f s : Bytes) (end : ℕ) (h : Home) (n : ℕ) (es : List En
   pub number : ClassNumber
   pub listed : at (k .parents) i ≡ some number
   pub home : Installed
-  pub named : classNamed (installed standard es) x number ≡ some (own home m)
+  pub named : classNamed (installed (storeLimits s) es) x number ≡ some (own home m)
   pub class : Class
   pub there : ClassIs f s end g m es self home class
 
@@ -109,30 +109,30 @@ Kind0Is f s end h n r = OfClass f s end h n λ es self x k. r ≡ pick (k .inter
 
 -- how many kind-0 parents it has, counted by places
 abbrev pub Kind0Count : Bytes → Bytes → ℕ → Home → ℕ → ℕ → Type 0
-Kind0Count f s end h n r = OfClass f s end h n λ es self x k. r ≡ count (parentIsKind0 (installed standard es) x) (k .parents)
+Kind0Count f s end h n r = OfClass f s end h n λ es self x k. r ≡ count (parentIsKind0 (installed (storeLimits s) es) x) (k .parents)
 
 -- its parents are of the kinds that question 14 asks for
 abbrev pub KindsIs : Bytes → Bytes → ℕ → Home → ℕ → Bool → Type 0
-KindsIs f s end h n r = OfClass f s end h n λ es self x k. r ≡ parentKinds (installed standard es) x k
+KindsIs f s end h n r = OfClass f s end h n λ es self x k. r ≡ parentKinds (installed (storeLimits s) es) x k
 
 -- those of all own classes are
 abbrev pub AllKinds : Bytes → Bytes → ℕ → Bool → Type 0
-AllKinds f s end r = OfParents f s end λ es self. r ≡ all (parentKinds (installed standard es) self) (self .pack .classes)
+AllKinds f s end r = OfParents f s end λ es self. r ≡ all (parentKinds (installed (storeLimits s) es) self) (self .pack .classes)
 
 -- a number, or the limit where it is more
 abbrev pub capped : ℕ → ℕ → ℕ
 capped most d = pick (leb d most) d most
 
 -- the depth of a class, told up to one more than the limit
-abbrev pub depthOf : List Entry → ClassAt → ℕ
-depthOf es c = depthUpTo (installed standard es) (suc (standard .depth)) c
+abbrev pub depthOf : Bytes → List Entry → ClassAt → ℕ
+depthOf s es c = depthUpTo (installed (storeLimits s) es) (suc (storeLimits s .depth)) c
 
 abbrev pub DepthIs : Bytes → Bytes → ℕ → Home → ℕ → ℕ → Type 0
-DepthIs f s end h n r = OfClass f s end h n λ es self x k. r ≡ depthOf es (own x n)
+DepthIs f s end h n r = OfClass f s end h n λ es self x k. r ≡ depthOf s es (own x n)
 
 -- the greatest depth of its parents from parent i on
 abbrev pub DeepestIs : Bytes → Bytes → ℕ → Home → ℕ → ℕ → ℕ → Type 0
-DeepestIs f s end h n i r = OfClass f s end h n λ es self x k. r ≡ greatest (depthOf es) (parentsNamed (installed standard es) x (drop i (k .parents)))
+DeepestIs f s end h n i r = OfClass f s end h n λ es self x k. r ≡ greatest (depthOf s es) (parentsNamed (installed (storeLimits s) es) x (drop i (k .parents)))
 
 -- a number in the memo above base is base and the depth of its class
 pub record MemoIs (f s : Bytes) (end base most : ℕ) (memo : List ℕ) : Type 0 where
@@ -142,10 +142,10 @@ pub record MemoIs (f s : Bytes) (end base most : ℕ) (memo : List ℕ) : Type 0
 
 -- 14, and the depth figure
 abbrev pub ParentedIs : Bytes → Bytes → ℕ → Parented → Type 0
-ParentedIs f s end No = OfImports f s end λ es self. q14-parents standard (installed standard es) self ≡ false
-ParentedIs f s end (Yes d) = OfImports f s end λ es self. (q14-parents standard (installed standard es) self ≡ true) × (d ≡ deepestFrom standard (installed standard es) self 0 (self .pack .classes))
+ParentedIs f s end No = OfImports f s end λ es self. q14-parents (storeLimits s) (installed (storeLimits s) es) self ≡ false
+ParentedIs f s end (Yes d) = OfImports f s end λ es self. (q14-parents (storeLimits s) (installed (storeLimits s) es) self ≡ true) × (d ≡ deepestFrom (storeLimits s) (installed (storeLimits s) es) self 0 (self .pack .classes))
 
 -- the third part of 14, and the depth figure
 abbrev pub DepthsAre : Bytes → Bytes → ℕ → Parented → Type 0
-DepthsAre f s end No = OfParents f s end λ es self. allFrom (λ i k. depthWithin standard (installed standard es) self i) 0 (self .pack .classes) ≡ false
-DepthsAre f s end (Yes d) = OfParents f s end λ es self. (allFrom (λ i k. depthWithin standard (installed standard es) self i) 0 (self .pack .classes) ≡ true) × (d ≡ deepestFrom standard (installed standard es) self 0 (self .pack .classes))
+DepthsAre f s end No = OfParents f s end λ es self. allFrom (λ i k. depthWithin (storeLimits s) (installed (storeLimits s) es) self i) 0 (self .pack .classes) ≡ false
+DepthsAre f s end (Yes d) = OfParents f s end λ es self. (allFrom (λ i k. depthWithin (storeLimits s) (installed (storeLimits s) es) self i) 0 (self .pack .classes) ≡ true) × (d ≡ deepestFrom (storeLimits s) (installed (storeLimits s) es) self 0 (self .pack .classes))

@@ -6,7 +6,7 @@ use homes::HomeFound;
 ghost use mathlib.Core.Path.{_≡_};
 ghost use Prim.Native.Nat.{suc, max, _+_, _-_, _≤_, _<_};
 ghost use lib.ListN.{length, getD, set};
-ghost use Rattle.rules.specs.Package.{standard};
+ghost use Rattle.rules.specs.Package.{storeLimits};
 ghost use Rattle.files.specs.Say.{Readable};
 ghost use Rattle.homes.specs.Homes.{HomeThere};
 ghost use Rattle.homes.specs.Memo.{memoLength, key, MemoBelow};
@@ -254,7 +254,7 @@ fn class_depth<'a>(
     base: usize,
 ) -> usize
     requires { ⌜ ClassThere (now f) (now s) end h n ⌝ }
-    requires { ⌜ (length (now s) ≤ 65535) × (most ≡ standard .depth) × (base ≤ 65000) ⌝ }
+    requires { ⌜ (length (now s) ≤ 65535) × (most ≡ storeLimits (now s) .depth) × (base ≤ 65000) ⌝ }
     requires { ⌜ MemoIs (now f) (now s) end base most (now memo) ⌝ }
     ensures { λ r. ⌜ DepthIs (now (f .entry)) (now (s .entry)) end h n r ⌝ }
     ensures { λ _. ⌜ MemoIs (now (f .entry)) (now (s .entry)) end base most (now (memo .exit)) ⌝ }
@@ -281,7 +281,7 @@ fn parents_depth<'a>(
     base: usize,
 ) -> usize
     requires { ⌜ ClassThere (now f) (now s) end h n ⌝ }
-    requires { ⌜ (length (now s) ≤ 65535) × (most ≡ standard .depth) × (base ≤ 65000) ⌝ }
+    requires { ⌜ (length (now s) ≤ 65535) × (most ≡ storeLimits (now s) .depth) × (base ≤ 65000) ⌝ }
     requires { ⌜ MemoIs (now f) (now s) end base most (now memo) ⌝ }
     ensures { λ r. ⌜ DeepestIs (now (f .entry)) (now (s .entry)) end h n i r ⌝ }
     ensures { λ _. ⌜ MemoIs (now (f .entry)) (now (s .entry)) end base most (now (memo .exit)) ⌝ }
@@ -305,7 +305,7 @@ fn depths_ok<'a>(
     base: usize,
 ) -> Parented
     requires { ⌜ ParentsThere (now f) (now s) end ⌝ }
-    requires { ⌜ (length (now s) ≤ 65535) × (most ≡ standard .depth) × (base ≤ 65000) ⌝ }
+    requires { ⌜ (length (now s) ≤ 65535) × (most ≡ storeLimits (now s) .depth) × (base ≤ 65000) ⌝ }
     requires { ⌜ MemoBelow base (now memo) ⌝ }
     ensures { λ r. ⌜ DepthsAre (now (f .entry)) (now (s .entry)) end r ⌝ }
     ensures { λ _. ⌜ MemoBelow (base + most + 1) (now (memo .exit)) ⌝ }
@@ -348,7 +348,7 @@ pub fn parents_ok<'a>(
 ) -> Parented
     requires { ⌜ ImportsThere (now f) (now s) end ⌝ }
     requires { ⌜ length (now s) ≤ 65535 ⌝ }
-    requires { ⌜ most ≡ standard .depth ⌝ }
+    requires { ⌜ most ≡ storeLimits (now s) .depth ⌝ }
     requires { ⌜ MemoBelow base (now memo) × (base ≤ 65000) ⌝ }
     ensures { λ r. ⌜ ParentedIs (now (f .entry)) (now (s .entry)) end r ⌝ }
     ensures { λ _. ⌜ MemoBelow (base + most + 1) (now (memo .exit)) ⌝ }

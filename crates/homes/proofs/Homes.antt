@@ -9,7 +9,7 @@ use lib.Dec.{T, ltb, eqb, eqb→eq, ltb→lt}
 use lib.ListN.{length}
 use borrow.Author.Tests.{ne-eqb}
 use Rattle.rules.specs.Bytes.{Bytes, Aid, at, isSome, someAnd}
-use Rattle.rules.specs.Package.{standard, ClassNumber, Class, readFile}
+use Rattle.rules.specs.Package.{Limits, storeLimits, ClassNumber, Class, readFile}
 use Rattle.rules.specs.Store.{Entry, domain, loaded, openingLength}
 use Rattle.rules.specs.Classes.{Installed, installedBy, installed, byAid, classNamed, recordOf}
 use Rattle.rules.specs.Questions.{q13-imports, parentExists}
@@ -27,13 +27,13 @@ use Rattle.homes.specs.declared.Home.{Home}
 use Rattle.homes.specs.declared.HomeFound.the-variants.{At}
 
 -- the file of each accepted entry reads
-pub all-read : (n : ℕ) (pre es : List Entry) → T (acceptedAll standard n pre es) → AllRead es
-all-read n pre [] h = tt
-all-read n pre (e ∷ es) h = (one e (and-l (accepted standard n pre e) _ h), all-read n (pre ++ e ∷ []) es (and-r (accepted standard n pre e) _ h))
+pub all-read : (l : Limits) (n : ℕ) (pre es : List Entry) → T (acceptedAll l n pre es) → AllRead l es
+all-read l n pre [] h = tt
+all-read l n pre (e ∷ es) h = (one e (and-l (accepted l n pre e) _ h), all-read l n (pre ++ e ∷ []) es (and-r (accepted l n pre e) _ h))
   where
-    one : (e : Entry) → T (accepted standard n pre e) → FileReads e
+    one : (e : Entry) → T (accepted l n pre e) → FileReads l e
     one (domain a) h = tt
-    one (loaded d f) h = let y = load-yes standard n pre d f (eqb→eq _ 0 h) in (y .0, y .1 .q11)
+    one (loaded d f) h = let y = load-yes l n pre d f (eqb→eq _ 0 h) in (y .0, y .1 .q11)
 
 -- a parent that exists and is an own one has a smaller number
 smaller : (is : List Installed) (y : Installed) (n : ℕ) (p : ClassNumber) → T (parentExists is y n p) → p .pack ≡ 0 → p .class < n
@@ -46,24 +46,24 @@ module _ (f s : Bytes) (end : ℕ) (es : List Entry) (self : Installed) where
   pub stored-file : (h : Home) (x : Installed) → Stored s es h x → fileOf f s h ≡ part s (h .from) (h .to)
   stored-file h x t = rw (ne-eqb (h .from) 0 (λ e. omega (arith, t .inside)))
 
-  pub home-reads : Setting f s end es self → (h : Home) (x : Installed) → HomeIs f s end es self h x → readFile standard (fileOf f s h) ≡ some (x .pack)
+  pub home-reads : Setting f s end es self → (h : Home) (x : Installed) → HomeIs f s end es self h x → readFile (storeLimits s) (fileOf f s h) ≡ some (x .pack)
   home-reads g _ _ own = g .reads
-  home-reads g h x (stored t) = ap (readFile standard) (stored-file h x t) ∙ t .reads
+  home-reads g h x (stored t) = ap (readFile (storeLimits s)) (stored-file h x t) ∙ t .reads
 
   pub home-bounds : (h : Home) (x : Installed) → HomeIs f s end es self h x → (h .from ≤ h .to) × (h .to ≤ length s)
   home-bounds _ _ own = (omega arith, omega arith)
   home-bounds h x (stored t) = (t .order, t .entry .to)
 
   -- a stored package was accepted over the entries before it
-  pub stored-yes : (g : Setting f s end es self) (h : Home) (x : Installed) (t : Stored s es h x) → LoadYes standard (g .size) (t .pre) (x .domain) (part s (h .from) (h .to)) (x .pack)
+  pub stored-yes : (g : Setting f s end es self) (h : Home) (x : Installed) (t : Stored s es h x) → LoadYes (storeLimits s) (g .size) (t .pre) (x .domain) (part s (h .from) (h .to)) (x .pack)
   stored-yes g h x t =
       let e : Entry = loaded (x .domain) (part s (h .from) (h .to)) in
-      let a : T (acceptedAll standard (g .size) [] (t .pre ++ e ∷ t .post)) = subst (λ (zs : List Entry). T (acceptedAll standard (g .size) [] zs)) (t .are) (g .sound) in
-      let b = and-r (acceptedAll standard (g .size) [] (t .pre)) _ (subst T (accepted-append standard (g .size) [] (t .pre) (e ∷ t .post)) a) in
-      let c : T (accepted standard (g .size) (t .pre) e) = and-l (accepted standard (g .size) (t .pre) e) _ b in
-      let y = load-yes standard (g .size) (t .pre) (x .domain) (part s (h .from) (h .to)) (eqb→eq _ 0 c) in
+      let a : T (acceptedAll (storeLimits s) (g .size) [] (t .pre ++ e ∷ t .post)) = subst (λ (zs : List Entry). T (acceptedAll (storeLimits s) (g .size) [] zs)) (t .are) (g .sound) in
+      let b = and-r (acceptedAll (storeLimits s) (g .size) [] (t .pre)) _ (subst T (accepted-append (storeLimits s) (g .size) [] (t .pre) (e ∷ t .post)) a) in
+      let c : T (accepted (storeLimits s) (g .size) (t .pre) e) = and-l (accepted (storeLimits s) (g .size) (t .pre) e) _ b in
+      let y = load-yes (storeLimits s) (g .size) (t .pre) (x .domain) (part s (h .from) (h .to)) (eqb→eq _ 0 c) in
       let z : y .0 ≡ x .pack = Option·some-injective _ _ (sym (y .1 .q11) ∙ t .reads) in
-      subst (LoadYes standard (g .size) (t .pre) (x .domain) (part s (h .from) (h .to))) z (y .1)
+      subst (LoadYes (storeLimits s) (g .size) (t .pre) (x .domain) (part s (h .from) (h .to))) z (y .1)
 
   -- the entries before a home
   pub record Before (h : Home) (x : Installed) : Type 0 where
@@ -71,29 +71,29 @@ module _ (f s : Bytes) (end : ℕ) (es : List Entry) (self : Installed) where
     pub post : List Entry
     pub are : es ≡ pre ++ post
     pub stand : Entries s openingLength pre (h .before)
-    pub reads : AllRead pre
-    pub imports : T (q13-imports (installed standard pre) (x .pack))
+    pub reads : AllRead (storeLimits s) pre
+    pub imports : T (q13-imports (installed (storeLimits s) pre) (x .pack))
 
   pub home-before : Imports f s end es self → (h : Home) (x : Installed) → HomeIs f s end es self h x → Before h x
   home-before i _ _ own =
       let g = i .setting in
-      record { pre = es; post = []; are = sym (append-nil es); stand = g .stand; reads = all-read (g .size) [] es (g .sound); imports = i .imports }
+      record { pre = es; post = []; are = sym (append-nil es); stand = g .stand; reads = all-read (storeLimits s) (g .size) [] es (g .sound); imports = i .imports }
   home-before i h x (stored t) =
       let g = i .setting in
       let e : Entry = loaded (x .domain) (part s (h .from) (h .to)) in
-      let a : T (acceptedAll standard (g .size) [] (t .pre ++ e ∷ t .post)) = subst (λ (zs : List Entry). T (acceptedAll standard (g .size) [] zs)) (t .are) (g .sound) in
-      let b = and-l (acceptedAll standard (g .size) [] (t .pre)) _ (subst T (accepted-append standard (g .size) [] (t .pre) (e ∷ t .post)) a) in
-      record { pre = t .pre; post = e ∷ t .post; are = t .are; stand = t .stand; reads = all-read (g .size) [] (t .pre) b; imports = (stored-yes g h x t) .q13 }
+      let a : T (acceptedAll (storeLimits s) (g .size) [] (t .pre ++ e ∷ t .post)) = subst (λ (zs : List Entry). T (acceptedAll (storeLimits s) (g .size) [] zs)) (t .are) (g .sound) in
+      let b = and-l (acceptedAll (storeLimits s) (g .size) [] (t .pre)) _ (subst T (accepted-append (storeLimits s) (g .size) [] (t .pre) (e ∷ t .post)) a) in
+      record { pre = t .pre; post = e ∷ t .post; are = t .are; stand = t .stand; reads = all-read (storeLimits s) (g .size) [] (t .pre) b; imports = (stored-yes g h x t) .q13 }
 
   -- an import of the package at a home, found among the entries before it
   pub import-found : (h : Home) (x : Installed) (b : Before h x) (a : Aid) → List·Memᴰ a (x .pack .imports) → (i j k : ℕ) → PackageAt s (b .pre) a i j k →
-      FoundIs f s end es self h (byAid (installed standard es) a) (At (record { from = j; to = k; before = i }))
+      FoundIs f s end es self h (byAid (installed (storeLimits s) es) a) (At (record { from = j; to = k; before = i }))
   unfolding q13-imports
   import-found h x b a m i j k p =
-      let r = found-at (isPackage standard a) s openingLength (b .pre) (h .before) i k (b .stand) (p .place) in
+      let r = found-at (isPackage (storeLimits s) a) s openingLength (b .pre) (h .before) i k (b .stand) (p .place) in
       let z = entry-one s i (r .one) (loaded (p .home .domain) (part s j k)) k k (r .stands) (p .stands) in
-      let more = byAid-more (installed standard (b .pre)) (installed standard (b .post)) a (all-mem (λ c. isSome (byAid (installed standard (b .pre)) c)) (b .imports) m) in
-      let e : byAid (installed standard es) a ≡ some (p .home) = sym (more ∙ ap (λ (is : List Installed). byAid is a) (sym (flat-append (installedBy standard) (b .pre) (b .post)) ∙ ap (installed standard) (sym (b .are)))) ∙ p .is in
+      let more = byAid-more (installed (storeLimits s) (b .pre)) (installed (storeLimits s) (b .post)) a (all-mem (λ c. isSome (byAid (installed (storeLimits s) (b .pre)) c)) (b .imports) m) in
+      let e : byAid (installed (storeLimits s) es) a ≡ some (p .home) = sym (more ∙ ap (λ (is : List Installed). byAid is a) (sym (flat-append (installedBy (storeLimits s)) (b .pre) (b .post)) ∙ ap (installed (storeLimits s)) (sym (b .are)))) ∙ p .is in
       let are : es ≡ r .before ++ loaded (p .home .domain) (part s j k) ∷ (r .after ++ b .post) =
       b .are ∙ ap (λ (zs : List Entry). zs ++ b .post) (r .are ∙ ap (λ (v : Entry). r .before ++ v ∷ r .after) (z .0)) ∙ append-assoc (r .before) (loaded (p .home .domain) (part s j k) ∷ r .after) (b .post) in
       let t : Stored s es (record { from = j; to = k; before = i }) (p .home) =
@@ -101,9 +101,9 @@ module _ (f s : Bytes) (end : ℕ) (es : List Entry) (self : Installed) where
       (p .home, e, stored t, omega (arith, (entries-to s k (r .after) (h .before) (r .later)) .0, p .inside, p .from))
 
   -- an import is never missing there
-  pub import-there : (h : Home) (x : Installed) (b : Before h x) (a : Aid) → List·Memᴰ a (x .pack .imports) → byAid (installed standard (b .pre)) a ≡ none → ⊥
+  pub import-there : (h : Home) (x : Installed) (b : Before h x) (a : Aid) → List·Memᴰ a (x .pack .imports) → byAid (installed (storeLimits s) (b .pre)) a ≡ none → ⊥
   unfolding q13-imports
-  import-there h x b a m e = none-absurd (byAid (installed standard (b .pre)) a) e (all-mem (λ c. isSome (byAid (installed standard (b .pre)) c)) (b .imports) m)
+  import-there h x b a m e = none-absurd (byAid (installed (storeLimits s) (b .pre)) a) e (all-mem (λ c. isSome (byAid (installed (storeLimits s) (b .pre)) c)) (b .imports) m)
     where
       none-absurd : (o : Option Installed) → o ≡ none → T (isSome o) → ⊥
       none-absurd none e h = h
@@ -113,8 +113,8 @@ module _ (f s : Bytes) (end : ℕ) (es : List Entry) (self : Installed) where
   pub parent-smaller : Parents f s end es self → (h : Home) (x : Installed) → HomeIs f s end es self h x → (n : ℕ) (k : Class) → at (x .pack .classes) n ≡ some k →
       (p : ClassNumber) → List·Memᴰ p (k .parents) → p .pack ≡ 0 → p .class < n
   parent-smaller g _ _ own n k e p m z =
-      smaller (installed standard es) self n p (all-mem _ (allFrom-zero _ (self .pack .classes) n k (g .exist) e) m) z
+      smaller (installed (storeLimits s) es) self n p (all-mem _ (allFrom-zero _ (self .pack .classes) n k (g .exist) e) m) z
   parent-smaller g h x (stored t) n k e p m z =
       let y = stored-yes (g .imported .setting) h x t in
-      let q = (parents-yes standard (installed standard (t .pre)) (record { domain = x .domain; pack = x .pack }) (y .inside .q14)) .exist in
-      smaller (installed standard (t .pre)) x n p (all-mem _ (allFrom-zero _ (x .pack .classes) n k q e) m) z
+      let q = (parents-yes (storeLimits s) (installed (storeLimits s) (t .pre)) (record { domain = x .domain; pack = x .pack }) (y .inside .q14)) .exist in
+      smaller (installed (storeLimits s) (t .pre)) x n p (all-mem _ (allFrom-zero _ (x .pack .classes) n k q e) m) z

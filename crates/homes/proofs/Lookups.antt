@@ -8,7 +8,7 @@ use lib.ListN.{length, take, drop, getD, length-drop}
 use lib.Seq.{take-all}
 use borrow.Author.Tests.{eq-eqb, ne-eqb}
 use Rattle.rules.specs.Bytes.{Bytes, Aid, at, aid}
-use Rattle.rules.specs.Package.{standard, class, readFile}
+use Rattle.rules.specs.Package.{storeLimits, class, readFile}
 use Rattle.rules.specs.Classes.{Installed, installed, byAid, packageNumbered}
 use Rattle.rules.proofs.Lists.{at-mem}
 use Rattle.places.specs.Reads.{Reads, Ends, EndsAt, Placed}
@@ -42,13 +42,13 @@ module _ (f s : Bytes) (h : Home) where
 
   module _ (g : Bytes) (e : g ≡ fileOf f s h) where
     pub there-reads : HomeThere f s h → Readable g
-    there-reads t = (standard, t .4 .pack, ap (readFile standard) e ∙ home-reads f s (t .0) (t .1) (t .2) (t .3 .setting) h (t .4) (t .5))
+    there-reads t = (storeLimits s, t .4 .pack, ap (readFile (storeLimits s)) e ∙ home-reads f s (t .0) (t .1) (t .2) (t .3 .setting) h (t .4) (t .5))
 
     -- a class's record in it
     pub class-placed : (n : ℕ) (r : Spot) → say.ClassPlaced g n r → ClassPlaced f s h n r
     class-placed n r p end es self i x t =
-        subst (λ (b : Bytes). Placed (class standard (x .pack .domains)) b (at (x .pack .classes) n) (spot r)) e
-        (p standard (x .pack) (ap (readFile standard) e ∙ home-reads f s end es self (i .setting) h x t))
+        subst (λ (b : Bytes). Placed (class (storeLimits s) (x .pack .domains)) b (at (x .pack .classes) n) (spot r)) e
+        (p (storeLimits s) (x .pack) (ap (readFile (storeLimits s)) e ∙ home-reads f s end es self (i .setting) h x t))
 
     -- and as a part
     pub record-is : (n : ℕ) (r : Spot) (b : Bytes) → say.ClassPlaced g n r → b ≡ recordFrom g r → RecordIs f s h n b
@@ -80,19 +80,19 @@ module _ (f s : Bytes) (h : Home) where
 
   pub numbered-none : (g : Bytes) (k : ℕ) → g ≡ fileOf f s h → ImportPlaced g k spots.Nothing → NumberedIs f s h (suc k) Nothing
   numbered-none g k e p end es self i x t =
-      let n = placed-none (p standard (x .pack) (ap (readFile standard) e ∙ home-reads f s end es self (i .setting) h x t)) in
+      let n = placed-none (p (storeLimits s) (x .pack) (ap (readFile (storeLimits s)) e ∙ home-reads f s end es self (i .setting) h x t)) in
       rw n
 
   pub numbered-at : (g : Bytes) (k c : ℕ) (a : Aid) → g ≡ fileOf f s h → ImportPlaced g k (spots.At c) → ((b : Aid) (j : ℕ) → Reads aid g c b j → b ≡ a) → (r : HomeFound) → ByAid s (h .before) a r → NumberedIs f s h (suc k) r
   numbered-at g k c a e p q r w end es self i x t =
-      let n = placed-at (p standard (x .pack) (ap (readFile standard) e ∙ home-reads f s end es self (i .setting) h x t)) in
+      let n = placed-at (p (storeLimits s) (x .pack) (ap (readFile (storeLimits s)) e ∙ home-reads f s end es self (i .setting) h x t)) in
       let z : n .0 ≡ a = q (n .0) (n .1) (n .3) in
       let m : List·Memᴰ a (x .pack .imports) = at-mem (x .pack .imports) k a (n .2 ∙ ap some z) in
       let b = home-before f s end es self i h x t in
-      let o : packageNumbered (installed standard es) x (suc k) ≡ byAid (installed standard es) a = rw (n .2 ∙ ap some z) in
+      let o : packageNumbered (installed (storeLimits s) es) x (suc k) ≡ byAid (installed (storeLimits s) es) a = rw (n .2 ∙ ap some z) in
       subst⁻¹ (λ (v : Option Installed). FoundIs f s end es self h v r) o (found r m b (w (b .pre) (b .stand) (b .reads)))
     where
-      found : (r : HomeFound) → List·Memᴰ a (x .pack .imports) → (b : Before f s end es self h x) → HomeSays s (b .pre) a r → FoundIs f s end es self h (byAid (installed standard es) a) r
+      found : (r : HomeFound) → List·Memᴰ a (x .pack .imports) → (b : Before f s end es self h x) → HomeSays s (b .pre) a r → FoundIs f s end es self h (byAid (installed (storeLimits s) es) a) r
       found (At v) m b u = import-found f s end es self h x b a m (v .before) (v .from) (v .to) u
       found Nothing m b u = absurd (import-there f s end es self h x b a m u)
 

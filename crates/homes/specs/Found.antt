@@ -8,7 +8,7 @@ use mathlib.Core.Path.{_≡_}
 use mathlib.Core.List.{List}
 use lib.ListN.{length, getD}
 use Rattle.rules.specs.Bytes.{Bytes}
-use Rattle.rules.specs.Package.{standard}
+use Rattle.rules.specs.Package.{storeLimits}
 use Rattle.rules.specs.Store.{Entry}
 use Rattle.rules.specs.Classes.{Installed, installed, packageNumbered}
 use Rattle.homes.specs.Homes.{Imports, ownHome, FoundIs}
@@ -24,4 +24,4 @@ homeAt t k = record { from = getD t (3 * k) 0; to = getD t (3 * k + 1) 0; before
 pub record ImportHomes (f s : Bytes) (end : ℕ) (t : List ℕ) : Type 0 where
   pub size : length t ≡ tableLength
   pub found : (es : List Entry) (self : Installed) → Imports f s end es self → (k : ℕ) → k < length (self .pack .imports) →
-      FoundIs f s end es self (ownHome end) (packageNumbered (installed standard es) self (suc k)) (At (homeAt t k))
+      FoundIs f s end es self (ownHome end) (packageNumbered (installed (storeLimits s) es) self (suc k)) (At (homeAt t k))

@@ -15,7 +15,7 @@ use mathlib.Core.Option.{Option, none, some}
 use lib.Dec.{T, eqb}
 use lib.ListN.{drop}
 use Rattle.rules.specs.Bytes.{Bytes, Aid, pick, all, allFrom, at, aid}
-use Rattle.rules.specs.Package.{Limits, standard, Package, class, readFile}
+use Rattle.rules.specs.Package.{Limits, storeLimits, Package, class, readFile}
 use Rattle.rules.specs.Store.{Entry, loaded, openingLength}
 use Rattle.rules.specs.Classes.{Installed, installed, byAid, packageNumbered}
 use Rattle.rules.specs.Questions.{q13-imports, parentExists}
@@ -33,18 +33,18 @@ use Rattle.homes.specs.declared.HomeFound.the-variants.{At, Nothing}
 pub record Setting (f s : Bytes) (end : ℕ) (es : List Entry) (self : Installed) : Type 0 where
   pub stand : Entries s openingLength es end
   pub size : ℕ
-  pub sound : T (acceptedAll standard size [] es)
-  pub reads : readFile standard f ≡ some (self .pack)
+  pub sound : T (acceptedAll (storeLimits s) size [] es)
+  pub reads : readFile (storeLimits s) f ≡ some (self .pack)
 
 -- each import is installed
 pub record Imports (f s : Bytes) (end : ℕ) (es : List Entry) (self : Installed) : Type 0 where
   pub setting : Setting f s end es self
-  pub imports : T (q13-imports (installed standard es) (self .pack))
+  pub imports : T (q13-imports (installed (storeLimits s) es) (self .pack))
 
 -- each parent exists, an own one with a smaller number
 pub record Parents (f s : Bytes) (end : ℕ) (es : List Entry) (self : Installed) : Type 0 where
   pub imported : Imports f s end es self
-  pub exist : T (allFrom (λ i k. all (parentExists (installed standard es) self i) (k .parents)) 0 (self .pack .classes))
+  pub exist : T (allFrom (λ i k. all (parentExists (installed (storeLimits s) es) self i) (k .parents)) 0 (self .pack .classes))
 
 -- the bytes of a file from a place on
 abbrev pub recordFrom : Bytes → Spot → Bytes
@@ -66,7 +66,7 @@ pub record Stored (s : Bytes) (es : List Entry) (h : Home) (x : Installed) : Typ
   pub are : es ≡ pre ++ loaded (x .domain) (part s (h .from) (h .to)) ∷ post
   pub stand : Entries s openingLength pre (h .before)
   pub entry : EntryAt s (h .before) (loaded (x .domain) (part s (h .from) (h .to))) (h .to)
-  pub reads : readFile standard (part s (h .from) (h .to)) ≡ some (x .pack)
+  pub reads : readFile (storeLimits s) (part s (h .from) (h .to)) ≡ some (x .pack)
   pub inside : h .before < h .from
   pub order : h .from ≤ h .to
 
@@ -90,15 +90,15 @@ FoundIs f s end es self h o Nothing = o ≡ none
 -- the package of an AID among the entries that end at a place lies at the home told, if one is told
 abbrev pub HomeSays : Bytes → List Entry → Aid → HomeFound → Type 0
 HomeSays s es a (At h) = PackageAt s es a (h .before) (h .from) (h .to)
-HomeSays s es a Nothing = byAid (installed standard es) a ≡ none
+HomeSays s es a Nothing = byAid (installed (storeLimits s) es) a ≡ none
 
 abbrev pub ByAid : Bytes → ℕ → Aid → HomeFound → Type 0
-ByAid s end a r = (es : List Entry) → Entries s openingLength es end → AllRead es → HomeSays s es a r
+ByAid s end a r = (es : List Entry) → Entries s openingLength es end → AllRead (storeLimits s) es → HomeSays s es a r
 
 -- the package that a package number stands for in the file at home h: 0 the same home, else an earlier one
 abbrev pub NumberedIs : Bytes → Bytes → Home → ℕ → HomeFound → Type 0
 NumberedIs f s h zero r = r ≡ At h
-NumberedIs f s h (suc k) r = OfHome f s h λ end es self x. FoundIs f s end es self h (packageNumbered (installed standard es) x (suc k)) r
+NumberedIs f s h (suc k) r = OfHome f s h λ end es self x. FoundIs f s end es self h (packageNumbered (installed (storeLimits s) es) x (suc k)) r
 
 -- the place of import k of a file
 abbrev pub ImportPlaced : Bytes → ℕ → Spot → Type 0
@@ -106,8 +106,8 @@ ImportPlaced g k r = (l : Limits) (p : Package) → readFile l g ≡ some p → 
 
 -- the place of the record of class n in the file at home h
 abbrev pub ClassPlaced : Bytes → Bytes → Home → ℕ → Spot → Type 0
-ClassPlaced f s h n r = OfHome f s h λ end es self x. Placed (class standard (x .pack .domains)) (fileOf f s h) (at (x .pack .classes) n) (spot r)
+ClassPlaced f s h n r = OfHome f s h λ end es self x. Placed (class (storeLimits s) (x .pack .domains)) (fileOf f s h) (at (x .pack .classes) n) (spot r)
 
 -- the record of class n, as a part of the file at home h; no bytes where it has no such class
 abbrev pub RecordIs : Bytes → Bytes → Home → ℕ → Bytes → Type 0
-RecordIs f s h n r = OfHome f s h λ end es self x. (c : Spot) × Placed (class standard (x .pack .domains)) (fileOf f s h) (at (x .pack .classes) n) (spot c) × (r ≡ recordFrom (fileOf f s h) c)
+RecordIs f s h n r = OfHome f s h λ end es self x. (c : Spot) × Placed (class (storeLimits s) (x .pack .domains)) (fileOf f s h) (at (x .pack .classes) n) (spot c) × (r ≡ recordFrom (fileOf f s h) c)

@@ -8,7 +8,7 @@ use mathlib.Core.List.{List, [], _∷_}
 use mathlib.Core.Option.{none, some}
 use lib.ListN.{length, getD}
 use Rattle.rules.specs.Bytes.{Bytes, Aid, all, at, u1, aid}
-use Rattle.rules.specs.Package.{standard, mostImports}
+use Rattle.rules.specs.Package.{storeLimits, mostImports}
 use Rattle.rules.specs.Questions.{q12-new}
 use Rattle.places.specs.Reads.{Ends}
 use Rattle.places.proofs.Steady.{steady-u1, steady-aid}
@@ -62,38 +62,38 @@ at-below (y ∷ ys) (suc i) x e = let h = at-below ys i x e in omega arith
 
 module _ (f s : Bytes) (end : ℕ) where
   pub setting-reads : SettingThere f s end → Readable f
-  setting-reads t = (standard, t .1 .pack, t .2 .reads)
+  setting-reads t = (storeLimits s, t .1 .pack, t .2 .reads)
 
   pub setting-stands : SettingThere f s end → FilesStand s end
-  setting-stands t = (t .0, t .2 .stand, all-read (t .2 .size) [] (t .0) (t .2 .sound))
+  setting-stands t = (t .0, t .2 .stand, all-read (storeLimits s) (t .2 .size) [] (t .0) (t .2 .sound))
 
   -- 12
   module _ (a : Aid) (o : OwnAid f a) (r : FileSpot) (q : FileAt s end a r) where
     pub new-no : (i j k : ℕ) → r ≡ File i j k → NewIs f s end false
     unfolding q12-new
     new-no i j k e es self g =
-        let z = o standard (self .pack) (g .reads) in
-        let p = subst (λ (x : FileSpot). FileSays s es a x) e (q es (g .stand) (all-read (g .size) [] es (g .sound))) in
+        let z = o (storeLimits s) (self .pack) (g .reads) in
+        let p = subst (λ (x : FileSpot). FileSays s es a x) e (q es (g .stand) (all-read (storeLimits s) (g .size) [] es (g .sound))) in
         rw (← z, p .is)
 
     pub new-yes : r ≡ Missing → NewIs f s end true
     unfolding q12-new
     new-yes e es self g =
-        let z = o standard (self .pack) (g .reads) in
-        let p = subst (λ (x : FileSpot). FileSays s es a x) e (q es (g .stand) (all-read (g .size) [] es (g .sound))) in
+        let z = o (storeLimits s) (self .pack) (g .reads) in
+        let p = subst (λ (x : FileSpot). FileSays s es a x) e (q es (g .stand) (all-read (storeLimits s) (g .size) [] es (g .sound))) in
         rw (← z, p .1)
 
   -- 13: the list of imports
   module _ (i : ℕ) (h : ImportsAt f i) (t : SettingThere f s end) where
     pub imports-aids : Aids f i
-    imports-aids = let x = imports-read h standard (t .1 .pack) (t .2 .reads) in (mostImports, (t .1 .pack .imports, x .0, x .1))
+    imports-aids = let x = imports-read h (storeLimits s) (t .1 .pack) (t .2 .reads) in (mostImports, (t .1 .pack .imports, x .0, x .1))
 
     pub imports-inside : i < length f
-    imports-inside = let x = imports-read h standard (t .1 .pack) (t .2 .reads) in counted-inside aid f mostImports i (t .1 .pack .imports) (x .0) (x .1)
+    imports-inside = let x = imports-read h (storeLimits s) (t .1 .pack) (t .2 .reads) in counted-inside aid f mostImports i (t .1 .pack .imports) (x .0) (x .1)
 
     pub imports-few : getD f i 0 ≤ 15
     imports-few =
-        let x = imports-read h standard (t .1 .pack) (t .2 .reads) in
+        let x = imports-read h (storeLimits s) (t .1 .pack) (t .2 .reads) in
         let c = reads-counted mostImports u1 aid steady-u1 f i (t .1 .pack .imports) (x .0) (x .1) in
         let u = reads-u1 f i (c .number) (c .place) (c .count) in
         omega (arith, u .byte, c .small)
@@ -101,7 +101,7 @@ module _ (f s : Bytes) (end : ℕ) where
   -- the import count
   pub imports-count : (i : ℕ) → ImportsAt f i → OfSetting f s end λ es self. getD f i 0 ≡ length (self .pack .imports)
   imports-count i h es self g =
-      let x = imports-read h standard (self .pack) (g .reads) in
+      let x = imports-read h (storeLimits s) (self .pack) (g .reads) in
       let c = reads-counted mostImports u1 aid steady-u1 f i (self .pack .imports) (x .0) (x .1) in
       let u = reads-u1 f i (c .number) (c .place) (c .count) in
       u .byte ∙ sym (many-length aid steady-aid (c .number) f (c .place) (self .pack .imports) (x .0) (c .list))
@@ -110,21 +110,21 @@ module _ (f s : Bytes) (end : ℕ) where
   module _ (i k : ℕ) (h : ImportsAt f i) where
     pub import-ends : (c : ℕ) → AidNth f i k (spots.At c) → SettingThere f s end → Ends aid f c
     import-ends c n t =
-        let x = imports-read h standard (t .1 .pack) (t .2 .reads) in
+        let x = imports-read h (storeLimits s) (t .1 .pack) (t .2 .reads) in
         let y = placed-at (n _ (t .1 .pack .imports) (x .0) (x .1)) in (y .0, y .1, y .3)
 
     pub import-is : (c : ℕ) (b : Aid) → AidNth f i k (spots.At c) → AidBytes f c b → (r : HomeFound) → ByAid s end b r → ImportHomeIs f s end k r
     import-is c b n q r w es self g a e =
-        let x = imports-read h standard (self .pack) (g .reads) in
+        let x = imports-read h (storeLimits s) (self .pack) (g .reads) in
         let y = placed-at (n _ (self .pack .imports) (x .0) (x .1)) in
         let z : b ≡ y .0 = q (y .0) (y .1) (y .3) in
         let v : some (y .0) ≡ some a = sym (y .2) ∙ e in
         let u : y .0 ≡ a = cc in
-        subst (λ (d : Aid). HomeSays s es d r) (z ∙ u) (w es (g .stand) (all-read (g .size) [] es (g .sound)))
+        subst (λ (d : Aid). HomeSays s es d r) (z ∙ u) (w es (g .stand) (all-read (storeLimits s) (g .size) [] es (g .sound)))
 
     pub import-never : AidNth f i k spots.Nothing → ImportHomeIs f s end k Nothing
     import-never n es self g a e =
-        let x = imports-read h standard (self .pack) (g .reads) in
+        let x = imports-read h (storeLimits s) (self .pack) (g .reads) in
         let y = placed-none (n _ (self .pack .imports) (x .0) (x .1)) in
         let z : none ≡ some a = sym y ∙ e in
         let w : _≡_ {A = ℕ} 0 1 = cc in absurd (omega arith)

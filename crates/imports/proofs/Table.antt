@@ -11,7 +11,7 @@ use lib.Dec.{T}
 use lib.ListN.{length, getD, set, length-set}
 use lib.Seq.{getD-set-same, getD-set-other}
 use Rattle.rules.specs.Bytes.{Bytes, Aid, at, isSome}
-use Rattle.rules.specs.Package.{standard}
+use Rattle.rules.specs.Package.{storeLimits}
 use Rattle.rules.specs.Store.{Entry}
 use Rattle.rules.specs.Classes.{Installed, installed, byAid, packageNumbered}
 use Rattle.rules.specs.Questions.{q13-imports}
@@ -101,7 +101,7 @@ module _ (f s : Bytes) (end : ℕ) where
       let n = imports-count f s end i h es self g in
       let x = at-there (self .pack .imports) k (omega (arith, n)) in
       let m = p es self g (x .0) (x .1) in
-      sym (one-not (λ a. isSome (byAid (installed standard es) a)) (self .pack .imports) k (x .0) (x .1) (ap isSome m))
+      sym (one-not (λ a. isSome (byAid (installed (storeLimits s) es) a)) (self .pack .imports) k (x .0) (x .1) (ap isSome m))
 
   -- a question that was answered no is not answered yes
   pub no-homes : (t : List ℕ) → length t ≡ 48 → ImportsIs f s end false → ImportHomes f s end t
@@ -111,20 +111,20 @@ module _ (f s : Bytes) (end : ℕ) where
   module _ (k i : ℕ) (t : List ℕ) (h : ImportsAt f i) (b : getD f i 0 ≤ k) (q : Filled k t) where
     pub all-there : ImportsIs f s end true
     unfolding q13-imports
-    all-there es self g = sym (every (λ a. isSome (byAid (installed standard es) a)) (self .pack .imports) λ j a e.
+    all-there es self g = sym (every (λ a. isSome (byAid (installed (storeLimits s) es) a)) (self .pack .imports) λ j a e.
         ap isSome ((q .homes es self g j (omega (arith, imports-count f s end i h es self g, at-below (self .pack .imports) j a e)) a e) .is))
 
     pub homes-found : ImportHomes f s end t
     homes-found = record { size = q .size; found = found }
       where
         found : (es : List Entry) (self : Installed) → Imports f s end es self → (j : ℕ) → j < length (self .pack .imports) →
-            FoundIs f s end es self (ownHome end) (packageNumbered (installed standard es) self (suc j)) (At (homeAt t j))
+            FoundIs f s end es self (ownHome end) (packageNumbered (installed (storeLimits s) es) self (suc j)) (At (homeAt t j))
         found es self g j c =
             let x = at-there (self .pack .imports) j c in
             let m = at-mem (self .pack .imports) j (x .0) (x .1) in
             let d : Before f s end es self (ownHome end) self =
-            record { pre = es; post = []; are = sym (append-nil es); stand = g .setting .stand; reads = all-read (g .setting .size) [] es (g .setting .sound); imports = g .imports } in
+            record { pre = es; post = []; are = sym (append-nil es); stand = g .setting .stand; reads = all-read (storeLimits s) (g .setting .size) [] es (g .setting .sound); imports = g .imports } in
             let p = q .homes es self (g .setting) j (omega (arith, imports-count f s end i h es self (g .setting))) (x .0) (x .1) in
-            let o : packageNumbered (installed standard es) self (suc j) ≡ byAid (installed standard es) (x .0) = rw (x .1) in
+            let o : packageNumbered (installed (storeLimits s) es) self (suc j) ≡ byAid (installed (storeLimits s) es) (x .0) = rw (x .1) in
             subst⁻¹ (λ (v : Option Installed). FoundIs f s end es self (ownHome end) v (At (homeAt t j))) o
             (import-found f s end es self (ownHome end) self d (x .0) m (getD t (3 * j + 2) 0) (getD t (3 * j) 0) (getD t (3 * j + 1) 0) p)

@@ -10,7 +10,7 @@ use mathlib.Core.Bool.{Bool}
 use mathlib.Core.List.{List}
 use mathlib.Core.Option.{some}
 use Rattle.rules.specs.Bytes.{Bytes, Aid, at}
-use Rattle.rules.specs.Package.{standard}
+use Rattle.rules.specs.Package.{storeLimits}
 use Rattle.rules.specs.Store.{Entry}
 use Rattle.rules.specs.Classes.{Installed, installed}
 use Rattle.rules.specs.Questions.{q12-new, q13-imports}
@@ -27,11 +27,11 @@ OfSetting f s end q = (es : List Entry) (self : Installed) → Setting f s end e
 
 -- 12
 abbrev pub NewIs : Bytes → Bytes → ℕ → Bool → Type 0
-NewIs f s end r = OfSetting f s end λ es self. r ≡ q12-new (installed standard es) (self .pack)
+NewIs f s end r = OfSetting f s end λ es self. r ≡ q12-new (installed (storeLimits s) es) (self .pack)
 
 -- 13
 abbrev pub ImportsIs : Bytes → Bytes → ℕ → Bool → Type 0
-ImportsIs f s end r = OfSetting f s end λ es self. r ≡ q13-imports (installed standard es) (self .pack)
+ImportsIs f s end r = OfSetting f s end λ es self. r ≡ q13-imports (installed (storeLimits s) es) (self .pack)
 
 -- the list of imports stands at a place
 abbrev pub ImportThere : Bytes → Bytes → ℕ → ℕ → Type 0

@@ -7,7 +7,7 @@ use mathlib.Core.List.{List, [], _∷_, _++_}
 use mathlib.Core.Option.{some}
 use lib.ListN.{length, getD, length-append}
 use Rattle.rules.specs.Bytes.{Bytes, Aid, any, same, isSome}
-use Rattle.rules.specs.Package.{standard, Package}
+use Rattle.rules.specs.Package.{Limits, storeLimits, Package}
 use Rattle.rules.specs.Store.{Entry, domain, loaded, openingLength}
 use Rattle.rules.specs.Classes.{installed, byAid}
 use Rattle.rules.specs.Questions.{q7-installed, q12-new}
@@ -48,13 +48,13 @@ enter-domain-is s at from next index i d small b is bound = index-more s at next
     new e c f g p j z t y = let x : _≡_ {A = ℕ} 0 1 = cc in omega arith
 
 -- the tests of an AID in a file and of the package read say the same
-named-any : (a : Aid) (es : List Entry) → AllRead es → any (namedBy a) es ≡ any (isPackage standard a) es
-named-any a es h = sym (place-any (namedBy a) openingLength es) ∙ ap isSome (named-place a openingLength es h) ∙ place-any (isPackage standard a) openingLength es
+named-any : (l : Limits) (a : Aid) (es : List Entry) → AllRead l es → any (namedBy a) es ≡ any (isPackage l a) es
+named-any l a es h = sym (place-any (namedBy a) openingLength es) ∙ ap isSome (named-place l a openingLength es h) ∙ place-any (isPackage l a) openingLength es
 
 -- 12. a package that is not installed
-not-installed : (es : List Entry) (p : Package) → q12-new (installed standard es) p ≡ true → any (isPackage standard (p .aid)) es ≡ false
+not-installed : (l : Limits) (es : List Entry) (p : Package) → q12-new (installed l es) p ≡ true → any (isPackage l (p .aid)) es ≡ false
 unfolding q12-new q7-installed
-not-installed es p h = sym (installed-any standard (p .aid) es) ∙ not-yes (isSome (byAid (installed standard es) (p .aid))) h
+not-installed l es p h = sym (installed-any l (p .aid) es) ∙ not-yes (isSome (byAid (installed l es) (p .aid))) h
   where
     not-yes : (c : Bool) → not c ≡ true → c ≡ false
     not-yes true z = sym z
@@ -73,29 +73,29 @@ enter-package-is s at file next index i fs x small n e b is bound =
     key = ap (part s (file + 8)) e ∙ sym (own .is)
 
     room : at + 8 ≤ next
-    room = omega (arith, entry-next s at (loaded (x .home) (part s file next)) next (x .stands), length-append (x .home) (part s file next), (own-by standard (part s file next) (x .pack) (x .reads)) .inside)
+    room = omega (arith, entry-next s at (loaded (x .home) (part s file next)) next (x .stands), length-append (x .home) (part s file next), (own-by (storeLimits s) (part s file next) (x .pack) (x .reads)) .inside)
 
     new : NotThere s at (loaded (x .home) (part s file next))
     new d c f g p j z t y =
         let w : part s file next ≡ f = cc in
-        let v : x .pack .aid ≡ ownAid g = sym ((own-by standard (part s file next) (x .pack) (x .reads)) .is) ∙ ap ownAid w ∙ y in
+        let v : x .pack .aid ≡ ownAid g = sym ((own-by (storeLimits s) (part s file next) (x .pack) (x .reads)) .is) ∙ ap ownAid w ∙ y in
         let u : same (x .pack .aid) (ownAid g) ≡ true = ap (λ (q : Aid). same q (ownAid g)) v ∙ is-true (same (ownAid g) (ownAid g)) (same-refl (ownAid g)) in
         let m = stood-any (namedBy (x .pack .aid)) (fs .0) (fs .1) t u in
-        let k = sym m ∙ named-any (x .pack .aid) (fs .0) (fs .2) ∙ not-installed (fs .0) (x .pack) (x .new (fs .0) (fs .1) (fs .2)) in
+        let k = sym m ∙ named-any (storeLimits s) (x .pack .aid) (fs .0) (fs .2) ∙ not-installed (storeLimits s) (fs .0) (x .pack) (x .new (fs .0) (fs .1) (fs .2)) in
         let q : _≡_ {A = ℕ} 0 1 = cc in
         omega arith
 
 -- the file of an entry reads where those of all do
 pub stood-reads : (s : Bytes) (end p : ℕ) → FilesStand s end → PlaceOf s end p → ReadsAt s p
 stood-reads s end p fs t e j u =
-    subst FileReads ((entry-one s p (t .0) e (t .1) j ((t .2) .stands) u) .0) (of-all (stood-among (fs .0) (fs .1) (t .2)))
+    subst (FileReads (storeLimits s)) ((entry-one s p (t .0) e (t .1) j ((t .2) .stands) u) .0) (of-all (stood-among (fs .0) (fs .1) (t .2)))
   where
-    middle : (ps : List Entry) (x : Entry) (rs : List Entry) → AllRead (ps ++ x ∷ rs) → FileReads x
+    middle : (ps : List Entry) (x : Entry) (rs : List Entry) → AllRead (storeLimits s) (ps ++ x ∷ rs) → FileReads (storeLimits s) x
     middle [] x rs h = h .0
     middle (q ∷ ps) x rs h = middle ps x rs (h .1)
 
-    of-all : Among (fs .0) (t .0) → FileReads (t .0)
-    of-all m = middle (m .before) (t .0) (m .after) (subst AllRead (m .are) (fs .2))
+    of-all : Among (fs .0) (t .0) → FileReads (storeLimits s) (t .0)
+    of-all m = middle (m .before) (t .0) (m .after) (subst (AllRead (storeLimits s)) (m .are) (fs .2))
 
 -- an entry that the test of a package's AID finds
 named-is : (a : Aid) (e : Entry) → namedBy a e ≡ true → (d : Aid) × (f : Bytes) × (e ≡ loaded d f) × (a ≡ ownAid f)

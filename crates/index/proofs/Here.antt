@@ -7,7 +7,7 @@ use mathlib.Core.Option.{some}
 use lib.ListN.{length, getD, take, drop}
 use lib.Seq.{getD-take, getD-drop}
 use Rattle.rules.specs.Bytes.{Bytes, Aid, same}
-use Rattle.rules.specs.Package.{standard, Package, readFile}
+use Rattle.rules.specs.Package.{storeLimits, Package, readFile}
 use Rattle.rules.specs.Store.{domain, loaded}
 use Rattle.rules.specs.Operations.{isDomain}
 use Rattle.store.specs.Entries.{part, EntryAt, StandFrom, ownAid}
@@ -42,7 +42,7 @@ pub record OwnHere (s : Bytes) (m j : ℕ) : Type 0 where
   pub to : m + 8 + getD s (m + 7) 0 ≤ j
   pub is : ownAid (part s m j) ≡ part s (m + 8) (m + 8 + getD s (m + 7) 0)
 
-pub own-here : (s : Bytes) (m j : ℕ) (x : Package) → m ≤ j → j ≤ length s → readFile standard (part s m j) ≡ some x → OwnHere s m j
+pub own-here : (s : Bytes) (m j : ℕ) (x : Package) → m ≤ j → j ≤ length s → readFile (storeLimits s) (part s m j) ≡ some x → OwnHere s m j
 own-here s m j x h l r = record {
   inside = omega (arith, o .inside, part-length s m j l);
   to = omega (arith, o .to, byte, part-length s m j l);
@@ -50,7 +50,7 @@ own-here s m j x h l r = record {
 }
   where
     o : OwnBy (part s m j) x
-    o = own-by standard (part s m j) x r
+    o = own-by (storeLimits s) (part s m j) x r
 
     byte : getD (part s m j) 7 0 ≡ getD s (m + 7) 0
     byte = getD-take (j - m) (drop m s) 7 0 (omega (arith, o .inside, part-length s m j l)) ∙ getD-drop m s 7 0

@@ -25,7 +25,7 @@ use mathlib.Core.Logic.{_⊎_}
 use mathlib.Core.Option.{some}
 use lib.ListN.{length, getD, set}
 use Rattle.rules.specs.Bytes.{Bytes, Aid, same}
-use Rattle.rules.specs.Package.{standard, Package, readFile}
+use Rattle.rules.specs.Package.{storeLimits, Package, readFile}
 use Rattle.rules.specs.Store.{Entry, domain, loaded, openingLength}
 use Rattle.rules.specs.Classes.{installed}
 use Rattle.rules.specs.Questions.{q5-created, q12-new}
@@ -108,8 +108,8 @@ pub record PackageStands (s : Bytes) (p i j : ℕ) : Type 0 where
   pub pack : Package
   pub stands : EntryAt s p (loaded home (part s i j)) j
   pub from : i ≤ j
-  pub reads : readFile standard (part s i j) ≡ some pack
-  pub new : (es : List Entry) → Entries s openingLength es p → AllRead es → q12-new (installed standard es) pack ≡ true
+  pub reads : readFile (storeLimits s) (part s i j) ≡ some pack
+  pub new : (es : List Entry) → Entries s openingLength es p → AllRead (storeLimits s) es → q12-new (installed (storeLimits s) es) pack ≡ true
 
 -- 5, of whatever entries end at place k
 abbrev pub CreatedAt : Bytes → ℕ → Aid → Bool → Type 0
@@ -121,7 +121,7 @@ DomainHere s p a r = (e : Entry) (j : ℕ) → EntryAt s p e j → r ≡ isDomai
 
 -- the file of the entry at a place reads
 abbrev pub ReadsAt : Bytes → ℕ → Type 0
-ReadsAt s p = (e : Entry) (j : ℕ) → EntryAt s p e j → FileReads e
+ReadsAt s p = (e : Entry) (j : ℕ) → EntryAt s p e j → FileReads (storeLimits s) e
 
 -- the package at place p has this AID: its entry starts at place i, its file stands from place m up to place j
 pub record FileFound (s : Bytes) (p : ℕ) (a : Aid) (i m j : ℕ) : Type 0 where

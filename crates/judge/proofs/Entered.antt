@@ -8,12 +8,13 @@ use lib.Dec.{T, leb, leb→le}
 use lib.ListN.{length, getD, replicate, length-append, length-replicate}
 use borrow.Author.Tests.{eq-eqb, ne-eqb}
 use Rattle.rules.specs.Bytes.{Bytes, Aid}
-use Rattle.rules.specs.Package.{Limits, standard}
+use Rattle.rules.specs.Package.{Limits, storeLimits}
 use Rattle.rules.specs.Store.{Entry, domain, loaded}
 use Rattle.rules.specs.Classes.{installed}
 use Rattle.rules.specs.Questions.{q3-lengths, q12-new}
 use Rattle.rules.proofs.Tests.{and-l, is-true, of-true}
 use Rattle.rules.proofs.Asked.{create-yes, load-yes}
+use Rattle.rules.proofs.Limits.{limits-range}
 use Rattle.store.specs.Entries.{part, EntryAt, Entries, FilesStand}
 use Rattle.store.proofs.Stand.{entry-next, entries-one}
 use Rattle.index.specs.Index.{DomainStands, IndexIs, PackageStands, CreatedAt}
@@ -63,18 +64,18 @@ module _ (s : Bytes) (at i m j : ℕ) where
 
   pub package-stands : OverSome s at → (r : LoadAnswer) (x : ℕ) → LoadSays s at (part s i m) (part s m j) r → r ≡ Accepted x → EntryAt s at (loaded (part s i m) (part s m j)) j → m ≤ j → PackageStands s at m j
   package-stands o r x c z t b =
-      let y = load-yes standard (length s) (o .0) (part s i m) (part s m j) (sym ((c (o .0) (o .1)) .number) ∙ ap numberOf z) in
+      let y = load-yes (storeLimits s) (length s) (o .0) (part s i m) (part s m j) (sym ((c (o .0) (o .1)) .number) ∙ ap numberOf z) in
       record {
         home = part s i m;
         pack = y .0;
         stands = t;
         from = b;
         reads = y .1 .q11;
-        new = λ es u v. subst (λ (zs : List Entry). q12-new (installed standard zs) (y .0) ≡ true) (entries-one s 7 (o .0) es at (o .1 .stand) u) (is-true _ (y .1 .q12));
+        new = λ es u v. subst (λ (zs : List Entry). q12-new (installed (storeLimits s) zs) (y .0) ≡ true) (entries-one s 7 (o .0) es at (o .1 .stand) u) (is-true _ (y .1 .q12));
       }
 
   pub files-stand : OverSome s at → FilesStand s at
-  files-stand o = (o .0, o .1 .stand, all-read (length s) [] (o .0) (o .1 .sound))
+  files-stand o = (o .0, o .1 .stand, all-read (storeLimits s) (length s) [] (o .0) (o .1 .sound))
 
   -- where the entry behind it starts
   pub package-next : EntryAt s at (loaded (part s i m) (part s m j)) j → j ≡ at + 4 + length (part s i m) + length (part s m j)
@@ -104,29 +105,27 @@ memo-stays f base memo b l p e = memo-more base _ memo (omega arith) b
 pub memo-refused : (end : ℕ) (d f : Bytes) (n : ℕ) (memo : List ℕ) → MemoNext end d f (Refused n) memo
 memo-refused end d f n memo depth e = let z : _≡_ {A = ℕ} 0 1 = cc in absurd (omega arith)
 
--- document 01's limits
-pub limits-depth : (l : Limits) → l ≡ standard → l .depth ≡ standard .depth
-limits-depth l e = ap (λ (x : Limits). x .depth) e
+-- the limits of a store
+pub limits-depth : (s : Bytes) (l : Limits) → l ≡ storeLimits s → l .depth ≡ storeLimits s .depth
+limits-depth s l e = ap (λ (x : Limits). x .depth) e
 
-pub depth-limit : (l : Limits) → l ≡ standard → l .depth ≡ 8
-unfolding standard
-depth-limit l e = ap (λ (x : Limits). x .depth) e
+pub depth-limit : (s : Bytes) (l : Limits) → l ≡ storeLimits s → l .depth ≤ 16
+depth-limit s l e = omega (arith, limits-depth s l e, (limits-range s) .0)
 
-pub code-limit : (l : Limits) (n : ℕ) → l ≡ standard → l .code ≤ n → 4096 ≤ n
-unfolding standard
-code-limit l n e h = let z : l .code ≡ 4096 = ap (λ (x : Limits). x .code) e in omega arith
+pub code-limit : (s : Bytes) (l : Limits) (n : ℕ) → l ≡ storeLimits s → l .code ≤ n → storeLimits s .code ≤ n
+code-limit s l n e h = subst (λ (x : Limits). x .code ≤ n) e h
 
 -- the memo of a file that was judged to its end
 pub memo-next : (s : Bytes) (end : ℕ) (d f : Bytes) (r : LoadAnswer) (most : ℕ) (memo : List ℕ) → most ≤ 16 → PackageSome s end f → MemoAfter f (generation end + most + 1) memo → MemoNext end d f r memo
 memo-next s end d f r most memo h t a depth e b =
     let p = t .1 in
-    let g = generation-next end (length d) (length f) (length (p .classes)) _ b (file-classes standard f p (t .3)) refl in
-    memo-more _ _ memo (omega arith) (a standard p (t .3))
+    let g = generation-next end (length d) (length f) (length (p .classes)) _ b (file-classes (storeLimits s) f p (t .3)) refl in
+    memo-more _ _ memo (omega arith) (a (storeLimits s) p (t .3))
 
 -- an accepted load's domain has five bytes or more
 pub domain-five : (s : Bytes) (end : ℕ) (d f : Bytes) → OverSome s end → (r : LoadAnswer) (x : ℕ) → LoadSays s end d f r → r ≡ Accepted x → 5 ≤ length d
 domain-five s end d f o r x c z =
-    let y = load-yes standard (length s) (o .0) d f (sym ((c (o .0) (o .1)) .number) ∙ ap numberOf z) in
+    let y = load-yes (storeLimits s) (length s) (o .0) d f (sym ((c (o .0) (o .1)) .number) ∙ ap numberOf z) in
     aid-five d (y .1 .q3)
 
 -- the memo behind an accepted load, as the entry after it asks

@@ -8,7 +8,7 @@ use mathlib.Core.Option.{Option, none, some}
 use lib.Dec.{T, ltb, ltb→lt}
 use lib.ListN.{length}
 use Rattle.rules.specs.Bytes.{Bytes, Aid, aidLength}
-use Rattle.rules.specs.Package.{Limits, standard, Package, readFile}
+use Rattle.rules.specs.Package.{Limits, storeLimits, Package, readFile}
 use Rattle.rules.specs.Store.{Entry}
 use Rattle.rules.specs.Questions.{q3-lengths, q10-marked, q11-reads}
 use Rattle.rules.specs.Operations.{Question, firstNo, packageQuestions, loadQuestions}
@@ -57,7 +57,7 @@ pair-small n m true false c h e = omega (arith, e)
 pair-small n m true true c h e = omega (arith, e)
 
 -- the setting of a file that reads
-pub over-setting : (s : Bytes) (end : ℕ) (es : List Entry) (d : Aid) (f : Bytes) (p : Package) → Over s end es → readFile standard f ≡ some p → Setting f s end es (record { domain = d; pack = p })
+pub over-setting : (s : Bytes) (end : ℕ) (es : List Entry) (d : Aid) (f : Bytes) (p : Package) → Over s end es → readFile (storeLimits s) f ≡ some p → Setting f s end es (record { domain = d; pack = p })
 over-setting s end es d f p o e = record { stand = o .stand; size = length s; sound = o .sound; reads = e }
 
 module _ (s : Bytes) (end : ℕ) (d : Aid) (f : Bytes) where
@@ -76,17 +76,17 @@ module _ (s : Bytes) (end : ℕ) (d : Aid) (f : Bytes) where
       load-10 h es o =
           answer-yes 3 (q3-lengths (d ∷ [])) _ _ _ (one-length d ∙ three) (answer-yes 5 _ _ _ _ (sym (five es o)) (answer-no 10 (q10-marked f) _ _ tt h))
 
-      pub load-11 : q10-marked f ≡ true → readFile standard f ≡ none → LoadSays s end d f (Refused 11)
+      pub load-11 : q10-marked f ≡ true → readFile (storeLimits s) f ≡ none → LoadSays s end d f (Refused 11)
       unfolding loadQuestions packageQuestions q11-reads
       load-11 h e es o =
           answer-yes 3 (q3-lengths (d ∷ [])) _ _ _ (one-length d ∙ three) (answer-yes 5 _ _ _ _ (sym (five es o)) (answer-yes 10 (q10-marked f) _ _ _ h
           (rw e (answer-no 11 false [] 0 tt refl))))
 
-      pub load-reads : q10-marked f ≡ true → (p : Package) → readFile standard f ≡ some p → (r : LoadAnswer) → PackageSays s end d f r → LoadSays s end d f r
+      pub load-reads : q10-marked f ≡ true → (p : Package) → readFile (storeLimits s) f ≡ some p → (r : LoadAnswer) → PackageSays s end d f r → LoadSays s end d f r
       unfolding loadQuestions packageQuestions q11-reads
       load-reads h p e r a es o =
           answer-yes 3 (q3-lengths (d ∷ [])) _ _ _ (one-length d ∙ three) (answer-yes 5 _ _ _ _ (sym (five es o)) (answer-yes 10 (q10-marked f) _ _ _ h
-          (rw e (answer-yes 11 true (from12 (length s) es d f p) _ r refl (a es p o e)))))
+          (rw e (answer-yes 11 true (from12 (storeLimits s) (length s) es d f p) _ r refl (a es p o e)))))
 
 -- what the answer of the reader says of questions 10 and 11
 pub read-10 : (b c : Bool) → 10 ≡ firstNo ((10, b) ∷ (11, c) ∷ []) → b ≡ false
@@ -115,17 +115,17 @@ unfolding q11-reads
 reads-some none e = let z : _≡_ {A = ℕ} 0 1 = cc in absurd (omega arith)
 reads-some (some p) e = (p, refl)
 
--- the answers of the reader over document 01's limits
-module _ (l : Limits) (e : l ≡ standard) (f : Bytes) where
+-- the answers of the reader over the limits of a store
+module _ (s : Bytes) (l : Limits) (e : l ≡ storeLimits s) (f : Bytes) where
   pub said-10 : (r : Read) → r ≡ reads.Unmarked → PackageRead l f r → q10-marked f ≡ false
   said-10 r q p = read-10 (q10-marked f) (q11-reads (readFile l f)) (subst (λ (x : Read). said.numberOf x ≡ firstNo ((10, q10-marked f) ∷ (11, q11-reads (readFile l f)) ∷ [])) q (p .number))
 
-  pub said-11 : (r : Read) → r ≡ reads.Unreadable → PackageRead l f r → (q10-marked f ≡ true) × (readFile standard f ≡ none)
+  pub said-11 : (r : Read) → r ≡ reads.Unreadable → PackageRead l f r → (q10-marked f ≡ true) × (readFile (storeLimits s) f ≡ none)
   said-11 r q p =
       let x = read-11 (q10-marked f) (q11-reads (readFile l f)) (subst (λ (x : Read). said.numberOf x ≡ firstNo ((10, q10-marked f) ∷ (11, q11-reads (readFile l f)) ∷ [])) q (p .number)) in
-      (x .0, reads-none (readFile standard f) (ap (λ (m : Limits). q11-reads (readFile m f)) (sym e) ∙ x .1))
+      (x .0, reads-none (readFile (storeLimits s) f) (ap (λ (m : Limits). q11-reads (readFile m f)) (sym e) ∙ x .1))
 
-  pub said-0 : (r : Read) (t : Places) → r ≡ reads.Package t → PackageRead l f r → (q10-marked f ≡ true) × ((p : Package) × (readFile standard f ≡ some p))
+  pub said-0 : (r : Read) (t : Places) → r ≡ reads.Package t → PackageRead l f r → (q10-marked f ≡ true) × ((p : Package) × (readFile (storeLimits s) f ≡ some p))
   said-0 r t q p =
       let x = read-0 (q10-marked f) (q11-reads (readFile l f)) (subst (λ (x : Read). said.numberOf x ≡ firstNo ((10, q10-marked f) ∷ (11, q11-reads (readFile l f)) ∷ [])) q (p .number)) in
-      (x .0, reads-some (readFile standard f) (ap (λ (m : Limits). q11-reads (readFile m f)) (sym e) ∙ x .1))
+      (x .0, reads-some (readFile (storeLimits s) f) (ap (λ (m : Limits). q11-reads (readFile m f)) (sym e) ∙ x .1))

@@ -8,12 +8,13 @@ use mathlib.Core.Option.{Option, none, some, Option·some-injective}
 use lib.Dec.{T, eqb}
 use lib.ListN.{length}
 use Rattle.rules.specs.Bytes.{Bytes, Aid, _andThen_}
-use Rattle.rules.specs.Package.{standard}
+use Rattle.rules.specs.Package.{Limits, storeLimits}
 use Rattle.rules.specs.Store.{Entry, domain, loaded, used, entriesOf}
 use Rattle.rules.specs.Questions.{q1-size}
 use Rattle.rules.specs.Operations.{accepted, acceptedAll, soundEntries, sound}
 use Rattle.rules.proofs.Tests.{and-i, is-true, of-true}
 use Rattle.rules.proofs.Step.{accepted-append}
+use Rattle.rules.proofs.Limits.{store-limits}
 use Rattle.store.specs.Entries.{part, EntryAt, Entries, StandFrom, FirstIs, Holds}
 use Rattle.store.specs.Answers.{usedTold, PartAt}
 use Rattle.store.specs.declared.EntryPart.the-variants as parts
@@ -43,39 +44,39 @@ going-start s end es r =
 
 module _ (s : Bytes) (end at : ℕ) (es : List Entry) (g : Reached s end at es) where
   -- what the whole list's soundness is, where a turn begins
-  whole : soundEntries standard (length s) es ≡ acceptedAll standard (length s) (g .pre) (g .rest)
+  whole : soundEntries (storeLimits s) (length s) es ≡ acceptedAll (storeLimits s) (length s) (g .pre) (g .rest)
   unfolding soundEntries
   whole =
-      ap (acceptedAll standard (length s) []) (g .are) ∙ accepted-append standard (length s) [] (g .pre) (g .rest)
-      ∙ ap (λ (b : Bool). b && acceptedAll standard (length s) (g .pre) (g .rest)) (is-true (acceptedAll standard (length s) [] (g .pre)) (g .over .sound))
+      ap (acceptedAll (storeLimits s) (length s) []) (g .are) ∙ accepted-append (storeLimits s) (length s) [] (g .pre) (g .rest)
+      ∙ ap (λ (b : Bool). b && acceptedAll (storeLimits s) (length s) (g .pre) (g .rest)) (is-true (acceptedAll (storeLimits s) (length s) [] (g .pre)) (g .over .sound))
 
   -- an entry that is accepted
-  pub going-on : (e : Entry) (next : ℕ) → FirstIs s at e next end (g .rest) → accepted standard (length s) (g .pre) e ≡ true → Reached s end next es
+  pub going-on : (e : Entry) (next : ℕ) → FirstIs s at e next end (g .rest) → accepted (storeLimits s) (length s) (g .pre) e ≡ true → Reached s end next es
   going-on e next f a = record {
     pre = g .pre ++ e ∷ [];
     rest = f .rest;
     are = g .are ∙ ap (λ (zs : List Entry). g .pre ++ zs) (f .are) ∙ sym (append-assoc (g .pre) (e ∷ []) (f .rest));
     over = record {
       stand = entries-more s 7 (g .pre) at e next (g .over .stand) (f .stands);
-      sound = subst⁻¹ T (accepted-append standard (length s) [] (g .pre) (e ∷ []))
-          (and-i (acceptedAll standard (length s) [] (g .pre)) _ (g .over .sound) (and-i (accepted standard (length s) (g .pre) e) true (of-true a) tt));
+      sound = subst⁻¹ T (accepted-append (storeLimits s) (length s) [] (g .pre) (e ∷ []))
+          (and-i (acceptedAll (storeLimits s) (length s) [] (g .pre)) _ (g .over .sound) (and-i (accepted (storeLimits s) (length s) (g .pre) e) true (of-true a) tt));
     };
     behind = f .after;
   }
 
   -- one that is not
-  pub going-bad : (e : Entry) (next : ℕ) → FirstIs s at e next end (g .rest) → accepted standard (length s) (g .pre) e ≡ false → soundEntries standard (length s) es ≡ false
-  going-bad e next f a = whole ∙ ap (acceptedAll standard (length s) (g .pre)) (f .are) ∙ ap (λ (b : Bool). b && acceptedAll standard (length s) (g .pre ++ e ∷ []) (f .rest)) a
+  pub going-bad : (e : Entry) (next : ℕ) → FirstIs s at e next end (g .rest) → accepted (storeLimits s) (length s) (g .pre) e ≡ false → soundEntries (storeLimits s) (length s) es ≡ false
+  going-bad e next f a = whole ∙ ap (acceptedAll (storeLimits s) (length s) (g .pre)) (f .are) ∙ ap (λ (b : Bool). b && acceptedAll (storeLimits s) (length s) (g .pre ++ e ∷ []) (f .rest)) a
 
   -- the end
-  pub going-done : g .rest ≡ [] → soundEntries standard (length s) es ≡ true
-  going-done e = whole ∙ ap (acceptedAll standard (length s) (g .pre)) e
+  pub going-done : g .rest ≡ [] → soundEntries (storeLimits s) (length s) es ≡ true
+  going-done e = whole ∙ ap (acceptedAll (storeLimits s) (length s) (g .pre)) e
 
 -- a creation and a load as entries
-pub create-accepted : (s : Bytes) (at : ℕ) (a : Aid) (k : ℕ) (pre : List Entry) → Over s at pre → CreateSays s at a k → accepted standard (length s) pre (domain a) ≡ eqb k 0
+pub create-accepted : (s : Bytes) (at : ℕ) (a : Aid) (k : ℕ) (pre : List Entry) → Over s at pre → CreateSays s at a k → accepted (storeLimits s) (length s) pre (domain a) ≡ eqb k 0
 create-accepted s at a k pre o c = ap (λ (n : ℕ). eqb n 0) (sym (c pre o))
 
-pub load-accepted : (s : Bytes) (at : ℕ) (d f : Bytes) (r : LoadAnswer) (pre : List Entry) → Over s at pre → LoadSays s at d f r → accepted standard (length s) pre (loaded d f) ≡ eqb (numberOf r) 0
+pub load-accepted : (s : Bytes) (at : ℕ) (d f : Bytes) (r : LoadAnswer) (pre : List Entry) → Over s at pre → LoadSays s at d f r → accepted (storeLimits s) (length s) pre (loaded d f) ≡ eqb (numberOf r) 0
 load-accepted s at d f r pre o c = ap (λ (n : ℕ). eqb n 0) (sym ((c pre o) .number))
 
 -- a turn at a domain and at a package
@@ -139,14 +140,14 @@ pub sound-broken : (s : Bytes) → q1-size s ≡ true → entriesOf s ≡ none �
 unfolding sound
 sound-broken s h e = rw (h, e)
 
-pub sound-no : (s : Bytes) (es : List Entry) → q1-size s ≡ true → entriesOf s ≡ some es → soundEntries standard (length s) es ≡ false → SoundSays s Unsound
+pub sound-no : (s : Bytes) (es : List Entry) → q1-size s ≡ true → entriesOf s ≡ some es → soundEntries (storeLimits s) (length s) es ≡ false → SoundSays s Unsound
 unfolding sound
-sound-no s es h e n = rw (h, e, n)
+sound-no s es h e n = rw (h, e) (ap (λ (l : Limits). soundEntries l (length s) es) (sym (store-limits s)) ∙ n)
 
-pub sound-yes : (s : Bytes) (es : List Entry) → q1-size s ≡ true → entriesOf s ≡ some es → Holds s es → soundEntries standard (length s) es ≡ true → SoundSays s (Used (used es))
+pub sound-yes : (s : Bytes) (es : List Entry) → q1-size s ≡ true → entriesOf s ≡ some es → Holds s es → soundEntries (storeLimits s) (length s) es ≡ true → SoundSays s (Used (used es))
 unfolding sound soundEntries
 sound-yes s es h e t n = (
-  rw (h, e, n),
+  rw (h, e) (ap (λ (l : Limits). soundEntries l (length s) es) (sym (store-limits s)) ∙ n),
   λ fs q.
       let z : es ≡ fs = Option·some-injective _ _ (sym e ∙ q) in
       subst (λ (gs : List Entry). Holds s gs × Over s (used es) gs × (used gs ≡ used es)) z (t, record { stand = t .stand; sound = of-true n }, refl),

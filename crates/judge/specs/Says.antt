@@ -13,7 +13,7 @@ use mathlib.Core.Option.{some}
 use lib.Dec.{T}
 use lib.ListN.{length}
 use Rattle.rules.specs.Bytes.{Bytes, Aid}
-use Rattle.rules.specs.Package.{standard, Package, readFile}
+use Rattle.rules.specs.Package.{Limits, storeLimits, Package, readFile}
 use Rattle.rules.specs.Store.{Entry, loaded, openingLength, used, entriesOf}
 use Rattle.rules.specs.Classes.{Installed, installed}
 use Rattle.rules.specs.Operations.{Question, firstNo, createQuestions, loadQuestions, accepted, acceptedAll, soundEntries, sound, deepest, deepestOf}
@@ -38,7 +38,7 @@ figureOf (Accepted d) = d
 -- sound entries that end at a place
 pub record Over (s : Bytes) (end : ℕ) (es : List Entry) : Type 0 where
   pub stand : Entries s openingLength es end
-  pub sound : T (acceptedAll standard (length s) [] es)
+  pub sound : T (acceptedAll (storeLimits s) (length s) [] es)
 
 abbrev pub OverSome : Bytes → ℕ → Type 0
 OverSome s end = (es : List Entry) × Over s end es
@@ -58,43 +58,43 @@ pub record AnswerIs (qs : List Question) (depth : ℕ) (r : LoadAnswer) : Type 0
   pub real : (n : ℕ) → r ≡ Refused n → 0 < n
 
 -- a load's questions from 18 on, from 15 on and from 12 on, of a file that reads as p
-abbrev pub from18 : ℕ → List Entry → Aid → Bytes → Package → List Question
-from18 n es d f p =
-    let is : List Installed = installed standard es in
+abbrev pub from18 : Limits → ℕ → List Entry → Aid → Bytes → Package → List Question
+from18 l n es d f p =
+    let is : List Installed = installed l es in
     let self : Installed = record { domain = d; pack = p } in
-    (18, q18-calls is self) ∷ (19, q19-allowed is self) ∷ (20, q20-running standard is self) ∷ (21, q21-fits n es (loaded d f)) ∷ []
+    (18, q18-calls is self) ∷ (19, q19-allowed is self) ∷ (20, q20-running l is self) ∷ (21, q21-fits n es (loaded d f)) ∷ []
 
-abbrev pub from15 : ℕ → List Entry → Aid → Bytes → Package → List Question
-from15 n es d f p = (15, q15-names p) ∷ (16, q16-splits p) ∷ (17, q17-targets p) ∷ from18 n es d f p
+abbrev pub from15 : Limits → ℕ → List Entry → Aid → Bytes → Package → List Question
+from15 l n es d f p = (15, q15-names p) ∷ (16, q16-splits p) ∷ (17, q17-targets p) ∷ from18 l n es d f p
 
-abbrev pub from12 : ℕ → List Entry → Aid → Bytes → Package → List Question
-from12 n es d f p =
-    let is : List Installed = installed standard es in
+abbrev pub from12 : Limits → ℕ → List Entry → Aid → Bytes → Package → List Question
+from12 l n es d f p =
+    let is : List Installed = installed l es in
     let self : Installed = record { domain = d; pack = p } in
-    (12, q12-new is p) ∷ (13, q13-imports is p) ∷ (14, q14-parents standard is self) ∷ from15 n es d f p
+    (12, q12-new is p) ∷ (13, q13-imports is p) ∷ (14, q14-parents l is self) ∷ from15 l n es d f p
 
 -- a load's answer, of a file that passed 3 to 17, 3 to 14, of one that reads, of any
 abbrev pub CallsSay : Bytes → ℕ → Aid → Bytes → ℕ → LoadAnswer → Type 0
-CallsSay s end d f depth r = (es : List Entry) (p : Package) → Over s end es → readFile standard f ≡ some p →
-    T (q13-imports (installed standard es) p) → T (q14-parents standard (installed standard es) (record { domain = d; pack = p })) → AnswerIs (from18 (length s) es d f p) depth r
+CallsSay s end d f depth r = (es : List Entry) (p : Package) → Over s end es → readFile (storeLimits s) f ≡ some p →
+    T (q13-imports (installed (storeLimits s) es) p) → T (q14-parents (storeLimits s) (installed (storeLimits s) es) (record { domain = d; pack = p })) → AnswerIs (from18 (storeLimits s) (length s) es d f p) depth r
 
 abbrev pub InsideSays : Bytes → ℕ → Aid → Bytes → ℕ → LoadAnswer → Type 0
-InsideSays s end d f depth r = (es : List Entry) (p : Package) → Over s end es → readFile standard f ≡ some p →
-    T (q13-imports (installed standard es) p) → T (q14-parents standard (installed standard es) (record { domain = d; pack = p })) → AnswerIs (from15 (length s) es d f p) depth r
+InsideSays s end d f depth r = (es : List Entry) (p : Package) → Over s end es → readFile (storeLimits s) f ≡ some p →
+    T (q13-imports (installed (storeLimits s) es) p) → T (q14-parents (storeLimits s) (installed (storeLimits s) es) (record { domain = d; pack = p })) → AnswerIs (from15 (storeLimits s) (length s) es d f p) depth r
 
 abbrev pub PackageSays : Bytes → ℕ → Aid → Bytes → LoadAnswer → Type 0
-PackageSays s end d f r = (es : List Entry) (p : Package) → Over s end es → readFile standard f ≡ some p → AnswerIs (from12 (length s) es d f p) (deepest standard es d p) r
+PackageSays s end d f r = (es : List Entry) (p : Package) → Over s end es → readFile (storeLimits s) f ≡ some p → AnswerIs (from12 (storeLimits s) (length s) es d f p) (deepest (storeLimits s) es d p) r
 
 abbrev pub LoadSays : Bytes → ℕ → Aid → Bytes → LoadAnswer → Type 0
-LoadSays s end d f r = (es : List Entry) → Over s end es → AnswerIs (loadQuestions standard (length s) es d f) (deepestOf standard es d (readFile standard f)) r
+LoadSays s end d f r = (es : List Entry) → Over s end es → AnswerIs (loadQuestions (storeLimits s) (length s) es d f) (deepestOf (storeLimits s) es d (readFile (storeLimits s) f)) r
 
 -- what they require
 abbrev pub PackageSome : Bytes → ℕ → Bytes → Type 0
-PackageSome s end f = (es : List Entry) × (p : Package) × Over s end es × (readFile standard f ≡ some p)
+PackageSome s end f = (es : List Entry) × (p : Package) × Over s end es × (readFile (storeLimits s) f ≡ some p)
 
 abbrev pub InsideSome : Bytes → ℕ → Aid → Bytes → Type 0
-InsideSome s end d f = (es : List Entry) × (p : Package) × Over s end es × (readFile standard f ≡ some p) ×
-    T (q13-imports (installed standard es) p) × T (q14-parents standard (installed standard es) (record { domain = d; pack = p }))
+InsideSome s end d f = (es : List Entry) × (p : Package) × Over s end es × (readFile (storeLimits s) f ≡ some p) ×
+    T (q13-imports (installed (storeLimits s) es) p) × T (q14-parents (storeLimits s) (installed (storeLimits s) es) (record { domain = d; pack = p }))
 
 -- an accepted load leaves the memo as the entry behind it asks
 abbrev pub MemoNext : ℕ → Aid → Bytes → LoadAnswer → List ℕ → Type 0
@@ -102,11 +102,11 @@ MemoNext end d f r memo = (depth : ℕ) → r ≡ Accepted depth → 5 ≤ lengt
 
 -- whether an entry would have been accepted over those that end at a place
 abbrev pub EntrySays : Bytes → ℕ → Entry → Bool → Type 0
-EntrySays s at e r = (es : List Entry) → Over s at es → r ≡ accepted standard (length s) es e
+EntrySays s at e r = (es : List Entry) → Over s at es → r ≡ accepted (storeLimits s) (length s) es e
 
 -- whether each entry up to a place would have been accepted
 abbrev pub AllAccepted : Bytes → ℕ → Bool → Type 0
-AllAccepted s end r = (es : List Entry) → Entries s openingLength es end → r ≡ soundEntries standard (length s) es
+AllAccepted s end r = (es : List Entry) → Entries s openingLength es end → r ≡ soundEntries (storeLimits s) (length s) es
 
 -- question 2, and the used value of a sound store
 abbrev pub SoundSays : Bytes → StoreAnswer → Type 0

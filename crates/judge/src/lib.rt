@@ -11,7 +11,7 @@ ghost use mathlib.Core.Bool.{true};
 ghost use Prim.Native.Nat.{_≤_};
 ghost use lib.ListN.{length, replicate};
 ghost use Rattle.rules.specs.Bytes.{aidLength};
-ghost use Rattle.rules.specs.Package.{standard};
+ghost use Rattle.rules.specs.Package.{storeLimits};
 ghost use Rattle.rules.specs.Store.{domain, loaded};
 ghost use Rattle.cursor.specs.Limits.{limitsOf};
 ghost use Rattle.codes.specs.Table.{TableIs};
@@ -118,7 +118,7 @@ fn inside_answer<'a>(
 ) -> LoadAnswer
     requires { ⌜ InsideSome (now s) end (now domain) (now file) ⌝ }
     requires { ⌜ length (now s) ≤ 65535 ⌝ }
-    requires { ⌜ TableIs (now table) × (4096 ≤ length (now marks)) ⌝ }
+    requires { ⌜ TableIs (now table) × (storeLimits (now s) .code ≤ length (now marks)) ⌝ }
     requires { ⌜ ImportHomes (now file) (now s) end (now homes) ⌝ }
     requires { ⌜ MemoBelow base (now memo) × (base ≤ 65000) ⌝ }
     ensures { λ r. ⌜ InsideSays (now (s .entry)) end (now (domain .entry)) (now (file .entry)) depth r ⌝ }
@@ -149,7 +149,7 @@ fn package_answer<'a>(
 ) -> LoadAnswer
     requires { ⌜ PackageSome (now s) end (now file) ⌝ }
     requires { ⌜ length (now s) ≤ 65535 ⌝ }
-    requires { ⌜ TableIs (now table) × (limits .code ≤ length (now marks)) × (limitsOf limits ≡ standard) ⌝ }
+    requires { ⌜ TableIs (now table) × (limits .code ≤ length (now marks)) × (limitsOf limits ≡ storeLimits (now s)) ⌝ }
     requires { ⌜ IndexIs (now s) end (now index) × MemoBelow (generation end) (now memo) ⌝ }
     ensures { λ r. ⌜ PackageSays (now (s .entry)) end (now (domain .entry)) (now (file .entry)) r ⌝ }
     ensures { λ _. ⌜ length (now (marks .exit)) ≡ length (now (marks .entry)) ⌝ }
@@ -195,7 +195,7 @@ pub fn load_answer<'a>(
 ) -> LoadAnswer
     requires { ⌜ OverSome (now s) end ⌝ }
     requires { ⌜ length (now s) ≤ 65535 ⌝ }
-    requires { ⌜ TableIs (now table) × (limits .code ≤ length (now marks)) × (limitsOf limits ≡ standard) ⌝ }
+    requires { ⌜ TableIs (now table) × (limits .code ≤ length (now marks)) × (limitsOf limits ≡ storeLimits (now s)) ⌝ }
     requires { ⌜ IndexIs (now s) end (now index) × MemoBelow (generation end) (now memo) ⌝ }
     ensures { λ r. ⌜ LoadSays (now (s .entry)) end (now (domain .entry)) (now (file .entry)) r ⌝ }
     ensures { λ _. ⌜ length (now (marks .exit)) ≡ length (now (marks .entry)) ⌝ }
@@ -246,7 +246,7 @@ fn package_sound(
     requires { ⌜ OverSome (now s) at × IndexIs (now s) at (now index) × MemoBelow (generation at) (now memo) ⌝ }
     requires { ⌜ EntryAt (now s) at (loaded (part (now s) from file) (part (now s) file next)) next × (from ≤ file) × (file ≤ next) ⌝ }
     requires { ⌜ length (now s) ≤ 65535 ⌝ }
-    requires { ⌜ TableIs (now table) × (limits .code ≤ length (now marks)) × (limitsOf limits ≡ standard) ⌝ }
+    requires { ⌜ TableIs (now table) × (limits .code ≤ length (now marks)) × (limitsOf limits ≡ storeLimits (now s)) ⌝ }
     ensures { λ r. ⌜ EntrySays (now (s .entry)) at (loaded (part (now (s .entry)) from file) (part (now (s .entry)) file next)) r ⌝ }
     ensures { λ r. ⌜ (r ≡ true → IndexIs (now (s .entry)) next (now (index .exit)) × MemoBelow (generation next) (now (memo .exit))) ⌝ }
     ensures { λ _. ⌜ length (now (marks .exit)) ≡ length (now (marks .entry)) ⌝ }
@@ -282,7 +282,7 @@ fn entries_sound(
 ) -> bool
     requires { ⌜ StandFrom (now s) 7 end ⌝ }
     requires { ⌜ length (now s) ≤ 65535 ⌝ }
-    requires { ⌜ TableIs (now table) × (limits .code ≤ length (now marks)) × (limitsOf limits ≡ standard) ⌝ }
+    requires { ⌜ TableIs (now table) × (limits .code ≤ length (now marks)) × (limitsOf limits ≡ storeLimits (now s)) ⌝ }
     requires { ⌜ IndexIs (now s) 7 (now index) × MemoBelow (generation 7) (now memo) ⌝ }
     ensures { λ r. ⌜ AllAccepted (now (s .entry)) end r ⌝ }
     ensures { λ _. ⌜ length (now (marks .exit)) ≡ length (now (marks .entry)) ⌝ }
@@ -319,7 +319,7 @@ pub fn soundness(
     index: &mut [u16; 12288],
     memo: &mut [u16; 21880],
 ) -> StoreAnswer
-    requires { ⌜ TableIs (now table) × (limits .code ≤ length (now marks)) × (limitsOf limits ≡ standard) ⌝ }
+    requires { ⌜ TableIs (now table) × (limits .code ≤ length (now marks)) × (limitsOf limits ≡ storeLimits (now s)) ⌝ }
     requires { ⌜ (now index ≡ replicate 12288 0) × (now memo ≡ replicate 21880 0) ⌝ }
     ensures { λ r. ⌜ SoundSays (now (s .entry)) r ⌝ }
     ensures { λ _. ⌜ length (now (marks .exit)) ≡ length (now (marks .entry)) ⌝ }

@@ -1,18 +1,19 @@
 -- Fresh, a creation and a load: what they write fits, and what they leave. Assumes nothing.
 use Prim.Native.Nat.{ℕ, _*_, _≤_, _<_}
 use native.Mathlib.Omega.{arith}
-use mathlib.Core.Path.{_≡_, sym, _∙_, subst}
+use mathlib.Core.Path.{_≡_, sym, _∙_, ap, subst}
 use mathlib.Core.Bool.{true, false}
 use mathlib.Core.List.{[]}
 use lib.Dec.{leb, leb→le}
 use lib.ListN.{length}
 use Rattle.rules.specs.Bytes.{Bytes, Aid, aidLength}
-use Rattle.rules.specs.Package.{standard, readFile}
+use Rattle.rules.specs.Package.{Limits, storeLimits, readFile}
 use Rattle.rules.specs.Store.{domain, loaded, write}
 use Rattle.rules.specs.Questions.{q1-size, q3-lengths}
 use Rattle.rules.specs.Operations.{create, load, firstNo, loadQuestions, number, after, deepestOf, leastDepth, mostDepth, freshNumber, freshBytes}
 use Rattle.rules.proofs.Tests.{and-l, and-r, is-true}
 use Rattle.rules.proofs.Asked.{create-yes, load-yes, deepest-limit}
+use Rattle.rules.proofs.Limits.{store-limits, limits-range}
 use Rattle.store.specs.Answers.{Room, Appended}
 use Rattle.store.proofs.Asked.{size-is}
 use Rattle.judge.specs.Says.{numberOf, figureOf, LoadSays}
@@ -59,7 +60,7 @@ module _ (s : Bytes) (u : ℕ) (h : SoundAt s u) where
   module _ (d : Aid) (f : Bytes) (r : LoadAnswer) (q : LoadSays s u d f r) where
     -- the answer's number is the load's
     load-asked : Asked s u (load d f) (numberOf r)
-    load-asked es o = (q es o) .number
+    load-asked es o = (q es o) .number ∙ ap (λ (l : Limits). firstNo (loadQuestions l (length s) es d f)) (store-limits s)
 
     pub load-number : numberOf r ≡ number s (load d f)
     load-number = asked-number s u h (load d f) (numberOf r) load-asked
@@ -69,37 +70,39 @@ module _ (s : Bytes) (u : ℕ) (h : SoundAt s u) where
     load-refused n e z = (refused-promise s d f n z (e ∙ load-number), refused-after s (load d f) n z (e ∙ load-number))
 
     module _ (z : numberOf r ≡ 0) where
-      yes : firstNo (loadQuestions standard (length s) ((opening s u h) .es) d f) ≡ 0
-      yes = let x = opening s u h in sym (load-asked (x .es) (x .over)) ∙ z
+      yes : firstNo (loadQuestions (storeLimits s) (length s) ((opening s u h) .es) d f) ≡ 0
+      yes = let x = opening s u h in sym ((q (x .es) (x .over)) .number) ∙ z
 
       -- what is written fits
       pub load-room : Room s u (loaded d f) × (length d < 256)
       unfolding q3-lengths
       load-room =
           let x = opening s u h in
-          let y = load-yes standard (length s) (x .es) d f yes in
+          let y = load-yes (storeLimits s) (length s) (x .es) d f yes in
           let l = leb→le (length d) 16 (and-r (leb 5 (length d)) (leb (length d) 16) (and-l (aidLength (length d)) true (y .1 .q3))) in
           (record { laid = laid s u h; small = small s u h; fits = is-true _ (y .1 .q21) }, omega arith)
 
       -- the depth figure
-      figure-is : figureOf r ≡ deepestOf standard ((opening s u h) .es) d (readFile standard f)
+      figure-is : figureOf r ≡ deepestOf (storeLimits s) ((opening s u h) .es) d (readFile (storeLimits s) f)
       figure-is = let x = opening s u h in (q (x .es) (x .over)) .figure yes
 
-      pub figure-within : figureOf r ≤ 8
-      unfolding standard
-      figure-within =
+      figure-limit : figureOf r ≤ storeLimits s .depth
+      figure-limit =
           let x = opening s u h in
-          let y = load-yes standard (length s) (x .es) d f yes in
-          rw (figure-is, y .1 .q11) (deepest-limit standard (length s) (x .es) d f (y .0) (y .1))
+          let y = load-yes (storeLimits s) (length s) (x .es) d f yes in
+          rw (figure-is, y .1 .q11) (deepest-limit (storeLimits s) (length s) (x .es) d f (y .0) (y .1))
+
+      pub figure-within : figureOf r ≤ 16
+      figure-within = omega (arith, figure-limit, (limits-range s) .0)
 
       pub load-done : (m : ℕ) (t : Bytes) → m ≡ figureOf r → Appended s t (loaded d f) → LoadPromise s d f (256 * m) × (t ≡ after s (load d f))
-      unfolding leastDepth mostDepth standard
+      unfolding leastDepth mostDepth
       load-done m t i w =
           let x = opening s u h in
           let e : number s (load d f) ≡ 0 = sym load-number ∙ z in
-          let l : leastDepth s d f ≡ figureOf r = rw (e, x .reads) (sym figure-is) in
-          let k : mostDepth s d f ≡ 8 = rw e in
-          let b = figure-within in (
+          let l : leastDepth s d f ≡ figureOf r = rw (e, x .reads) (sym (figure-is ∙ ap (λ (v : Limits). deepestOf v (x .es) d (readFile v f)) (store-limits s))) in
+          let k : mostDepth s d f ≡ storeLimits s .depth = rw e (ap (λ (v : Limits). v .depth) (sym (store-limits s))) in
+          let b = figure-limit in (
             record { figure = m; result = omega (arith, e); least = omega (arith, l, i); most = omega (arith, k, i, b) },
             (asked-done s u h (load d f) t (λ es o. sym z ∙ load-asked es o) w) .1,
           )

@@ -5,7 +5,7 @@ use mathlib.Core.Bool.{Bool, true, false, _&&_, _||_, not}
 use mathlib.Core.List.{List, [], _∷_}
 use mathlib.Core.Option.{some}
 use Rattle.rules.specs.Bytes.{Bytes, Aid, isSome, any, all, u1, aid, counted, same}
-use Rattle.rules.specs.Package.{standard, Package, mostImports, readFile}
+use Rattle.rules.specs.Package.{Limits, storeLimits, Package, mostImports, readFile}
 use Rattle.rules.specs.Store.{Entry, domain, loaded}
 use Rattle.rules.specs.Classes.{Installed, installed, hasAid}
 use Rattle.rules.specs.Questions.{q8-unused}
@@ -49,27 +49,27 @@ pub other-is : (g a : Bytes) (b : Bool) → AidIs g 7 a false → ImportsSays g 
 other-is g a b q r l p e = let t = file-parts l g p e in r l p e ∙ rw (sym (q (p .aid) (t .domainsAt) (t .named)))
 
 -- an entry's file with another AID that imports this one, or not
-pub importer-is : (a d g : Bytes) (b : Bool) (p : Package) → readFile standard g ≡ some p → OtherSays g a b → importer a (loaded d g) ≡ b
-importer-is a d g b p e q = rw e (sym (q standard p e))
+pub importer-is : (l : Limits) (a d g : Bytes) (b : Bool) (p : Package) → readFile l g ≡ some p → OtherSays g a b → importer l a (loaded d g) ≡ b
+importer-is l a d g b p e q = rw e (sym (q l p e))
 
 -- 8 is the contrary of finding an importer
-pub used-any : (es : List Entry) (a : Aid) → AllRead es → not (q8-unused (installed standard es) a) ≡ any (importer a) es
+pub used-any : (l : Limits) (es : List Entry) (a : Aid) → AllRead l es → not (q8-unused (installed l es) a) ≡ any (importer l a) es
 unfolding q8-unused
-used-any [] a h = refl
-used-any (domain b ∷ es) a h = used-any es a (h .1)
-used-any (loaded d f ∷ es) a h = rw (h .0 .1) (go (same a (h .0 .0 .aid)) (any (same a) (h .0 .0 .imports)) (used-any es a (h .1)))
+used-any l [] a h = refl
+used-any l (domain b ∷ es) a h = used-any l es a (h .1)
+used-any l (loaded d f ∷ es) a h = rw (h .0 .1) (go (same a (h .0 .0 .aid)) (any (same a) (h .0 .0 .imports)) (used-any l es a (h .1)))
   where
     rest : Bool
-    rest = all (λ (i : Installed). hasAid a i || not (any (same a) (i .pack .imports))) (installed standard es)
+    rest = all (λ (i : Installed). hasAid a i || not (any (same a) (i .pack .imports))) (installed l es)
 
-    go : (own lists : Bool) → not rest ≡ any (importer a) es → not ((own || not lists) && rest) ≡ ((not own && lists) || any (importer a) es)
+    go : (own lists : Bool) → not rest ≡ any (importer l a) es → not ((own || not lists) && rest) ≡ ((not own && lists) || any (importer l a) es)
     go true lists e = e
     go false true e = refl
     go false false e = e
 
-module _ (a : Aid) (s : Bytes) (k i : ℕ) (w : Walks (importer a) s k i) where
-  pub imported-yes : (d m j : ℕ) → PartAt s i k (PackagePart d m j) → importer a (loaded (part s d m) (part s m j)) ≡ true → ImportedSays s k a true
-  imported-yes d m j p h es r reads = sym (used-any es a reads ∙ sym (place-any (importer a) 7 es) ∙ ap isSome (found-package w p h es r))
+module _ (a : Aid) (s : Bytes) (k i : ℕ) (w : Walks (importer (storeLimits s) a) s k i) where
+  pub imported-yes : (d m j : ℕ) → PartAt s i k (PackagePart d m j) → importer (storeLimits s) a (loaded (part s d m) (part s m j)) ≡ true → ImportedSays s k a true
+  imported-yes d m j p h es r reads = sym (used-any (storeLimits s) es a reads ∙ sym (place-any (importer (storeLimits s) a) 7 es) ∙ ap isSome (found-package w p h es r))
 
   pub imported-no : PartAt s i k AtEnd → ImportedSays s k a false
-  imported-no p es r reads = sym (used-any es a reads ∙ found-none w p es r)
+  imported-no p es r reads = sym (used-any (storeLimits s) es a reads ∙ found-none w p es r)

@@ -8,11 +8,12 @@ use mathlib.Core.Option.{some}
 use lib.Dec.{T}
 use lib.ListN.{length}
 use Rattle.rules.specs.Bytes.{Bytes, someAnd}
-use Rattle.rules.specs.Package.{Limits, standard}
+use Rattle.rules.specs.Package.{Limits, standard, storeLimits}
 use Rattle.rules.specs.Store.{Entry, used, write, entriesOf}
 use Rattle.rules.specs.Questions.{q1-size}
 use Rattle.rules.specs.Operations.{firstNo, soundEntries, sound, entries, Operation, questions, number, change, ifDone, after}
 use Rattle.rules.proofs.Tests.{and-l, and-r, is-true, of-true, some-and-is}
+use Rattle.rules.proofs.Limits.{store-limits}
 use Rattle.store.specs.Entries.{Holds, AllRead, Laid}
 use Rattle.store.proofs.Asked.{size-is}
 use Rattle.homes.proofs.Homes.{all-read}
@@ -98,13 +99,13 @@ module _ (s : Bytes) (u : ℕ) (h : SoundAt s u) where
       (sym e, w (x .es) (x .reads) ∙ rw (e, x .reads))
 
 -- the files of sound entries read
-pub over-reads : (s : Bytes) (u : ℕ) (es : List Entry) → Over s u es → AllRead es
-over-reads s u es o = all-read (length s) [] es (o .sound)
+pub over-reads : (s : Bytes) (u : ℕ) (es : List Entry) → Over s u es → AllRead (storeLimits s) es
+over-reads s u es o = all-read (storeLimits s) (length s) [] es (o .sound)
 
 -- as many marks as a code may have bytes
-pub code-fits : (l : Limits) (n : ℕ) → l ≡ standard → 4096 ≤ n → l .code ≤ n
+pub code-fits : (s : Bytes) (l : Limits) (n : ℕ) → l ≡ storeLimits s → 4096 ≤ n → l .code ≤ n
 unfolding standard
-code-fits l n e h = let z : l .code ≡ 4096 = ap (λ (x : Limits). x .code) e in omega arith
+code-fits s l n e h = let z : l .code ≡ 4096 = ap (λ (x : Limits). x .code) (e ∙ store-limits s) in omega arith
 
 -- index and memo of a store that was opened
 pub indexed : (s : Bytes) (r : Opened) (u : ℕ) (index memo : List ℕ) → r ≡ opened.Used u → OpenedIndex s r index memo → OpenedIndex s (opened.Used u) index memo

@@ -7,11 +7,12 @@ use mathlib.Core.List.{List}
 use mathlib.Core.Option.{Option, none, some}
 use lib.ListN.{length}
 use Rattle.rules.specs.Bytes.{Bytes, Aid, pick, at, isSome, someAnd, _andThen_, aidLength}
-use Rattle.rules.specs.Package.{standard, Class, Method}
+use Rattle.rules.specs.Package.{Limits, standard, storeLimits, Class, Method}
 use Rattle.rules.specs.Store.{Entry}
 use Rattle.rules.specs.Classes.{Installed, installed, recordOf, declared, MethodAt, admits, allows}
 use Rattle.rules.specs.Questions.{q3-lengths, q7-installed, methodQueried, q9-declared}
 use Rattle.rules.specs.Operations.{firstNo, queryQuestions, entries, queryNumber, queryYes}
+use Rattle.rules.proofs.Limits.{store-limits}
 use Rattle.files.specs.Say.{Readable}
 use Rattle.store.specs.Entries.{part, PackageAt}
 use Rattle.store.specs.Answers.{FileAt, FileSays}
@@ -75,9 +76,9 @@ module _ (s : Bytes) (d a : Aid) (c n : ℕ) where
 
   module _ (u : ℕ) (h : SoundAt s u) where
     -- the number by the questions from 3 on
-    query-number : queryNumber s d a c n ≡ firstNo (queryQuestions standard ((opening s u h) .es) d a c n)
+    query-number : queryNumber s d a c n ≡ firstNo (queryQuestions (storeLimits s) ((opening s u h) .es) d a c n)
     unfolding queryNumber
-    query-number = let x = opening s u h in rw (x .size, x .is, x .reads)
+    query-number = let x = opening s u h in rw (x .size, x .is, x .reads) (ap (λ (l : Limits). firstNo (queryQuestions l (x .es) d a c n)) (sym (store-limits s)))
 
     pub query-3-domain : aidLength (length d) ≡ false → QueryPromise s d a c n 3
     unfolding queryQuestions q3-lengths
@@ -108,17 +109,17 @@ module _ (s : Bytes) (d a : Aid) (c n : ℕ) where
 
     -- the package's file
     pub query-file : (j ≤ k) × (k ≤ length s) × Readable (part s j k)
-    query-file = let y = at-place in (y .from, y .to, (standard, y .home .pack, y .reads))
+    query-file = let y = at-place in (y .from, y .to, (storeLimits s, y .home .pack, y .reads))
 
     -- its answer
     says : (v : Allowed) → FileAllows (part s j k) c n d v → allowed v ≡ saysIn home c n d
-    says v w = let y = at-place in w standard (y .home .pack) (y .reads)
+    says v w = let y = at-place in w (storeLimits s) (y .home .pack) (y .reads)
 
-    queried : methodQueried (installed standard es) a c n ≡ methodIn home c n
+    queried : methodQueried (installed (storeLimits s) es) a c n ≡ methodIn home c n
     unfolding methodQueried
     queried = rw (at-place .is)
 
-    declared-is : (v : Allowed) → FileAllows (part s j k) c n d v → q9-declared (installed standard es) a c n ≡ isSome (allowed v)
+    declared-is : (v : Allowed) → FileAllows (part s j k) c n d v → q9-declared (installed (storeLimits s) es) a c n ≡ isSome (allowed v)
     unfolding q9-declared
     declared-is v w = ap isSome queried ∙ (method-says home c n d) .0 ∙ sym (ap isSome (says v w))
 
@@ -134,7 +135,7 @@ module _ (s : Bytes) (d a : Aid) (c n : ℕ) where
     query-done v b t w =
         let y = opening s u (x .sound) in
         let e : queryNumber s d a c n ≡ 0 = asked v w ∙ rw t in
-        let m : someAnd (methodQueried (installed standard (y .es)) a c n) (λ m. allows m d) ≡ b =
+        let m : someAnd (methodQueried (installed (storeLimits s) (y .es)) a c n) (λ m. allows m d) ≡ b =
         ap (λ (o : Option MethodAt). someAnd o (λ m. allows m d)) queried ∙ (method-says home c n d) .1 ∙ sym (ap (λ (o : Option Bool). someAnd o (λ m. m)) (says v w)) ∙ rw t in
-        let l : queryYes s d a c n ≡ b = rw (e, y .reads) m in
+        let l : queryYes s d a c n ≡ b = rw (e, y .reads) (ap (λ (v : Limits). someAnd (methodQueried (installed v (y .es)) a c n) (λ m. allows m d)) (sym (store-limits s)) ∙ m) in
         rw l (omega (arith, e))

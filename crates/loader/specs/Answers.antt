@@ -6,7 +6,7 @@
 -- OpenedIndex          == what index and memo then hold
 -- CutSays s u o q r    == a deletion or removal: its number, or the place of the entry that the test q finds
 -- ImportsSays g a r    == the file g imports the AID a
--- importer a e         == e is a package of another AID that imports a
+-- importer l a e       == e is a package of another AID that imports a
 -- ImportedSays s k a r == question 8 is answered no, among the entries that end at place k
 -- OtherSays g a r      == it does and has another AID
 -- allowed r            == what an answer says of a domain, if there is such a method
@@ -18,7 +18,7 @@ use mathlib.Core.Bool.{Bool, true, false, _&&_, not}
 use mathlib.Core.List.{List}
 use mathlib.Core.Option.{Option, none, some}
 use Rattle.rules.specs.Bytes.{Bytes, Aid, any, at, someAnd, _andThen_, same}
-use Rattle.rules.specs.Package.{Limits, standard, Class, Package, class, readFile}
+use Rattle.rules.specs.Package.{Limits, storeLimits, Class, Package, class, readFile}
 use Rattle.rules.specs.Store.{Entry, domain, loaded, openingLength}
 use Rattle.rules.specs.Classes.{installed, declared, admits}
 use Rattle.rules.specs.Questions.{q8-unused}
@@ -71,13 +71,13 @@ otherImports a p = not (same a (p .aid)) && any (same a) (p .imports)
 abbrev pub OtherSays : Bytes → Aid → Bool → Type 0
 OtherSays g a r = (l : Limits) (p : Package) → readFile l g ≡ some p → r ≡ otherImports a p
 
-abbrev pub importer : Aid → Entry → Bool
-importer a (domain b) = false
-importer a (loaded d f) = someAnd (readFile standard f) (otherImports a)
+abbrev pub importer : Limits → Aid → Entry → Bool
+importer l a (domain b) = false
+importer l a (loaded d f) = someAnd (readFile l f) (otherImports a)
 
 -- 8, of whatever entries whose files read end at place k
 abbrev pub ImportedSays : Bytes → ℕ → Aid → Bool → Type 0
-ImportedSays s k a r = (es : List Entry) → Entries s openingLength es k → AllRead es → r ≡ not (q8-unused (installed standard es) a)
+ImportedSays s k a r = (es : List Entry) → Entries s openingLength es k → AllRead (storeLimits s) es → r ≡ not (q8-unused (installed (storeLimits s) es) a)
 
 -- what an answer says of the domain, if there is such a method
 abbrev pub allowed : Allowed → Option Bool

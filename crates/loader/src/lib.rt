@@ -10,7 +10,7 @@ ghost use mathlib.Core.Path.{_≡_};
 ghost use Prim.Native.Nat.{_≤_};
 ghost use lib.ListN.{length, replicate};
 ghost use Rattle.rules.specs.Operations.{create, delete, load, remove, number, after, freshNumber, freshBytes, isDomain, isPackage};
-ghost use Rattle.rules.specs.Package.{standard};
+ghost use Rattle.rules.specs.Package.{storeLimits};
 ghost use Rattle.cursor.specs.Limits.{limitsOf};
 ghost use Rattle.files.specs.Say.{Readable};
 ghost use Rattle.store.specs.Entries.{FilesStand};
@@ -140,7 +140,7 @@ fn delete_answer(s: &[u8], used: usize, domain: &[u8]) -> Cut
 // Remove: 3, 7, 8, and the place of the package's entry.
 fn remove_answer(s: &[u8], used: usize, package: &[u8]) -> Cut
     requires { ⌜ SoundAt (now s) used ⌝ }
-    ensures { λ r. ⌜ CutSays (now (s .entry)) used (remove (now («package» .entry))) (isPackage standard (now («package» .entry))) r ⌝ }
+    ensures { λ r. ⌜ CutSays (now (s .entry)) used (remove (now («package» .entry))) (isPackage (storeLimits (now (s .entry))) (now («package» .entry))) r ⌝ }
 {
     if !judge::length_ok(package) {
         return Cut::Refused(3);
@@ -234,7 +234,7 @@ fn number_of(answer: LoadAnswer) -> u32
 
 // The depth figure of a load's answer.
 fn figure_of(answer: LoadAnswer) -> u32
-    requires { ⌜ figureOf answer ≤ 8 ⌝ }
+    requires { ⌜ figureOf answer ≤ 16 ⌝ }
     ensures { λ r. ⌜ r ≡ figureOf answer ⌝ }
 {
     match answer {
@@ -267,7 +267,7 @@ fn opened_with(
     index: &mut [u16; 12288],
     memo: &mut [u16; 21880],
 ) -> Opened
-    requires { ⌜ TableIs (now table) × (limits .code ≤ length (now marks)) × (limitsOf limits ≡ standard) ⌝ }
+    requires { ⌜ TableIs (now table) × (limits .code ≤ length (now marks)) × (limitsOf limits ≡ storeLimits (now s)) ⌝ }
     requires { ⌜ (now index ≡ replicate 12288 0) × (now memo ≡ replicate 21880 0) ⌝ }
     ensures { λ r. ⌜ OpenedSays (now (s .entry)) r ⌝ }
     ensures { λ _. ⌜ length (now (marks .exit)) ≡ length (now (marks .entry)) ⌝ }
@@ -292,7 +292,7 @@ fn opened_by(s: &[u8]) -> Opened
     let mut memo = [0u16; 21880];
     opened_with(
         s,
-        Limits::standard(),
+        cursor::limits_of(s),
         &table,
         &mut marks,
         &mut index,
@@ -343,7 +343,7 @@ pub extern "C" fn loader_load(store: &mut [u8], domain: &[u8], file: &[u8]) -> u
     ensures { λ r. ⌜ LoadPromise (now (store .entry)) (now (domain .entry)) (now (file .entry)) r ⌝ }
     ensures { λ _. ⌜ now (store .exit) ≡ after (now (store .entry)) (load (now (domain .entry)) (now (file .entry))) ⌝ }
 {
-    let limits = Limits::standard();
+    let limits = cursor::limits_of(store);
     let table = codes::table();
     let mut marks = [false; 4096];
     let mut index = [0u16; 12288];

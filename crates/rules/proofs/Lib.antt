@@ -16,3 +16,4 @@ pub mod Lengths
 pub mod Signed
 pub mod Lists
 pub mod Tests
+pub mod Limits

@@ -6,7 +6,7 @@ use mathlib.Core.List.{List}
 use mathlib.Core.Option.{none, some}
 use lib.ListN.{length}
 use Rattle.rules.specs.Bytes.{Bytes}
-use Rattle.rules.specs.Package.{standard, method, policy, readFile}
+use Rattle.rules.specs.Package.{Limits, storeLimits, method, policy, readFile}
 use Rattle.rules.specs.Store.{Entry}
 use Rattle.rules.specs.Classes.{Installed, installed, MethodAt, runsUpTo, allowsAllOf}
 use Rattle.rules.specs.Questions.{own}
@@ -23,23 +23,23 @@ use Rattle.running.specs.declared.RunsFound.the-variants.{At, Nothing}
 
 -- a method in its file g
 module _ (f s : Bytes) (h : Home) (i : ℕ) (g : Bytes) (z : g ≡ fileOf f s h) (end : ℕ) (es : List Entry) (self : Installed) (o : MethodAt) (m : MethodIn f s end es self h i o) where
-  file-method : Reads (method standard (o .class .home .pack .domains)) g i (o .method) (m .ends)
-  file-method = subst (λ (b : Bytes). Reads (method standard (o .class .home .pack .domains)) b i (o .method) (m .ends)) (sym z) (m .reads)
+  file-method : Reads (method (storeLimits s) (o .class .home .pack .domains)) g i (o .method) (m .ends)
+  file-method = subst (λ (b : Bytes). Reads (method (storeLimits s) (o .class .home .pack .domains)) b i (o .method) (m .ends)) (sym z) (m .reads)
 
   pub method-there : say.MethodThere g i
-  method-there = (standard, o .class .home .pack .domains, (o .method, m .ends, file-method))
+  method-there = (storeLimits s, o .class .home .pack .domains, (o .method, m .ends, file-method))
 
   module _ (a : Imports f s end es self) where
-    file-reads : readFile standard g ≡ some (o .class .home .pack)
-    file-reads = ap (readFile standard) z ∙ home-reads f s end es self (a .setting) h (o .class .home) (m .home)
+    file-reads : readFile (storeLimits s) g ≡ some (o .class .home .pack)
+    file-reads = ap (readFile (storeLimits s)) z ∙ home-reads f s end es self (a .setting) h (o .class .home) (m .home)
 
     pub method-file : Readable g
-    method-file = (standard, o .class .home .pack, file-reads)
+    method-file = (storeLimits s, o .class .home .pack, file-reads)
 
     pub policy-over : (d p : ℕ) → DomainsAt g d → PolicyAt g i p → PolicyOver g d p
     policy-over d p q r =
-        let x = domains-read q standard (o .class .home .pack) file-reads in
-        let y = r standard (o .class .home .pack .domains) (o .method) (m .ends) file-method in
+        let x = domains-read q (storeLimits s) (o .class .home .pack) file-reads in
+        let y = r (storeLimits s) (o .class .home .pack .domains) (o .method) (m .ends) file-method in
         (o .class .home .pack .domains, x .0, x .1, (o .method .policy, y .0, y .1))
 
 module _ (f s : Bytes) (g : Home) (i : ℕ) (h : Home) (j : ℕ) where
@@ -49,21 +49,21 @@ module _ (f s : Bytes) (g : Home) (i : ℕ) (h : Home) (j : ℕ) where
   module _ (a b : Bytes) (za : a ≡ fileOf f s g) (zb : b ≡ fileOf f s h) (da pa db pb : ℕ) (ra : DomainsAt a da) (qa : PolicyAt a i pa) (rb : DomainsAt b db) (qb : PolicyAt b j pb) where
     pub allows-is : (r : Bool) → AdmitsAllOf a da pa b db pb r → AllowsAllOf f s g i h j r
     allows-is r q end es self u m x o y =
-        let ma = domains-read ra standard (m .class .home .pack) (file-reads f s g i a za end es self m x u) in
-        let mb = domains-read rb standard (o .class .home .pack) (file-reads f s h j b zb end es self o y u) in
-        let wa = qa standard (m .class .home .pack .domains) (m .method) (x .ends) (file-method f s g i a za end es self m x) in
-        let wb = qb standard (o .class .home .pack .domains) (o .method) (y .ends) (file-method f s h j b zb end es self o y) in
+        let ma = domains-read ra (storeLimits s) (m .class .home .pack) (file-reads f s g i a za end es self m x u) in
+        let mb = domains-read rb (storeLimits s) (o .class .home .pack) (file-reads f s h j b zb end es self o y u) in
+        let wa = qa (storeLimits s) (m .class .home .pack .domains) (m .method) (x .ends) (file-method f s g i a za end es self m x) in
+        let wb = qb (storeLimits s) (o .class .home .pack .domains) (o .method) (y .ends) (file-method f s h j b zb end es self o y) in
         q (m .class .home .pack .domains) (ma .0) (ma .1) (m .method .policy) (wa .0) (wa .1) (o .class .home .pack .domains) (mb .0) (mb .1) (o .method .policy) (wb .0) (wb .1)
 
 -- a method beside the one that runs for own class b and its name
-passes-static : (is : List Installed) (b : _) (o : MethodAt) → o .method .static ≡ true → true ≡ methodPasses is b o
-passes-static is b o e = rw e
+passes-static : (l : Limits) (is : List Installed) (b : _) (o : MethodAt) → o .method .static ≡ true → true ≡ methodPasses l is b o
+passes-static l is b o e = rw e
 
-passes-none : (is : List Installed) (b : _) (o : MethodAt) → o .method .static ≡ false → runsUpTo is (standard .depth) b (o .method .name) ≡ none → true ≡ methodPasses is b o
-passes-none is b o e n = rw (e, n)
+passes-none : (l : Limits) (is : List Installed) (b : _) (o : MethodAt) → o .method .static ≡ false → runsUpTo is (l .depth) b (o .method .name) ≡ none → true ≡ methodPasses l is b o
+passes-none l is b o e n = rw (e, n)
 
-passes-runs : (is : List Installed) (b : _) (o r : MethodAt) → o .method .static ≡ false → runsUpTo is (standard .depth) b (o .method .name) ≡ some r → allowsAllOf r o ≡ methodPasses is b o
-passes-runs is b o r e n = rw (e, n)
+passes-runs : (l : Limits) (is : List Installed) (b : _) (o r : MethodAt) → o .method .static ≡ false → runsUpTo is (l .depth) b (o .method .name) ≡ some r → allowsAllOf r o ≡ methodPasses l is b o
+passes-runs l is b o r e n = rw (e, n)
 
 module _ (f s : Bytes) (end b : ℕ) (h : Home) (i : ℕ) where
   pub method-bounds : MethodThere f s end b h i → (h .from ≤ h .to) × (h .to ≤ length s)
@@ -78,19 +78,19 @@ module _ (f s : Bytes) (end b : ℕ) (h : Home) (i : ℕ) where
 
     pub method-static : StaticIs g i true → MethodPasses f s end b h i true
     method-static q es self r o m =
-        passes-static (installed standard es) (own self b) o (sym (q standard (o .class .home .pack .domains) (o .method) (m .ends) (file-method f s h i g z end es self o m)))
+        passes-static (storeLimits s) (installed (storeLimits s) es) (own self b) o (sym (q (storeLimits s) (o .class .home .pack .domains) (o .method) (m .ends) (file-method f s h i g z end es self o m)))
 
     module _ (q : StaticIs g i false) (name : ℕ) (n : NameIs g i name) where
       static-not : (es : List Entry) (self : Installed) (o : MethodAt) → MethodIn f s end es self h i o → o .method .static ≡ false
-      static-not es self o m = sym (q standard (o .class .home .pack .domains) (o .method) (m .ends) (file-method f s h i g z end es self o m))
+      static-not es self o m = sym (q (storeLimits s) (o .class .home .pack .domains) (o .method) (m .ends) (file-method f s h i g z end es self o m))
 
       name-is : (es : List Entry) (self : Installed) (o : MethodAt) → MethodIn f s end es self h i o → name ≡ o .method .name
-      name-is es self o m = n standard (o .class .home .pack .domains) (o .method) (m .ends) (file-method f s h i g z end es self o m)
+      name-is es self o m = n (storeLimits s) (o .class .home .pack .domains) (o .method) (m .ends) (file-method f s h i g z end es self o m)
 
       pub method-alone : RunsIs f s end b name Nothing → MethodPasses f s end b h i true
       method-alone w es self r o m =
-          passes-none (installed standard es) (own self b) o (static-not es self o m)
-          (subst (λ (v : ℕ). runsUpTo (installed standard es) (standard .depth) (own self b) v ≡ none) (name-is es self o m) (w es self r))
+          passes-none (storeLimits s) (installed (storeLimits s) es) (own self b) o (static-not es self o m)
+          (subst (λ (v : ℕ). runsUpTo (installed (storeLimits s) es) (storeLimits s .depth) (own self b) v ≡ none) (name-is es self o m) (w es self r))
 
       module _ (x : Home) (k : ℕ) (w : RunsIs f s end b name (At x k)) where
         pub method-both : MethodThere f s end b h i → BothThere f s x k h i
@@ -100,5 +100,5 @@ module _ (f s : Bytes) (end b : ℕ) (h : Home) (i : ℕ) where
         method-beside v y es self r o m =
             let u = w es self r in
             y end es self (r .judged .parents .imported) (u .0) (u .2) o m
-            ∙ passes-runs (installed standard es) (own self b) o (u .0) (static-not es self o m)
-            (subst (λ (v : ℕ). runsUpTo (installed standard es) (standard .depth) (own self b) v ≡ some (u .0)) (name-is es self o m) (u .1))
+            ∙ passes-runs (storeLimits s) (installed (storeLimits s) es) (own self b) o (u .0) (static-not es self o m)
+            (subst (λ (v : ℕ). runsUpTo (installed (storeLimits s) es) (storeLimits s .depth) (own self b) v ≡ some (u .0)) (name-is es self o m) (u .1))

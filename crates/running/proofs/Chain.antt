@@ -6,9 +6,10 @@ use mathlib.Core.List.{List}
 use lib.ListN.{length, getD, set, length-set}
 use lib.Seq.{getD-set-same, getD-set-other}
 use Rattle.rules.specs.Bytes.{Bytes}
-use Rattle.rules.specs.Package.{standard}
+use Rattle.rules.specs.Package.{storeLimits}
 use Rattle.rules.specs.Classes.{installed, depthUpTo}
 use Rattle.rules.proofs.Bounds.{parent-depth, kind0-parent}
+use Rattle.rules.proofs.Limits.{limits-range}
 use Rattle.homes.specs.Homes.{ownHome}
 use Rattle.homes.specs.Homes as homes
 use Rattle.homes.specs.declared.Home.{Home}
@@ -85,7 +86,7 @@ module _ (f s : Bytes) where
     unfolding above-there
     room-above d q = go (room .depth) (room .room) (room .within)
       where
-        go : (k : ℕ) → i + k ≤ mostLinks → depthUpTo (installed standard (room .class .1 .entries)) (suc k) (record { home = room .class .1 .pack; number = n }) ≤ k → ChainRoom f s (i + 1) (d .home) (d .number)
+        go : (k : ℕ) → i + k ≤ mostLinks → depthUpTo (installed (storeLimits s) (room .class .1 .entries)) (suc k) (record { home = room .class .1 .pack; number = n }) ≤ k → ChainRoom f s (i + 1) (d .home) (d .number)
         go zero a w = absurd (omega (arith, w))
         go (suc k) a w =
             let c = room .class .1 in
@@ -94,8 +95,8 @@ module _ (f s : Bytes) where
               class = above-there h n d q (room .class);
               depth = k;
               room = omega arith;
-              within = parent-depth (installed standard (c .entries)) k (record { home = c .pack; number = n }) (record { home = u .0; number = d .number }) w
-                  (kind0-parent (installed standard (c .entries)) (record { home = c .pack; number = n }) (record { home = u .0; number = d .number }) (u .2));
+              within = parent-depth (installed (storeLimits s) (c .entries)) k (record { home = c .pack; number = n }) (record { home = u .0; number = d .number }) w
+                  (kind0-parent (installed (storeLimits s) (c .entries)) (record { home = c .pack; number = n }) (record { home = u .0; number = d .number }) (u .2));
             }
 
   -- a class of the chain is kept
@@ -136,11 +137,10 @@ module _ (f s : Bytes) where
 
   -- own class b has room from 0 on
   pub own-room : (end b : ℕ) → OwnThere f s end b → ChainRoom f s 0 (ownHome end) b
-  unfolding standard
   own-room end b t = record {
     class = (end, record { entries = t .0; self = t .1; asked = t .2; pack = t .1; home = homes.own; class = t .3; is = t .4 });
-    depth = standard .depth;
-    room = omega arith;
+    depth = storeLimits s .depth;
+    room = omega (arith, (limits-range s) .0);
     within = own-depth f s end b (t .0) (t .1) (t .2) (t .3) (t .4);
   }
 

@@ -7,7 +7,7 @@ use mathlib.Core.Option.{Option, none, some, Option·some-injective}
 use lib.Dec.{leb→le}
 use lib.ListN.{length}
 use Rattle.rules.specs.Bytes.{Bytes, Aid, at, u1, counted}
-use Rattle.rules.specs.Package.{standard, mostMethods, Class, method, class}
+use Rattle.rules.specs.Package.{storeLimits, mostMethods, Class, method, class}
 use Rattle.rules.specs.Store.{Entry}
 use Rattle.rules.specs.Classes.{Installed, installed, ClassAt, recordOf, depthUpTo, isKind0, kind0Parent, declaredInstance, MethodAt, firstInstance, ifImplemented, runsUpTo}
 use Rattle.rules.specs.Questions.{own, depthWithin}
@@ -38,11 +38,11 @@ module _ (f s : Bytes) (h : Home) (n : ℕ) where
 
   -- the place of a class's record
   class-at : (i : ℕ) → ClassPlaced f s h n (spots.At i) → (end : ℕ) (es : List Entry) (self : Installed) → Judged f s end es self → (x : Installed) → HomeIs f s end es self h x →
-      (k : Class) → at (x .pack .classes) n ≡ some k → (j : ℕ) × Reads (class standard (x .pack .domains)) (fileOf f s h) i k j
+      (k : Class) → at (x .pack .classes) n ≡ some k → (j : ℕ) × Reads (class (storeLimits s) (x .pack .domains)) (fileOf f s h) i k j
   class-at i p end es self j x o k e =
       let y = placed-at (p end es self (j .parents .imported) x o) in
       let z : y .0 ≡ k = Option·some-injective _ _ (sym (y .2) ∙ e) in
-      (y .1, subst (λ (a : Class). Reads (class standard (x .pack .domains)) (fileOf f s h) i a (y .1)) z (y .3))
+      (y .1, subst (λ (a : Class). Reads (class (storeLimits s) (x .pack .domains)) (fileOf f s h) i a (y .1)) z (y .3))
 
   pub class-nowhere : (i : ℕ) → ClassPlaced f s h n spots.Nothing → ClassThere f s h n → RecordAt f s h n i
   class-nowhere i p t = let c = t .1 in absurd (none-some (sym (placed-none (p (t .0) (c .entries) (c .self) (c .asked .parents .imported) (c .pack) (c .home))) ∙ c .is))
@@ -51,22 +51,22 @@ module _ (f s : Bytes) (h : Home) (n : ℕ) where
   class-there g i z p t =
       let c = t .1 in
       let y = class-at i p (t .0) (c .entries) (c .self) (c .asked) (c .pack) (c .home) (c .class) (c .is) in
-      (standard, c .pack .pack .domains, (c .class, y .0, subst (λ (b : Bytes). Reads (class standard (c .pack .pack .domains)) b i (c .class) (y .0)) (sym z) (y .1)))
+      (storeLimits s, c .pack .pack .domains, (c .class, y .0, subst (λ (b : Bytes). Reads (class (storeLimits s) (c .pack .pack .domains)) b i (c .class) (y .0)) (sym z) (y .1)))
 
   -- the non-static method of a name
   pub instance-is : (g : Bytes) (i name : ℕ) (r : Spot) → g ≡ fileOf f s h → ClassPlaced f s h n (spots.At i) → InstancePlaced g i name r → InstanceAt f s h n name r
   instance-is g i name r z p q end es self j x o k e =
       let y = class-at i p end es self j x o k e in
-      subst (λ (b : Bytes). Placed (method standard (x .pack .domains)) b (declaredInstance k name) (spot r)) z
-      (q standard (x .pack .domains) k (y .0) (subst (λ (b : Bytes). Reads (class standard (x .pack .domains)) b i k (y .0)) (sym z) (y .1)))
+      subst (λ (b : Bytes). Placed (method (storeLimits s) (x .pack .domains)) b (declaredInstance k name) (spot r)) z
+      (q (storeLimits s) (x .pack .domains) k (y .0) (subst (λ (b : Bytes). Reads (class (storeLimits s) (x .pack .domains)) b i k (y .0)) (sym z) (y .1)))
 
   -- the list of methods
   pub methods-in : (g : Bytes) (i r : ℕ) → g ≡ fileOf f s h → ClassPlaced f s h n (spots.At i) → MethodsAt g i r → MethodsIn f s h n r
   methods-in g i r z p q end es self j x o k e =
       let y = class-at i p end es self j x o k e in (
         y .0,
-        subst (λ (b : Bytes). Reads (counted mostMethods u1 (method standard (x .pack .domains))) b r (k .methods) (y .0)) z
-            (q standard (x .pack .domains) k (y .0) (subst (λ (b : Bytes). Reads (class standard (x .pack .domains)) b i k (y .0)) (sym z) (y .1))),
+        subst (λ (b : Bytes). Reads (counted mostMethods u1 (method (storeLimits s) (x .pack .domains))) b r (k .methods) (y .0)) z
+            (q (storeLimits s) (x .pack .domains) k (y .0) (subst (λ (b : Bytes). Reads (class (storeLimits s) (x .pack .domains)) b i k (y .0)) (sym z) (y .1))),
       )
 
   -- the first method of a name: the class declares it
@@ -96,13 +96,13 @@ module _ (f s : Bytes) (h : Home) (n : ℕ) where
         go r (t end es self j (u .0) (u .1) (u .3) (u .4)) (placed-none (p end es self j x o k e)) (u .2)
       where
         go : (r : RunsFound) {y : Installed} → FirstFound f s end es self (record { home = y; number = d .number }) name r → declaredInstance k name ≡ none →
-            kind0Parent (installed standard es) (record { home = x; number = n }) ≡ some (record { home = y; number = d .number }) → FirstFound f s end es self (record { home = x; number = n }) name r
+            kind0Parent (installed (storeLimits s) es) (record { home = x; number = n }) ≡ some (record { home = y; number = d .number }) → FirstFound f s end es self (record { home = x; number = n }) name r
         go (At g i) v w z = (v .0, inherits k _ e w z (v .1), v .2)
-        go Nothing v w z = λ m first. v m (first-up (installed standard es) (record { home = x; number = n }) k e w _ z m first)
+        go Nothing v w z = λ m first. v m (first-up (installed (storeLimits s) es) (record { home = x; number = n }) k e w _ z m first)
 
     pub first-nowhere : Kind0ParentIs f s h n classes.Nothing → FirstIs f s h n name Nothing
     first-nowhere q end es self j x o k e m first =
-        first-not (installed standard es) (record { home = x; number = n }) k e (placed-none (p end es self j x o k e)) (q end es self j x o k e) m first
+        first-not (installed (storeLimits s) es) (record { home = x; number = n }) k e (placed-none (p end es self j x o k e)) (q end es self j x o k e) m first
 
 -- own class b
 module _ (f s : Bytes) (end b : ℕ) where
@@ -117,25 +117,25 @@ module _ (f s : Bytes) (end b : ℕ) where
 
   -- its depth is within the limit
   pub own-depth : (es : List Entry) (self : Installed) → Judged f s end es self → (k : Class) → at (self .pack .classes) b ≡ some k →
-      depthUpTo (installed standard es) (suc (standard .depth)) (own self b) ≤ standard .depth
+      depthUpTo (installed (storeLimits s) es) (suc (storeLimits s .depth)) (own self b) ≤ storeLimits s .depth
   own-depth es self j k e =
-      leb→le (depthUpTo (installed standard es) (suc (standard .depth)) (own self b)) (standard .depth)
-      (allFrom-zero (λ i k. depthWithin standard (installed standard es) self i) (self .pack .classes) b k ((parents-yes standard (installed standard es) self (j .q14)) .depths) e)
+      leb→le (depthUpTo (installed (storeLimits s) es) (suc (storeLimits s .depth)) (own self b)) (storeLimits s .depth)
+      (allFrom-zero (λ i k. depthWithin (storeLimits s) (installed (storeLimits s) es) self i) (self .pack .classes) b k ((parents-yes (storeLimits s) (installed (storeLimits s) es) self (j .q14)) .depths) e)
 
   -- what runs, by the first of the name
   module _ (es : List Entry) (self : Installed) (r : Running f s end b es self) (name : ℕ) where
-    runs-first : (o : MethodAt) → First (installed standard es) (own self b) name o → runsUpTo (installed standard es) (standard .depth) (own self b) name ≡ ifImplemented o
+    runs-first : (o : MethodAt) → First (installed (storeLimits s) es) (own self b) name o → runsUpTo (installed (storeLimits s) es) (storeLimits s .depth) (own self b) name ≡ ifImplemented o
     runs-first o q =
         let y = own-class es self r in
         let z : isKind0 (own self b) ≡ true = is-true (isKind0 (own self b)) (r .kind0) in
-        rw (z, is-first (installed standard es) (standard .depth) (own self b) name o (own-depth es self (r .judged) (y .0) (y .1)) q)
+        rw (z, is-first (installed (storeLimits s) es) (storeLimits s .depth) (own self b) name o (own-depth es self (r .judged) (y .0) (y .1)) q)
 
-    runs-never : ((o : MethodAt) → First (installed standard es) (own self b) name o → ⊥) → runsUpTo (installed standard es) (standard .depth) (own self b) name ≡ none
-    runs-never q = go (firstInstance (installed standard es) (standard .depth) (own self b) name) refl
+    runs-never : ((o : MethodAt) → First (installed (storeLimits s) es) (own self b) name o → ⊥) → runsUpTo (installed (storeLimits s) es) (storeLimits s .depth) (own self b) name ≡ none
+    runs-never q = go (firstInstance (installed (storeLimits s) es) (storeLimits s .depth) (own self b) name) refl
       where
-        go : (o : Option MethodAt) → firstInstance (installed standard es) (standard .depth) (own self b) name ≡ o → runsUpTo (installed standard es) (standard .depth) (own self b) name ≡ none
+        go : (o : Option MethodAt) → firstInstance (installed (storeLimits s) es) (storeLimits s .depth) (own self b) name ≡ o → runsUpTo (installed (storeLimits s) es) (storeLimits s .depth) (own self b) name ≡ none
         go none e = let z : isKind0 (own self b) ≡ true = is-true (isKind0 (own self b)) (r .kind0) in rw (z, e)
-        go (some m) e = absurd (q m (first-is (installed standard es) (standard .depth) (own self b) name m e))
+        go (some m) e = absurd (q m (first-is (installed (storeLimits s) es) (storeLimits s .depth) (own self b) name m e))
 
   module _ (name : ℕ) where
     first-own : (r : RunsFound) → FirstIs f s (ownHome end) b name r → (es : List Entry) (self : Installed) → Running f s end b es self → FirstFound f s end es self (own self b) name r
@@ -150,14 +150,14 @@ module _ (f s : Bytes) (end b : ℕ) where
         first-method t =
             let u = first-own (At h i) p (t .0) (t .1) (t .2) in
             let d : List Aid = u .0 .class .home .pack .domains in
-            (standard, d, (u .0 .method, u .2 .ends, subst (λ (y : Bytes). Reads (method standard d) y i (u .0 .method) (u .2 .ends)) (sym z) (u .2 .reads)))
+            (storeLimits s, d, (u .0 .method, u .2 .ends, subst (λ (y : Bytes). Reads (method (storeLimits s) d) y i (u .0 .method) (u .2 .ends)) (sym z) (u .2 .reads)))
 
         -- the first is implemented
         implemented-is : (b′ : Bool) → ImplementedIs g i b′ → (es : List Entry) (self : Installed) (q : Running f s end b es self) → b′ ≡ (first-own (At h i) p es self q) .0 .method .implemented
         implemented-is b′ y es self q =
             let u = first-own (At h i) p es self q in
             let d : List Aid = u .0 .class .home .pack .domains in
-            y standard d (u .0 .method) (u .2 .ends) (subst (λ (t : Bytes). Reads (method standard d) t i (u .0 .method) (u .2 .ends)) (sym z) (u .2 .reads))
+            y (storeLimits s) d (u .0 .method) (u .2 .ends) (subst (λ (t : Bytes). Reads (method (storeLimits s) d) t i (u .0 .method) (u .2 .ends)) (sym z) (u .2 .reads))
 
         pub runs-this : ImplementedIs g i true → RunsIs f s end b name (At h i)
         runs-this y es self q =

@@ -9,7 +9,7 @@ use mathlib.Core.Option.{Option, none, some, Option·some-injective}
 use lib.Dec.{T}
 use lib.ListN.{drop, getD, drop-of-length-le}
 use Rattle.rules.specs.Bytes.{Bytes, pick, at, find, isSome, someAnd, _andThen_}
-use Rattle.rules.specs.Package.{standard, ClassNumber, Class}
+use Rattle.rules.specs.Package.{Limits, storeLimits, ClassNumber, Class}
 use Rattle.rules.specs.Store.{Entry, loaded}
 use Rattle.rules.specs.Classes.{Installed, installedBy, installed, byAid, packageNumbered, ClassAt, recordOf, classNamed, parentsNamed, isKind0, kind0Parent}
 use Rattle.rules.specs.Questions.{q13-imports, parentExists}
@@ -29,17 +29,17 @@ use Rattle.running.specs.declared.ClassFound.the-variants.{At, Nothing}
 use Rattle.running.proofs.Records.{record-front, at-split}
 
 -- a package that a file names is found the same among more entries
-package-more : (es pre post : List Entry) → es ≡ pre ++ post → (x : Installed) → T (q13-imports (installed standard pre) (x .pack)) → (k : ℕ) →
-    packageNumbered (installed standard pre) x k ≡ packageNumbered (installed standard es) x k
+package-more : (l : Limits) (es pre post : List Entry) → es ≡ pre ++ post → (x : Installed) → T (q13-imports (installed l pre) (x .pack)) → (k : ℕ) →
+    packageNumbered (installed l pre) x k ≡ packageNumbered (installed l es) x k
 unfolding q13-imports
-package-more es pre post are x q zero = refl
-package-more es pre post are x q (suc k) = andThen-cong (at (x .pack .imports) k) _ _ (λ a e.
-    byAid-more (installed standard pre) (installed standard post) a (all-mem (λ c. isSome (byAid (installed standard pre) c)) q (at-mem (x .pack .imports) k a e))
-    ∙ ap (λ (is : List Installed). byAid is a) (sym (flat-append (installedBy standard) pre post) ∙ ap (installed standard) (sym are)))
+package-more l es pre post are x q zero = refl
+package-more l es pre post are x q (suc k) = andThen-cong (at (x .pack .imports) k) _ _ (λ a e.
+    byAid-more (installed l pre) (installed l post) a (all-mem (λ c. isSome (byAid (installed l pre) c)) q (at-mem (x .pack .imports) k a e))
+    ∙ ap (λ (is : List Installed). byAid is a) (sym (flat-append (installedBy l) pre post) ∙ ap (installed l) (sym are)))
 
-named-more : (es pre post : List Entry) → es ≡ pre ++ post → (x : Installed) → T (q13-imports (installed standard pre) (x .pack)) → (p : ClassNumber) →
-    classNamed (installed standard pre) x p ≡ classNamed (installed standard es) x p
-named-more es pre post are x q p = ap (λ (o : Option Installed). o andThen λ i. some (record { home = i; number = p .class })) (package-more es pre post are x q (p .pack))
+named-more : (l : Limits) (es pre post : List Entry) → es ≡ pre ++ post → (x : Installed) → T (q13-imports (installed l pre) (x .pack)) → (p : ClassNumber) →
+    classNamed (installed l pre) x p ≡ classNamed (installed l es) x p
+named-more l es pre post are x q p = ap (λ (o : Option Installed). o andThen λ i. some (record { home = i; number = p .class })) (package-more l es pre post are x q (p .pack))
 
 -- a class that a package names and that is there
 pub record Exists (is : List Installed) (x : Installed) (p : ClassNumber) : Type 0 where
@@ -55,21 +55,21 @@ exists-is is x n p h =
 module _ (f s : Bytes) (end : ℕ) (es : List Entry) (self : Installed) where
   -- each parent exists, at any home
   pub parent-exists : Parents f s end es self → (h : Home) (x : Installed) → HomeIs f s end es self h x → (n : ℕ) (k : Class) → at (x .pack .classes) n ≡ some k →
-      (p : ClassNumber) → List·Memᴰ p (k .parents) → Exists (installed standard es) x p
+      (p : ClassNumber) → List·Memᴰ p (k .parents) → Exists (installed (storeLimits s) es) x p
   parent-exists g _ _ homes.own n k e p m =
-      exists-is (installed standard es) self n p (all-mem _ (allFrom-zero _ (self .pack .classes) n k (g .exist) e) m)
+      exists-is (installed (storeLimits s) es) self n p (all-mem _ (allFrom-zero _ (self .pack .classes) n k (g .exist) e) m)
   parent-exists g h x (homes.stored t) n k e p m =
       let y = stored-yes f s end es self (g .imported .setting) h x t in
-      let q = (parents-yes standard (installed standard (t .pre)) (record { domain = x .domain; pack = x .pack }) (y .inside .q14)) .exist in
-      let r = exists-is (installed standard (t .pre)) x n p (all-mem _ (allFrom-zero _ (x .pack .classes) n k q e) m) in
-      let z = named-more es (t .pre) (loaded (x .domain) (part s (h .from) (h .to)) ∷ t .post) (t .are) x (y .q13) p in
+      let q = (parents-yes (storeLimits s) (installed (storeLimits s) (t .pre)) (record { domain = x .domain; pack = x .pack }) (y .inside .q14)) .exist in
+      let r = exists-is (installed (storeLimits s) (t .pre)) x n p (all-mem _ (allFrom-zero _ (x .pack .classes) n k q e) m) in
+      let z = named-more (storeLimits s) es (t .pre) (loaded (x .domain) (part s (h .from) (h .to)) ∷ t .post) (t .are) x (y .q13) p in
       record { class = r .class; named = sym z ∙ r .named; there = r .there }
 
   -- the class that a number and a home stand for
-  named-at : (x y : Installed) (p : ClassNumber) (g : Home) (m : ℕ) → m ≡ p .class → HomeIs f s end es self g y → packageNumbered (installed standard es) x (p .pack) ≡ some y →
-      Exists (installed standard es) x p → NamedAt f s end es self x p (record { home = g; number = m })
+  named-at : (x y : Installed) (p : ClassNumber) (g : Home) (m : ℕ) → m ≡ p .class → HomeIs f s end es self g y → packageNumbered (installed (storeLimits s) es) x (p .pack) ≡ some y →
+      Exists (installed (storeLimits s) es) x p → NamedAt f s end es self x p (record { home = g; number = m })
   named-at x y p g m e o q r =
-      let z : classNamed (installed standard es) x p ≡ some (record { home = y; number = m }) = rw (q, e) in
+      let z : classNamed (installed (storeLimits s) es) x p ≡ some (record { home = y; number = m }) = rw (q, e) in
       let c : r .class ≡ record { home = y; number = m } = Option·some-injective _ _ (sym (r .named) ∙ z) in
       let k = some-is (at (y .pack .classes) m) (subst (λ (d : ClassAt). T (isSome (recordOf d))) c (r .there)) in
       record { pack = y; home = o; named = z; class = k .0; is = k .1 }
@@ -96,9 +96,9 @@ module _ (f s : Bytes) (end : ℕ) (es : List Entry) (self : Installed) where
       go : (a : ℕ) → p .pack ≡ a → NumberedIs f s h a found.Nothing → ⊥
       go zero w q = let z : _≡_ {A = ℕ} 0 1 = cc in omega arith
       go (suc a) w q =
-          let t : packageNumbered (installed standard es) x (suc a) ≡ none = q end es self (j .parents .imported) x o in
+          let t : packageNumbered (installed (storeLimits s) es) x (suc a) ≡ none = q end es self (j .parents .imported) x o in
           let r = parent-exists (j .parents) h x o n k e p mem in
-          let z : classNamed (installed standard es) x p ≡ none = rw (w, t) in
+          let z : classNamed (installed (storeLimits s) es) x p ≡ none = rw (w, t) in
           none-some (sym z ∙ r .named)
 
 module _ (f s : Bytes) (h : Home) (n i : ℕ) (r : Bytes) (p : RecordIs f s h n r) (a b : ℕ) (ea : a ≡ getD r (2 + 2 * i) 0) (eb : b ≡ getD r (3 + 2 * i) 0) where
@@ -119,7 +119,7 @@ module _ (f s : Bytes) (h : Home) (n i : ℕ) (r : Bytes) (p : RecordIs f s h n 
 -- the first parent of kind 0 is that of the parents from i on
 abbrev pub Kind0From : Bytes → Bytes → Home → ℕ → ℕ → Type 0
 Kind0From f s h n i = AtClass f s h n λ end es self x k.
-    kind0Parent (installed standard es) (record { home = x; number = n }) ≡ find isKind0 (parentsNamed (installed standard es) x (drop i (k .parents)))
+    kind0Parent (installed (storeLimits s) es) (record { home = x; number = n }) ≡ find isKind0 (parentsNamed (installed (storeLimits s) es) x (drop i (k .parents)))
 
 pub named-first : (is : List Installed) (x : Installed) (p : ClassNumber) (ps : List ClassNumber) (c : ClassAt) (b : Bool) → classNamed is x p ≡ some c → isKind0 c ≡ b →
     find isKind0 (parentsNamed is x (p ∷ ps)) ≡ pick b (some c) (find isKind0 (parentsNamed is x ps))
@@ -132,7 +132,7 @@ module _ (f s : Bytes) (h : Home) (n count i : ℕ) (q : CountIs f s h n count) 
   pub kind0-none : count ≤ i → Kind0ParentIs f s h n Nothing
   kind0-none z end es self j x o k e =
       let d : drop i (k .parents) ≡ [] = drop-of-length-le (k .parents) {i = i} (omega (arith, q end es self j x o k e)) in
-      inv end es self j x o k e ∙ ap (λ (ps : List ClassNumber). find isKind0 (parentsNamed (installed standard es) x ps)) d
+      inv end es self j x o k e ∙ ap (λ (ps : List ClassNumber). find isKind0 (parentsNamed (installed (storeLimits s) es) x ps)) d
 
   pub parent-there : (t : ClassThere f s h n) → i < count → ParentThere f s h n i
   parent-there t z = let c = t .1 in record { class = t; inside = omega (arith, q (t .0) (c .entries) (c .self) (c .asked) (c .pack) (c .home) (c .class) (c .is)) }
@@ -154,7 +154,7 @@ module _ (f s : Bytes) (h : Home) (n count i : ℕ) (q : CountIs f s h n count) 
         let w : isKind0 (record { home = c .pack; number = r .number }) ≡ true = sym (y end es self j (c .pack) (c .home) (c .class) (c .is)) in (
           c .pack,
           c .home,
-          inv end es self j x o k e ∙ ap (λ (ps : List ClassNumber). find isKind0 (parentsNamed (installed standard es) x ps)) (m .2) ∙ named-first (installed standard es) x (m .0) (drop (suc i) (k .parents)) _ true (c .named) w,
+          inv end es self j x o k e ∙ ap (λ (ps : List ClassNumber). find isKind0 (parentsNamed (installed (storeLimits s) es) x ps)) (m .2) ∙ named-first (installed (storeLimits s) es) x (m .0) (drop (suc i) (k .parents)) _ true (c .named) w,
           c .class,
           c .is,
         )
@@ -164,5 +164,5 @@ module _ (f s : Bytes) (h : Home) (n count i : ℕ) (q : CountIs f s h n count) 
         let m = at-split (k .parents) i (omega (arith, q end es self j x o k e)) in
         let c = (p end es self j x o k e (m .0) (m .1)) .0 in
         let w : isKind0 (record { home = c .pack; number = r .number }) ≡ false = sym (y end es self j (c .pack) (c .home) (c .class) (c .is)) in
-        inv end es self j x o k e ∙ ap (λ (ps : List ClassNumber). find isKind0 (parentsNamed (installed standard es) x ps)) (m .2) ∙ named-first (installed standard es) x (m .0) (drop (suc i) (k .parents)) _ false (c .named) w
-        ∙ ap (λ (v : ℕ). find isKind0 (parentsNamed (installed standard es) x (drop v (k .parents)))) (sym (add-one i))
+        inv end es self j x o k e ∙ ap (λ (ps : List ClassNumber). find isKind0 (parentsNamed (installed (storeLimits s) es) x ps)) (m .2) ∙ named-first (installed (storeLimits s) es) x (m .0) (drop (suc i) (k .parents)) _ false (c .named) w
+        ∙ ap (λ (v : ℕ). find isKind0 (parentsNamed (installed (storeLimits s) es) x (drop v (k .parents)))) (sym (add-one i))

@@ -10,10 +10,11 @@ use lib.ListN.{length, drop, getD, length-drop}
 use lib.Seq.{getD-drop}
 use borrow.Author.Tests.{eq-eqb, ne-eqb}
 use Rattle.rules.specs.Bytes.{Bytes, Aid, at, u1}
-use Rattle.rules.specs.Package.{standard, ClassNumber, Class, classNumber, class}
+use Rattle.rules.specs.Package.{Limits, storeLimits, ClassNumber, Class, classNumber, class}
 use Rattle.rules.specs.Store.{Entry}
 use Rattle.rules.specs.Classes.{Installed}
 use Rattle.rules.proofs.Tests.{none-some}
+use Rattle.rules.proofs.Limits.{limits-range}
 use Rattle.places.specs.Reads.{Reads, Placed}
 use Rattle.places.proofs.Steady.{steady-u1, steady-number}
 use Rattle.places.proofs.Inverse.{reads-counted, reads-u1}
@@ -30,7 +31,7 @@ use Rattle.running.specs.Say.{Judged, ClassThere, CountIs, ParentThere, 
 pub record Front (k : Class) (r : Bytes) : Type 0 where
   pub kind : eqb (getD r 0 0) 1 ≡ k .interface
   pub count : getD r 1 0 ≡ length (k .parents)
-  pub few : getD r 1 0 ≤ 4
+  pub few : getD r 1 0 ≤ 8
   pub inside : 2 + 2 * getD r 1 0 ≤ length r
   pub pair : (i : ℕ) (p : ClassNumber) → at (k .parents) i ≡ some p → (getD r (2 + 2 * i) 0 ≡ p .pack) × (getD r (3 + 2 * i) 0 ≡ p .class)
 
@@ -54,19 +55,18 @@ at-inside [] i x e = absurd (none-some e)
 at-inside (y ∷ ys) zero x e = omega arith
 at-inside (y ∷ ys) (suc i) x e = let h = at-inside ys i x e in omega arith
 
-module _ (ds : List Aid) (g : Bytes) (c : ℕ) (k : Class) (j : ℕ) (p : Reads (class standard ds) g c k j) where
+module _ (l : Limits) (few : l .parents ≤ 8) (ds : List Aid) (g : Bytes) (c : ℕ) (k : Class) (j : ℕ) (p : Reads (class l ds) g c k j) where
   pub front : Front k (drop c g)
-  unfolding standard
   front =
-      let t = class-part standard ds g c k j p in
-      let u = reads-counted (standard .parents) u1 classNumber steady-u1 g (c + 1) (k .parents) (t .middle) (t .parents) in
+      let t = class-part l ds g c k j p in
+      let u = reads-counted (l .parents) u1 classNumber steady-u1 g (c + 1) (k .parents) (t .middle) (t .parents) in
       let w = reads-u1 g (c + 1) (u .number) (u .place) (u .count) in
       let len = many-length classNumber steady-number (u .number) g (u .place) (k .parents) (t .middle) (u .list) in
       let wide : (i : ℕ) (a : ClassNumber) (e : ℕ) → Reads classNumber g i a e → i + 2 ≡ e = λ i a e q. (number-part g i a e q) .next in
       let far = many-wide classNumber steady-number 2 g wide (u .number) (u .place) (k .parents) (t .middle) (u .list) in
       let one : getD (drop c g) 1 0 ≡ u .number = getD-drop c g 1 0 ∙ w .byte in
       let zeroth : c + 0 ≡ c = omega arith in
-      let small : u .number ≤ 4 = u .small in
+      let small : u .number ≤ 8 = omega (arith, u .small) in
       record {
         kind = ap (λ (b : ℕ). eqb b 1) (getD-drop c g 0 0 ∙ ap (λ (i : ℕ). getD g i 0) zeroth) ∙ t .interface;
         count = one ∙ sym len;
@@ -95,11 +95,11 @@ module _ (f s : Bytes) (h : Home) (n : ℕ) where
         let t = p end es self (j .parents .imported) x o in
         go (t .0) (t .1) (t .2)
       where
-        go : (c : Spot) → Placed (class standard (x .pack .domains)) (fileOf f s h) (at (x .pack .classes) n) (spot c) → r ≡ recordFrom (fileOf f s h) c → Front k r
+        go : (c : Spot) → Placed (class (storeLimits s) (x .pack .domains)) (fileOf f s h) (at (x .pack .classes) n) (spot c) → r ≡ recordFrom (fileOf f s h) c → Front k r
         go (At c) q z =
             let y = placed-at q in
             let same : y .0 ≡ k = Option·some-injective _ _ (sym (y .2) ∙ e) in
-            subst (λ (b : Bytes). Front k b) (sym z) (subst (λ (a : Class). Front a (drop c (fileOf f s h))) same (front (x .pack .domains) (fileOf f s h) c (y .0) (y .1) (y .3)))
+            subst (λ (b : Bytes). Front k b) (sym z) (subst (λ (a : Class). Front a (drop c (fileOf f s h))) same (front (storeLimits s) ((limits-range s) .1) (x .pack .domains) (fileOf f s h) c (y .0) (y .1) (y .3)))
         go Nothing q z = absurd (none-some (sym (placed-none q) ∙ e))
 
     there-front : (t : ClassThere f s h n) → Front (t .1 .class) r
@@ -112,11 +112,11 @@ module _ (f s : Bytes) (h : Home) (n : ℕ) where
     pub count-is : (m : ℕ) → m ≡ getD r 1 0 → CountIs f s h n m
     count-is m z end es self j x o k e = z ∙ (record-front end es self j x o k e) .count
 
-    pub count-few : (m : ℕ) → m ≡ getD r 1 0 → ClassThere f s h n → m ≤ 4
+    pub count-few : (m : ℕ) → m ≡ getD r 1 0 → ClassThere f s h n → m ≤ 8
     count-few m z t = omega (arith, (there-front t) .few)
 
     -- the places of parent i
-    pub pair-inside : (i : ℕ) → ParentThere f s h n i → (i < 4) × (3 + 2 * i < length r)
+    pub pair-inside : (i : ℕ) → ParentThere f s h n i → (i < 8) × (3 + 2 * i < length r)
     pair-inside i t = let u = there-front (t .class) in (omega (arith, t .inside, u .count, u .few), omega (arith, t .inside, u .count, u .inside))
 
     -- the kind

@@ -11,7 +11,7 @@ use lib.Dec.{eqb, eqb→eq}
 use lib.ListN.{length, getD, set, length-set}
 use lib.Seq.{getD-set-same, getD-set-other}
 use Rattle.rules.specs.Bytes.{Bytes, at, listOf}
-use Rattle.rules.specs.Package.{standard, ClassNumber, Class, Package}
+use Rattle.rules.specs.Package.{storeLimits, ClassNumber, Class, Package}
 use Rattle.rules.specs.Store.{Entry}
 use Rattle.rules.specs.Classes.{Installed, installed, ClassAt, recordOf, classNamed, parentsOf}
 use Rattle.rules.specs.Questions.{own, runningAllows}
@@ -78,17 +78,17 @@ module _ (f s : Bytes) (end b : ℕ) (h : Home) (n : ℕ) where
   class-parent-no left q es self r x o k e =
       let t = q es self r x o k e in
       let u = t .5 in
-      (u .0, below (named-parent (installed standard es) (record { home = x; number = n }) k e (t .1) (at-mem (k .parents) (t .0) (t .1) (t .2)) (t .3) (t .4)) (u .1), u .2)
+      (u .0, below (named-parent (installed (storeLimits s) es) (record { home = x; number = n }) k e (t .1) (at-mem (k .parents) (t .0) (t .1) (t .2)) (t .3) (t .4)) (u .1), u .2)
 
   -- all pass
   pub class-yes : (left : ℕ) → MethodsPass f s end b h n true → CountIs f s h n left → ParentsPass f s end b h n left true → ClassPasses f s end b h n true
-  class-yes left m q p es self r x o k e a w = go (below-cases (installed standard es) (record { home = x; number = n }) a w)
+  class-yes left m q p es self r x o k e a w = go (below-cases (installed (storeLimits s) es) (record { home = x; number = n }) a w)
     where
-      go : (record { home = x; number = n } ≡ a) ⊎ ((d : ClassAt) × List·Memᴰ d (parentsOf (installed standard es) (record { home = x; number = n })) × IsOrBelow (installed standard es) d a) →
-          runningAllows standard (installed standard es) (own self b) a ≡ true
-      go (inl z) = subst (λ (c : ClassAt). runningAllows standard (installed standard es) (own self b) c ≡ true) z (sym (m es self r x o k e))
+      go : (record { home = x; number = n } ≡ a) ⊎ ((d : ClassAt) × List·Memᴰ d (parentsOf (installed (storeLimits s) es) (record { home = x; number = n })) × IsOrBelow (installed (storeLimits s) es) d a) →
+          runningAllows (storeLimits s) (installed (storeLimits s) es) (own self b) a ≡ true
+      go (inl z) = subst (λ (c : ClassAt). runningAllows (storeLimits s) (installed (storeLimits s) es) (own self b) c ≡ true) z (sym (m es self r x o k e))
       go (inr u) =
-          let y = parent-named-is (installed standard es) (record { home = x; number = n }) k e (u .0) (u .1) in
+          let y = parent-named-is (installed (storeLimits s) es) (record { home = x; number = n }) k e (u .0) (u .1) in
           let i = mem-at (k .parents) (y .0) (y .1) in
           p es self r x o k e (i .0) (omega (arith, q end es self (r .judged) x o k e, at-inside (k .parents) (i .0) (y .0) (i .1))) (y .0) (i .1) (u .0) (y .2) a (u .2)
 
@@ -123,11 +123,11 @@ module _ (f s : Bytes) (end b : ℕ) (h : Home) (n : ℕ) where
 
         hold : (g : Home) (l : ℕ) → getD (set memo (key h n) mark) (key g l) 0 ≡ mark → (es : List Entry) (self : Installed) → Running f s end b es self →
             (x : Installed) → HomeIs f s end es self g x → (k : Class) → at (x .pack .classes) l ≡ some k →
-            (key g l ≡ key h n) ⊎ (key g l ≡ key h n → ⊥) → Passes (installed standard es) self b (record { home = x; number = l })
+            (key g l ≡ key h n) ⊎ (key g l ≡ key h n → ⊥) → Passes (storeLimits s) (installed (storeLimits s) es) self b (record { home = x; number = l })
         hold g l e es self r x o k q (inr d) = m .hold g l (sym (getD-set-other memo (key h n) (key g l) mark 0 d) ∙ e) es self r x o k q
         hold g l e es self r x o k q (inl d) =
             let y = key-one f s end es (t .entries) self (t .self) (r .judged .parents .imported .setting) (t .asked .judged .parents .imported .setting) g h x (t .pack) o (t .home) l n k (t .class) q (t .is) d in
-            subst (λ (i : ℕ). Passes (installed standard es) self b (record { home = x; number = i })) (sym (y .1))
+            subst (λ (i : ℕ). Passes (storeLimits s) (installed (storeLimits s) es) self b (record { home = x; number = i })) (sym (y .1))
             (p es self r x (subst (λ (a : Home). HomeIs f s end es self a x) (y .0) o) k (subst (λ (i : ℕ). at (x .pack .classes) i ≡ some k) (y .1) q))
 
     pub mark-after : length s ≤ 65535 → WalkThere f s end b h n → ClassPasses f s end b h n true → (m′ : List ℕ) → m′ ≡ set memo (key h n) mark → Marks f s end b mark m′
@@ -186,7 +186,7 @@ module _ (f s : Bytes) (end b : ℕ) (h : Home) (n : ℕ) where
               let last : i ≡ left - 1 = omega arith in
               let u = (p end es self (r .judged) x o k e p′ (subst (λ (j : ℕ). at (k .parents) j ≡ some p′) last at-i)) .0 in
               let same : record { home = u .pack; number = c .number } ≡ d = Option·some-injective _ _ (sym (u .named) ∙ named) in
-              subst (λ (a : ClassAt). Passes (installed standard es) self b a) same (q es self r (u .pack) (u .home) (u .class) (u .is))
+              subst (λ (a : ClassAt). Passes (storeLimits s) (installed (storeLimits s) es) self b a) same (q es self r (u .pack) (u .home) (u .class) (u .is))
         ]
 
         pub parents-more : (v : Bool) → ParentsPass f s end b h n (left - 1) v → ParentsPass f s end b h n left v

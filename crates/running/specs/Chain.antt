@@ -11,7 +11,7 @@ use mathlib.Core.Path.{_≡_}
 use mathlib.Core.List.{List}
 use lib.ListN.{length, getD, set}
 use Rattle.rules.specs.Bytes.{Bytes}
-use Rattle.rules.specs.Package.{standard}
+use Rattle.rules.specs.Package.{storeLimits}
 use Rattle.rules.specs.Classes.{installed, depthUpTo}
 use Rattle.files.specs.declared.Spot.the-variants as spots
 use Rattle.homes.specs.Homes.{ownHome, ClassPlaced}
@@ -24,12 +24,12 @@ use Rattle.running.specs.declared.ClassFound.the-variants as classes
 abbrev pub RecordAt : Bytes → Bytes → Home → ℕ → ℕ → Type 0
 RecordAt f s h n i = ClassPlaced f s h n (spots.At i)
 
--- a chain has as many classes at most as the greatest depth, and four numbers for each
+-- a chain has as many classes at most as the greatest depth that any limits allow, and four numbers for each
 abbrev pub mostLinks : ℕ
-mostLinks = 8
+mostLinks = 16
 
 abbrev pub chainLength : ℕ
-chainLength = 32
+chainLength = 64
 
 -- the home and the place of class i of a chain
 abbrev pub linkHome : List ℕ → ℕ → Home
@@ -63,7 +63,7 @@ pub record ChainRoom (f s : Bytes) (i : ℕ) (h : Home) (n : ℕ) : Type 0 where
   pub class : ClassThere f s h n
   pub depth : ℕ
   pub room : i + depth ≤ mostLinks
-  pub within : depthUpTo (installed standard (class .1 .entries)) (suc depth) (record { home = class .1 .pack; number = n }) ≤ depth
+  pub within : depthUpTo (installed (storeLimits s) (class .1 .entries)) (suc depth) (record { home = class .1 .pack; number = n }) ≤ depth
 
 -- the chain of own class b
 pub record ChainIs (f s : Bytes) (end b : ℕ) (chain : List ℕ) (links : ℕ) : Type 0 where

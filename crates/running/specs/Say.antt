@@ -18,7 +18,7 @@ use mathlib.Core.Option.{Option, none, some}
 use lib.Dec.{T}
 use lib.ListN.{length, getD}
 use Rattle.rules.specs.Bytes.{Bytes, all, at, noneOr, u1, counted}
-use Rattle.rules.specs.Package.{Limits, standard, mostMethods, ClassNumber, Class, Package, method, readFile}
+use Rattle.rules.specs.Package.{Limits, storeLimits, mostMethods, ClassNumber, Class, Package, method, readFile}
 use Rattle.rules.specs.Store.{Entry}
 use Rattle.rules.specs.Classes.{Installed, installed, ClassAt, classNamed, ancestorsUpTo, isKind0, kind0Parent, declaredInstance, MethodAt, runsUpTo, allowsAllOf}
 use Rattle.rules.specs.Questions.{own, q14-parents, runningAllows, q20-running}
@@ -39,7 +39,7 @@ use Rattle.running.specs.declared.RunsFound.the-variants as methods
 -- questions 13 and 14 were answered yes
 pub record Judged (f s : Bytes) (end : ℕ) (es : List Entry) (self : Installed) : Type 0 where
   pub parents : Parents f s end es self
-  pub q14 : T (q14-parents standard (installed standard es) self)
+  pub q14 : T (q14-parents (storeLimits s) (installed (storeLimits s) es) self)
 
 -- and own class b is of kind 0
 pub record Running (f s : Bytes) (end b : ℕ) (es : List Entry) (self : Installed) : Type 0 where
@@ -84,7 +84,7 @@ rank h n = 256 * h .before + n
 pub record NamedAt (f s : Bytes) (end : ℕ) (es : List Entry) (self x : Installed) (p : ClassNumber) (r : ClassSpot) : Type 0 where
   pub pack : Installed
   pub home : HomeIs f s end es self (r .home) pack
-  pub named : classNamed (installed standard es) x p ≡ some (record { home = pack; number = r .number })
+  pub named : classNamed (installed (storeLimits s) es) x p ≡ some (record { home = pack; number = r .number })
   pub class : Class
   pub is : at (pack .pack .classes) (r .number) ≡ some class
 
@@ -103,28 +103,28 @@ FoundAt f s end es self o (classes.At r) = (y : Installed) × HomeIs f s end es 
 FoundAt f s end es self o classes.Nothing = o ≡ none
 
 abbrev pub Kind0ParentIs : Bytes → Bytes → Home → ℕ → ClassFound → Type 0
-Kind0ParentIs f s h n r = AtClass f s h n λ end es self x k. FoundAt f s end es self (kind0Parent (installed standard es) (record { home = x; number = n })) r
+Kind0ParentIs f s h n r = AtClass f s h n λ end es self x k. FoundAt f s end es self (kind0Parent (installed (storeLimits s) es) (record { home = x; number = n })) r
 
 -- methods: a class record stands at a place
 abbrev pub RecordThere : Bytes → ℕ → Type 0
 RecordThere g i = files.ClassThere g i
 
 abbrev pub InstanceAt : Bytes → Bytes → Home → ℕ → ℕ → Spot → Type 0
-InstanceAt f s h n name r = AtClass f s h n λ end es self x k. Placed (method standard (x .pack .domains)) (fileOf f s h) (declaredInstance k name) (spot r)
+InstanceAt f s h n name r = AtClass f s h n λ end es self x k. Placed (method (storeLimits s) (x .pack .domains)) (fileOf f s h) (declaredInstance k name) (spot r)
 
 abbrev pub MethodsIn : Bytes → Bytes → Home → ℕ → ℕ → Type 0
-MethodsIn f s h n r = AtClass f s h n λ end es self x k. (j : ℕ) × Reads (counted mostMethods u1 (method standard (x .pack .domains))) (fileOf f s h) r (k .methods) j
+MethodsIn f s h n r = AtClass f s h n λ end es self x k. (j : ℕ) × Reads (counted mostMethods u1 (method (storeLimits s) (x .pack .domains))) (fileOf f s h) r (k .methods) j
 
 -- the method o stands at place i of the file at home h
 pub record MethodIn (f s : Bytes) (end : ℕ) (es : List Entry) (self : Installed) (h : Home) (i : ℕ) (o : MethodAt) : Type 0 where
   pub home : HomeIs f s end es self h (o .class .home)
   pub ends : ℕ
-  pub reads : Reads (method standard (o .class .home .pack .domains)) (fileOf f s h) i (o .method) ends
+  pub reads : Reads (method (storeLimits s) (o .class .home .pack .domains)) (fileOf f s h) i (o .method) ends
 
 -- the method told is the first that declares a non-static one of the name, or there is none
 abbrev pub FirstFound : Bytes → Bytes → ℕ → List Entry → Installed → ClassAt → ℕ → RunsFound → Type 0
-FirstFound f s end es self c name (methods.At h i) = (o : MethodAt) × First (installed standard es) c name o × MethodIn f s end es self h i o
-FirstFound f s end es self c name methods.Nothing = (o : MethodAt) → First (installed standard es) c name o → ⊥
+FirstFound f s end es self c name (methods.At h i) = (o : MethodAt) × First (installed (storeLimits s) es) c name o × MethodIn f s end es self h i o
+FirstFound f s end es self c name methods.Nothing = (o : MethodAt) → First (installed (storeLimits s) es) c name o → ⊥
 
 abbrev pub FirstIs : Bytes → Bytes → Home → ℕ → ℕ → RunsFound → Type 0
 FirstIs f s h n name r = AtClass f s h n λ end es self x k. FirstFound f s end es self (record { home = x; number = n }) name r
@@ -149,7 +149,7 @@ RunningThere f s end b = (es : List Entry) × (self : Installed) × Running f s 
 
 abbrev pub RunsIs : Bytes → Bytes → ℕ → ℕ → ℕ → RunsFound → Type 0
 RunsIs f s end b name r = (es : List Entry) (self : Installed) → Running f s end b es self →
-    RunsAt f s end es self (runsUpTo (installed standard es) (standard .depth) (own self b) name) r
+    RunsAt f s end es self (runsUpTo (installed (storeLimits s) es) (storeLimits s .depth) (own self b) name) r
 
 -- two methods where they stand
 abbrev pub BothThere : Bytes → Bytes → Home → ℕ → Home → ℕ → Type 0
@@ -161,15 +161,15 @@ AllowsAllOf f s g i h j r = (end : ℕ) (es : List Entry) (self : Installed) →
     (m : MethodAt) → MethodIn f s end es self g i m → (o : MethodAt) → MethodIn f s end es self h j o → r ≡ allowsAllOf m o
 
 -- what runs for b allows all that a non-static method allows
-abbrev pub methodPasses : List Installed → ClassAt → MethodAt → Bool
-methodPasses is b o = o .method .static || noneOr (runsUpTo is (standard .depth) b (o .method .name)) (λ r. allowsAllOf r o)
+abbrev pub methodPasses : Limits → List Installed → ClassAt → MethodAt → Bool
+methodPasses l is b o = o .method .static || noneOr (runsUpTo is (l .depth) b (o .method .name)) (λ r. allowsAllOf r o)
 
 abbrev pub MethodThere : Bytes → Bytes → ℕ → ℕ → Home → ℕ → Type 0
 MethodThere f s end b h i = (es : List Entry) × (self : Installed) × Running f s end b es self × (o : MethodAt) × MethodIn f s end es self h i o
 
 abbrev pub MethodPasses : Bytes → Bytes → ℕ → ℕ → Home → ℕ → Bool → Type 0
 MethodPasses f s end b h i r = (es : List Entry) (self : Installed) → Running f s end b es self →
-    (o : MethodAt) → MethodIn f s end es self h i o → r ≡ methodPasses (installed standard es) (own self b) o
+    (o : MethodAt) → MethodIn f s end es self h i o → r ≡ methodPasses (storeLimits s) (installed (storeLimits s) es) (own self b) o
 
 -- class n at home h, for own class b
 abbrev pub WalkThere : Bytes → Bytes → ℕ → ℕ → Home → ℕ → Type 0
@@ -179,15 +179,15 @@ abbrev pub OfWalk : Bytes → Bytes → ℕ → ℕ → Home → ℕ → (List E
 OfWalk f s end b h n q = OfClass (Running f s end b) f s end h n q
 
 abbrev pub MethodsPass : Bytes → Bytes → ℕ → ℕ → Home → ℕ → Bool → Type 0
-MethodsPass f s end b h n r = OfWalk f s end b h n λ es self x k. r ≡ runningAllows standard (installed standard es) (own self b) (record { home = x; number = n })
+MethodsPass f s end b h n r = OfWalk f s end b h n λ es self x k. r ≡ runningAllows (storeLimits s) (installed (storeLimits s) es) (own self b) (record { home = x; number = n })
 
 -- a class and its ancestors pass for own class b
-abbrev pub Passes : List Installed → Installed → ℕ → ClassAt → Type 0
-Passes is self b c = (a : ClassAt) → IsOrBelow is c a → runningAllows standard is (own self b) a ≡ true
+abbrev pub Passes : Limits → List Installed → Installed → ℕ → ClassAt → Type 0
+Passes l is self b c = (a : ClassAt) → IsOrBelow is c a → runningAllows l is (own self b) a ≡ true
 
 -- or one does not
-abbrev pub Fails : List Installed → Installed → ℕ → ClassAt → Type 0
-Fails is self b c = (a : ClassAt) × IsOrBelow is c a × (runningAllows standard is (own self b) a ≡ false)
+abbrev pub Fails : Limits → List Installed → Installed → ℕ → ClassAt → Type 0
+Fails l is self b c = (a : ClassAt) × IsOrBelow is c a × (runningAllows l is (own self b) a ≡ false)
 
 -- the first where the answer is yes, else the second
 abbrev pub Answers : Type 0 → Type 0 → Bool → Type 0
@@ -196,13 +196,13 @@ Answers p q false = q
 
 abbrev pub ClassPasses : Bytes → Bytes → ℕ → ℕ → Home → ℕ → Bool → Type 0
 ClassPasses f s end b h n r = OfWalk f s end b h n λ es self x k.
-    Answers (Passes (installed standard es) self b (record { home = x; number = n })) (Fails (installed standard es) self b (record { home = x; number = n })) r
+    Answers (Passes (storeLimits s) (installed (storeLimits s) es) self b (record { home = x; number = n })) (Fails (storeLimits s) (installed (storeLimits s) es) self b (record { home = x; number = n })) r
 
 -- of the first `left` parents
 abbrev pub ParentsPass : Bytes → Bytes → ℕ → ℕ → Home → ℕ → ℕ → Bool → Type 0
 ParentsPass f s end b h n left r = OfWalk f s end b h n λ es self x k. Answers
-    ((i : ℕ) → i < left → (p : ClassNumber) → at (k .parents) i ≡ some p → (c : ClassAt) → classNamed (installed standard es) x p ≡ some c → Passes (installed standard es) self b c)
-    ((i : ℕ) × (p : ClassNumber) × (at (k .parents) i ≡ some p) × (c : ClassAt) × (classNamed (installed standard es) x p ≡ some c) × Fails (installed standard es) self b c)
+    ((i : ℕ) → i < left → (p : ClassNumber) → at (k .parents) i ≡ some p → (c : ClassAt) → classNamed (installed (storeLimits s) es) x p ≡ some c → Passes (storeLimits s) (installed (storeLimits s) es) self b c)
+    ((i : ℕ) × (p : ClassNumber) × (at (k .parents) i ≡ some p) × (c : ClassAt) × (classNamed (installed (storeLimits s) es) x p ≡ some c) × Fails (storeLimits s) (installed (storeLimits s) es) self b c)
     r
 
 -- that many parents are there
@@ -214,7 +214,7 @@ pub record ParentsThere (f s : Bytes) (end b : ℕ) (h : Home) (n left : ℕ) : 
 pub record Marks (f s : Bytes) (end b mark : ℕ) (memo : List ℕ) : Type 0 where
   pub below : MemoBelow mark memo
   pub fits : mark ≤ 65535
-  pub hold : (h : Home) (n : ℕ) → getD memo (key h n) 0 ≡ mark → OfWalk f s end b h n λ es self x k. Passes (installed standard es) self b (record { home = x; number = n })
+  pub hold : (h : Home) (n : ℕ) → getD memo (key h n) 0 ≡ mark → OfWalk f s end b h n λ es self x k. Passes (storeLimits s) (installed (storeLimits s) es) self b (record { home = x; number = n })
 
 -- the mark stands at a place of the memo, or not
 abbrev pub SeenIs : List ℕ → ℕ → ℕ → Bool → Type 0
@@ -226,15 +226,15 @@ OwnThere f s end b = (es : List Entry) × (self : Installed) × Judged f s end e
 
 abbrev pub OwnPasses : Bytes → Bytes → ℕ → ℕ → Bool → Type 0
 OwnPasses f s end b r = (es : List Entry) (self : Installed) → Judged f s end es self → (k : Class) → at (self .pack .classes) b ≡ some k →
-    r ≡ all (runningAllows standard (installed standard es) (own self b)) (ancestorsUpTo (installed standard es) (standard .depth) (own self b))
+    r ≡ all (runningAllows (storeLimits s) (installed (storeLimits s) es) (own self b)) (ancestorsUpTo (installed (storeLimits s) es) (storeLimits s .depth) (own self b))
 
 -- question 20
 abbrev pub JudgedThere : Bytes → Bytes → ℕ → Type 0
-JudgedThere f s end = (es : List Entry) × (self : Installed) × Parents f s end es self × T (q14-parents standard (installed standard es) self)
+JudgedThere f s end = (es : List Entry) × (self : Installed) × Parents f s end es self × T (q14-parents (storeLimits s) (installed (storeLimits s) es) self)
 
 abbrev pub RunningIs : Bytes → Bytes → ℕ → Bool → Type 0
-RunningIs f s end r = (es : List Entry) (self : Installed) → Parents f s end es self → T (q14-parents standard (installed standard es) self) →
-    r ≡ q20-running standard (installed standard es) self
+RunningIs f s end r = (es : List Entry) (self : Installed) → Parents f s end es self → T (q14-parents (storeLimits s) (installed (storeLimits s) es) self) →
+    r ≡ q20-running (storeLimits s) (installed (storeLimits s) es) self
 
 -- the memo after question 20 of a file with so many classes
 abbrev pub MemoAfter : Bytes → ℕ → List ℕ → Type 0

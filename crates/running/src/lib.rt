@@ -45,7 +45,7 @@ fn own_home(end: usize) -> Home
 // How many parents class n of the package at a home has.
 fn parent_count<'a>(f: &'a [u8], s: &'a [u8], h: Home, n: usize) -> usize
     requires { ⌜ ClassThere (now f) (now s) h n ⌝ }
-    ensures { λ r. ⌜ CountIs (now (f .entry)) (now (s .entry)) h n r × (r ≤ 4) ⌝ }
+    ensures { λ r. ⌜ CountIs (now (f .entry)) (now (s .entry)) h n r × (r ≤ 8) ⌝ }
 {
     let c = homes::class_record(f, s, h, n);
     wide(c[1])
@@ -127,7 +127,7 @@ fn methods_at<'a>(f: &'a [u8], s: &'a [u8], h: Home, n: usize) -> usize
 }
 
 // Writes class i of a chain: the home of its package, and the place of its record in the file there.
-fn set_link(chain: &mut [usize; 32], i: usize, h: Home, c: usize)
+fn set_link(chain: &mut [usize; 64], i: usize, h: Home, c: usize)
     requires { ⌜ (length (now chain) ≡ chainLength) × (i < mostLinks) ⌝ }
     ensures { λ r. ⌜ now (chain .exit) ≡ withLink (now (chain .entry)) i h c ⌝ }
 {
@@ -139,7 +139,7 @@ fn set_link(chain: &mut [usize; 32], i: usize, h: Home, c: usize)
 }
 
 // The home of class i of a chain.
-fn link_home(chain: &[usize; 32], i: usize) -> Home
+fn link_home(chain: &[usize; 64], i: usize) -> Home
     requires { ⌜ (length (now chain) ≡ chainLength) × (i < mostLinks) ⌝ }
     ensures { λ r. ⌜ r ≡ linkHome (now (chain .entry)) i ⌝ }
 {
@@ -152,7 +152,7 @@ fn link_home(chain: &[usize; 32], i: usize) -> Home
 }
 
 // The place of its record.
-fn link_place(chain: &[usize; 32], i: usize) -> usize
+fn link_place(chain: &[usize; 64], i: usize) -> usize
     requires { ⌜ (length (now chain) ≡ chainLength) × (i < mostLinks) ⌝ }
     ensures { λ r. ⌜ r ≡ linkPlace (now (chain .entry)) i ⌝ }
 {
@@ -163,7 +163,7 @@ fn link_place(chain: &[usize; 32], i: usize) -> usize
 fn find_chain<'a>(
     f: &'a [u8],
     s: &'a [u8],
-    chain: &mut [usize; 32],
+    chain: &mut [usize; 64],
     i: usize,
     h: Home,
     n: usize,
@@ -202,7 +202,7 @@ fn running_method<'a>(
     s: &'a [u8],
     end: usize,
     b: usize,
-    chain: &[usize; 32],
+    chain: &[usize; 64],
     links: usize,
     name: usize,
 ) -> RunsFound
@@ -244,7 +244,7 @@ fn method_passes<'a>(
     s: &'a [u8],
     end: usize,
     b: usize,
-    chain: &[usize; 32],
+    chain: &[usize; 64],
     links: usize,
     h: Home,
     at: usize,
@@ -269,7 +269,7 @@ fn class_methods_pass<'a>(
     s: &'a [u8],
     end: usize,
     b: usize,
-    chain: &[usize; 32],
+    chain: &[usize; 64],
     links: usize,
     h: Home,
     n: usize,
@@ -323,7 +323,7 @@ fn class_passes<'a>(
     end: usize,
     b: usize,
     mark: usize,
-    chain: &[usize; 32],
+    chain: &[usize; 64],
     links: usize,
     h: Home,
     n: usize,
@@ -358,7 +358,7 @@ fn parents_pass<'a>(
     end: usize,
     b: usize,
     mark: usize,
-    chain: &[usize; 32],
+    chain: &[usize; 64],
     links: usize,
     h: Home,
     n: usize,
@@ -366,7 +366,7 @@ fn parents_pass<'a>(
 ) -> bool
     requires { ⌜ ParentsThere (now f) (now s) end b h n left ⌝ }
     requires { ⌜ Marks (now f) (now s) end b mark (now memo) ⌝ }
-    requires { ⌜ (length (now s) ≤ 65535) × (left ≤ 4) ⌝ }
+    requires { ⌜ (length (now s) ≤ 65535) × (left ≤ 8) ⌝ }
     requires { ⌜ ChainIs (now f) (now s) end b (now chain) links ⌝ }
     ensures { λ r. ⌜ ParentsPass (now (f .entry)) (now (s .entry)) end b h n left r ⌝ }
     ensures { λ r. ⌜ Marks (now (f .entry)) (now (s .entry)) end b mark (now (memo .exit)) ⌝ }
@@ -403,7 +403,7 @@ fn own_class_passes<'a>(
         return true;
     }
     let mark = base + b + 1;
-    let mut chain = [0usize; 32];
+    let mut chain = [0usize; 64];
     let links = find_chain(f, s, &mut chain, 0, h, b);
     class_passes(f, s, memo, end, b, mark, &chain, links, h, b)
 }

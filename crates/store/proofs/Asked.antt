@@ -9,7 +9,7 @@ use lib.Dec.{T, leb, leb→le}
 use lib.ListN.{length, length-append}
 use borrow.Author.Tests.{le-leb}
 use Rattle.rules.specs.Bytes.{Bytes, Aid, within, pick, any, all, isSome, someAnd, same}
-use Rattle.rules.specs.Package.{Limits, standard, Package, readFile}
+use Rattle.rules.specs.Package.{Limits, storeLimits, Package, readFile}
 use Rattle.rules.specs.Store.{Entry, domain, loaded, entryBytes, used}
 use Rattle.rules.specs.Classes.{Installed, installed, byAid}
 use Rattle.rules.specs.Questions.{q1-size, domains, q5-created, q6-empty, q7-installed, q21-fits}
@@ -41,13 +41,13 @@ unfolding q5-created
 created-place i es a = domains-any a es ∙ sym (place-any (isDomain a) i es)
 
 -- 6. a package lies in the domain
-pub in-use : (es : List Entry) (a : Aid) → AllRead es → not (q6-empty (installed standard es) a) ≡ any (liesIn a) es
+pub in-use : (l : Limits) (es : List Entry) (a : Aid) → AllRead l es → not (q6-empty (installed l es) a) ≡ any (liesIn a) es
 unfolding q6-empty
-in-use [] a h = refl
-in-use (domain b ∷ es) a h = in-use es a (h .1)
-in-use (loaded d f ∷ es) a h = rw (h .0 .1) (go (same a d) (in-use es a (h .1)))
+in-use l [] a h = refl
+in-use l (domain b ∷ es) a h = in-use l es a (h .1)
+in-use l (loaded d f ∷ es) a h = rw (h .0 .1) (go (same a d) (in-use l es a (h .1)))
   where
-    go : (b : Bool) → not (all (λ (i : Installed). not (same a (i .domain))) (installed standard es)) ≡ any (liesIn a) es → not (not b && all (λ (i : Installed). not (same a (i .domain))) (installed standard es)) ≡ (b || any (liesIn a) es)
+    go : (b : Bool) → not (all (λ (i : Installed). not (same a (i .domain))) (installed l es)) ≡ any (liesIn a) es → not (not b && all (λ (i : Installed). not (same a (i .domain))) (installed l es)) ≡ (b || any (liesIn a) es)
     go true e = refl
     go false e = e
 
@@ -100,30 +100,30 @@ abbrev pub namedBy : Aid → Entry → Bool
 namedBy a (domain b) = false
 namedBy a (loaded d f) = same a (ownAid f)
 
-pub named-is : (a : Aid) (e : Entry) → FileReads e → namedBy a e ≡ isPackage standard a e
-named-is a (domain b) h = refl
-named-is a (loaded d f) h = rw (h .1) (ap (same a) ((own-by standard f (h .0) (h .1)) .is))
+pub named-is : (l : Limits) (a : Aid) (e : Entry) → FileReads l e → namedBy a e ≡ isPackage l a e
+named-is l a (domain b) h = refl
+named-is l a (loaded d f) h = rw (h .1) (ap (same a) ((own-by l f (h .0) (h .1)) .is))
 
-pub named-place : (a : Aid) (i : ℕ) (es : List Entry) → AllRead es → placeOf (namedBy a) i es ≡ placeOf (isPackage standard a) i es
-named-place a i [] h = refl
-named-place a i (e ∷ es) h =
+pub named-place : (l : Limits) (a : Aid) (i : ℕ) (es : List Entry) → AllRead l es → placeOf (namedBy a) i es ≡ placeOf (isPackage l a) i es
+named-place l a i [] h = refl
+named-place l a i (e ∷ es) h =
     let n : ℕ = i + length (entryBytes e) in
-    ap₂ (λ (b : Bool) (o : Option (ℕ × ℕ)). pick b (some (i, n)) o) (named-is a e (h .0)) (named-place a n es (h .1))
+    ap₂ (λ (b : Bool) (o : Option (ℕ × ℕ)). pick b (some (i, n)) o) (named-is l a e (h .0)) (named-place l a n es (h .1))
 
 -- what the search for a package answers
-pub package-found : {s : Bytes} {es : List Entry} {k : ℕ} {a : Aid} {i j m : ℕ} {d : Bytes} → Entries s 7 es k → AllRead es → placeOf (namedBy a) 7 es ≡ some (i, m) → j ≤ m → m ≤ length s → ((e : Entry) → EntryAt s i e m → e ≡ loaded d (part s j m)) → FileSays s es a (File i j m)
-package-found {s} {es} {k} {a} {i} {j} {m} {d} r h q from to file = go (found-at (isPackage standard a) s 7 es k i m r place)
+pub package-found : {s : Bytes} {es : List Entry} {k : ℕ} {a : Aid} {i j m : ℕ} {d : Bytes} → Entries s 7 es k → AllRead (storeLimits s) es → placeOf (namedBy a) 7 es ≡ some (i, m) → j ≤ m → m ≤ length s → ((e : Entry) → EntryAt s i e m → e ≡ loaded d (part s j m)) → FileSays s es a (File i j m)
+package-found {s} {es} {k} {a} {i} {j} {m} {d} r h q from to file = go (found-at (isPackage (storeLimits s) a) s 7 es k i m r place)
   where
-    place : placeOf (isPackage standard a) 7 es ≡ some (i, m)
-    place = sym (named-place a 7 es h) ∙ q
+    place : placeOf (isPackage (storeLimits s) a) 7 es ≡ some (i, m)
+    place = sym (named-place (storeLimits s) a 7 es h) ∙ q
 
-    go : FoundAt (isPackage standard a) s 7 es k i m → PackageAt s es a i j m
+    go : FoundAt (isPackage (storeLimits s) a) s 7 es k i m → PackageAt s es a i j m
     go f =
         let z : f .one ≡ loaded d (part s j m) = file (f .one) (f .stands) in
-        let p = package-is standard a (f .one) (f .found) in
+        let p = package-is (storeLimits s) a (f .one) (f .found) in
         done f (p .0) (p .1) (p .2) (p .3) (p .4) (p .5) (cc)
       where
-        done : (f : FoundAt (isPackage standard a) s 7 es k i m) (d₁ f₁ : Bytes) (p : Package) → f .one ≡ loaded d₁ f₁ → readFile standard f₁ ≡ some p → same a (p .aid) ≡ true → f₁ ≡ part s j m → PackageAt s es a i j m
+        done : (f : FoundAt (isPackage (storeLimits s) a) s 7 es k i m) (d₁ f₁ : Bytes) (p : Package) → f .one ≡ loaded d₁ f₁ → readFile (storeLimits s) f₁ ≡ some p → same a (p .aid) ≡ true → f₁ ≡ part s j m → PackageAt s es a i j m
         done f d₁ f₁ p o e t w =
             let stands : EntryAt s i (loaded d₁ (part s j m)) m = subst (λ (x : Entry). EntryAt s i x m) (o ∙ ap (loaded d₁) w) (f .stands) in
             record {
@@ -132,19 +132,19 @@ package-found {s} {es} {k} {a} {i} {j} {m} {d} r h q from to file = go (found-at
               stands = stands;
               inside = omega (arith, entry-next s i (loaded d₁ (part s j m)) m stands, part-length s j m to, length-append d₁ (part s j m), from);
               is =
-                  ap (λ (x : List Entry). byAid (installed standard x) a) (f .are)
-                  ∙ by-aid-skip standard a (f .before) (f .one ∷ f .after) (f .passed)
-                  ∙ ap (λ (x : Entry). byAid (installed standard (x ∷ f .after)) a) o
-                  ∙ by-aid-here standard a d₁ f₁ (f .after) p e t;
-              reads = ap (readFile standard) (sym w) ∙ e;
+                  ap (λ (x : List Entry). byAid (installed (storeLimits s) x) a) (f .are)
+                  ∙ by-aid-skip (storeLimits s) a (f .before) (f .one ∷ f .after) (f .passed)
+                  ∙ ap (λ (x : Entry). byAid (installed (storeLimits s) (x ∷ f .after)) a) o
+                  ∙ by-aid-here (storeLimits s) a d₁ f₁ (f .after) p e t;
+              reads = ap (readFile (storeLimits s)) (sym w) ∙ e;
               from = from;
               to = to;
             }
 
-pub package-none : (s : Bytes) (es : List Entry) (a : Aid) → AllRead es → any (namedBy a) es ≡ false → FileSays s es a Missing
+pub package-none : (s : Bytes) (es : List Entry) (a : Aid) → AllRead (storeLimits s) es → any (namedBy a) es ≡ false → FileSays s es a Missing
 package-none s es a h n =
-    let p : placeOf (isPackage standard a) 7 es ≡ none = sym (named-place a 7 es h) ∙ place-none (namedBy a) 7 es n in
-    (p, by-aid-none standard a es (sym (place-any (isPackage standard a) 7 es) ∙ ap isSome p))
+    let p : placeOf (isPackage (storeLimits s) a) 7 es ≡ none = sym (named-place (storeLimits s) a 7 es h) ∙ place-none (namedBy a) 7 es n in
+    (p, by-aid-none (storeLimits s) a es (sym (place-any (isPackage (storeLimits s) a) 7 es) ∙ ap isSome p))
 
 -- 21. an entry that stands in the buffer behind others fits
 pub fits-standing : (s : Bytes) (es : List Entry) (i : ℕ) (e : Entry) (j : ℕ) → Entries s 7 es i → EntryAt s i e j → q21-fits (length s) es e ≡ true

@@ -8,6 +8,7 @@ use mathlib.Core.Option.{some}
 use lib.ListN.{length, getD}
 use Rattle.rules.specs.Bytes.{Bytes, any}
 use Rattle.rules.specs.Code.{u2At}
+use Rattle.rules.specs.Package.{storeLimits}
 use Rattle.rules.specs.Store.{Entry, domain, loaded}
 use Rattle.store.specs.Entries.{part, EntryAt, Entries, StandFrom, FirstIs, placeOf, FileReads, AllRead}
 use Rattle.store.specs.Answers.{PartAt}
@@ -113,11 +114,11 @@ module _ {q : Entry → Bool} {s : Bytes} {k i : ℕ} (w : Walks q s k i) where
   found-none p es r = let v = w es r in walk-none v ((p (v .rest) (v .from)) .0)
 
   -- the file of the package at hand reads where all do
-  pub package-reads : {a m j : ℕ} → PartAt s i k (Package a m j) → (es : List Entry) → Entries s 7 es k → AllRead es → FileReads (loaded (part s a m) (part s m j))
+  pub package-reads : {a m j : ℕ} → PartAt s i k (Package a m j) → (es : List Entry) → Entries s 7 es k → AllRead (storeLimits s) es → FileReads (storeLimits s) (loaded (part s a m) (part s m j))
   package-reads {a} {m} {j} p es r h =
       let v = w es r in
       let x = (p (v .rest) (v .from)) .2 in
-      (subst AllRead (x .are) (walk-reads v h)) .0
+      (subst (AllRead (storeLimits s)) (x .are) (walk-reads v (storeLimits s) h)) .0
 
   pub package-entry : {a m j : ℕ} → PartAt s i k (Package a m j) → (es : List Entry) → Entries s 7 es k → (e : Entry) → EntryAt s i e j → e ≡ loaded (part s a m) (part s m j)
   package-entry {a} {m} {j} p es r e t =

@@ -7,6 +7,7 @@ use mathlib.Core.List.{List, [], _∷_, _++_, append-assoc, append-nil}
 use mathlib.Core.Option.{none, some, Option·some-injective}
 use lib.ListN.{length}
 use Rattle.rules.specs.Bytes.{Bytes, pick, any, isSome}
+use Rattle.rules.specs.Package.{Limits}
 use Rattle.rules.specs.Store.{Entry, entryBytes}
 use Rattle.rules.specs.Operations.{without}
 use Rattle.rules.proofs.Tests.{none-some}
@@ -139,10 +140,10 @@ module _ {q : Entry → Bool} {s : Bytes} {es : List Entry} {k i : ℕ} (w : Wal
   walk-any f h = sym (place-any q 7 es) ∙ ap isSome (walk-found f h)
 
   -- the files of the entries that follow read where those of all do
-  pub walk-reads : AllRead es → AllRead (w .rest)
-  walk-reads r = behind (w .passed) (w .rest) (subst AllRead (w .are) r)
+  pub walk-reads : (l : Limits) → AllRead l es → AllRead l (w .rest)
+  walk-reads l r = behind (w .passed) (w .rest) (subst (AllRead l) (w .are) r)
     where
-      behind : (ps rs : List Entry) → AllRead (ps ++ rs) → AllRead rs
+      behind : (ps rs : List Entry) → AllRead l (ps ++ rs) → AllRead l rs
       behind [] rs r = r
       behind (p ∷ ps) rs r = behind ps rs (r .1)
 

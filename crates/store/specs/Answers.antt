@@ -19,7 +19,7 @@ use mathlib.Core.List.{List, [], _∷_, _++_}
 use mathlib.Core.Option.{Option, none, some}
 use lib.ListN.{length}
 use Rattle.rules.specs.Bytes.{Bytes, Aid}
-use Rattle.rules.specs.Package.{standard}
+use Rattle.rules.specs.Package.{storeLimits}
 use Rattle.rules.specs.Store.{Entry, domain, loaded, used, openingLength, write, entriesOf}
 use Rattle.rules.specs.Classes.{installed, byAid}
 use Rattle.rules.specs.Questions.{q6-empty, q21-fits}
@@ -73,15 +73,15 @@ SpotAt q s k r = (es : List Entry) → Entries s openingLength es k → spot r �
 -- the package of an AID
 abbrev pub FileSays : Bytes → List Entry → Aid → FileSpot → Type 0
 FileSays s es a (File i j k) = PackageAt s es a i j k
-FileSays s es a Missing = (placeOf (isPackage standard a) openingLength es ≡ none) × (byAid (installed standard es) a ≡ none)
+FileSays s es a Missing = (placeOf (isPackage (storeLimits s) a) openingLength es ≡ none) × (byAid (installed (storeLimits s) es) a ≡ none)
 
 -- the package of an AID, among whatever entries whose files read end at place k
 abbrev pub FileAt : Bytes → ℕ → Aid → FileSpot → Type 0
-FileAt s k a r = (es : List Entry) → Entries s openingLength es k → AllRead es → FileSays s es a r
+FileAt s k a r = (es : List Entry) → Entries s openingLength es k → AllRead (storeLimits s) es → FileSays s es a r
 
 -- a package lies in the domain, among whatever entries whose files read end at place k
 abbrev pub InUse : Bytes → ℕ → Aid → Bool → Type 0
-InUse s k a r = (es : List Entry) → Entries s openingLength es k → AllRead es → r ≡ not (q6-empty (installed standard es) a)
+InUse s k a r = (es : List Entry) → Entries s openingLength es k → AllRead (storeLimits s) es → r ≡ not (q6-empty (installed (storeLimits s) es) a)
 
 -- 21, of whatever entries end at place u
 abbrev pub Fits : Bytes → ℕ → Entry → Bool → Type 0

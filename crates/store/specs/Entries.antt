@@ -7,7 +7,7 @@
 -- Holds s es          == the buffer s is the layout of es
 -- Laid s u            == s is the layout of entries that end at place u
 -- placeOf q i es      == of entries that stand from place i: from where up to where the first one stands that the test finds
--- AllRead es          == the file of each loaded entry reads
+-- AllRead l es        == the file of each loaded entry reads within the limits l
 -- ownAid f            == a file's own AID, by its place
 -- liesIn a e          == e is a package that lies in the domain a
 use Prim.Native.Nat.{ℕ, _+_, _-_, _≤_, _<_}
@@ -17,7 +17,7 @@ use mathlib.Core.List.{List, [], _∷_}
 use mathlib.Core.Option.{Option, none, some}
 use lib.ListN.{length, take, drop, getD}
 use Rattle.rules.specs.Bytes.{Bytes, Aid, pick, same}
-use Rattle.rules.specs.Package.{standard, Package, readFile}
+use Rattle.rules.specs.Package.{Limits, storeLimits, Package, readFile}
 use Rattle.rules.specs.Store.{Entry, domain, loaded, entryBytes, used, openingLength, write, entry, entriesOf}
 use Rattle.rules.specs.Classes.{Installed, installed, byAid}
 use Rattle.rules.specs.Operations.{isPackage}
@@ -63,18 +63,18 @@ placeOf q i [] = none
 placeOf q i (e ∷ es) = pick (q e) (some (i, i + length (entryBytes e))) (placeOf q (i + length (entryBytes e)) es)
 
 -- the file of a loaded entry reads
-abbrev pub FileReads : Entry → Type 0
-FileReads (domain a) = Unit {0}
-FileReads (loaded d f) = (p : Package) × (readFile standard f ≡ some p)
+abbrev pub FileReads : Limits → Entry → Type 0
+FileReads l (domain a) = Unit {0}
+FileReads l (loaded d f) = (p : Package) × (readFile l f ≡ some p)
 
 -- the file of each loaded entry reads
-abbrev pub AllRead : List Entry → Type 0
-AllRead [] = Unit {0}
-AllRead (e ∷ es) = FileReads e × AllRead es
+abbrev pub AllRead : Limits → List Entry → Type 0
+AllRead l [] = Unit {0}
+AllRead l (e ∷ es) = FileReads l e × AllRead l es
 
 -- entries whose files read stand from the opening bytes up to place k
 abbrev pub FilesStand : Bytes → ℕ → Type 0
-FilesStand s k = (es : List Entry) × Entries s openingLength es k × AllRead es
+FilesStand s k = (es : List Entry) × Entries s openingLength es k × AllRead (storeLimits s) es
 
 -- a file's own AID, by its place
 abbrev pub ownAid : Bytes → Aid
@@ -87,11 +87,11 @@ liesIn a (loaded d f) = same a d
 
 -- the package of an AID: its entry stands from place i, its file from place j up to place k
 pub record PackageAt (s : Bytes) (es : List Entry) (a : Aid) (i j k : ℕ) : Type 0 where
-  pub place : placeOf (isPackage standard a) openingLength es ≡ some (i, k)
+  pub place : placeOf (isPackage (storeLimits s) a) openingLength es ≡ some (i, k)
   pub home : Installed
   pub stands : EntryAt s i (loaded (home .domain) (part s j k)) k
   pub inside : i < j
-  pub is : byAid (installed standard es) a ≡ some home
-  pub reads : readFile standard (part s j k) ≡ some (home .pack)
+  pub is : byAid (installed (storeLimits s) es) a ≡ some home
+  pub reads : readFile (storeLimits s) (part s j k) ≡ some (home .pack)
   pub from : j ≤ k
   pub to : k ≤ length s

@@ -1,5 +1,6 @@
 -- `calls::class_calls` meets its contract: the loop goes on while question 18 is answered yes, and keeps the number. Assumes nothing.
-use Rattle.rules.specs.Package.{standard}
+use Rattle.rules.specs.Package.{storeLimits}
+use denote.Ref.{now}
 use Rattle.files.proofs.Steps as steps
 use Rattle.calls.proofs.Asked as asked
 use Rattle.calls.specs.Maps.{numbering}
@@ -15,16 +16,16 @@ abbrev μ-loop : tie.MeasureT-loop
 μ-loop f s end table homes named map loading at start left₀ c₀ number₀ left c number = left
 
 methods-of-requires : tie.Need-methods-of-requires Inv-loop μ-loop
-methods-of-requires c κs = (let g = c .before .before .pre .0 in (standard, g .1 .pack .domains, (g .3 .0, g .3 .1, g .3 .2)))
+methods-of-requires c κs = (let g = c .before .before .pre .0 in (storeLimits (now (c .before .before .args .s)), g .1 .pack .domains, (g .3 .0, g .3 .1, g .3 .2)))
 
 shared-slice-read-wide : tie.Need-shared-slice-read-wide Inv-loop μ-loop
-shared-slice-read-wide c = steps.methods-in (steps.methods-there (c .before .methods-of .ensures) (let g = c .before .before .before .before .pre .0 in (standard, g .1 .pack .domains, (g .3 .0, g .3 .1, g .3 .2))))
+shared-slice-read-wide c = steps.methods-in (steps.methods-there (c .before .methods-of .ensures) (let g = c .before .before .before .before .pre .0 in (storeLimits (now (c .before .before .before .before .args .s)), g .1 .pack .domains, (g .3 .0, g .3 .1, g .3 .2))))
 
 wide-requires : tie.Need-wide-requires Inv-loop μ-loop
 wide-requires c κs = search needs
 
 add-c : tie.Need-add-c Inv-loop μ-loop
-add-c c = omega (arith, steps.methods-in (steps.methods-there (c .before .before .methods-of .ensures) (let g = c .before .before .before .before .before .pre .0 in (standard, g .1 .pack .domains, (g .3 .0, g .3 .1, g .3 .2)))))
+add-c c = omega (arith, steps.methods-in (steps.methods-there (c .before .before .methods-of .ensures) (let g = c .before .before .before .before .before .pre .0 in (storeLimits (now (c .before .before .before .before .before .args .s)), g .1 .pack .domains, (g .3 .0, g .3 .1, g .3 .2)))))
 
 loop-holds : tie.Need-loop-holds Inv-loop μ-loop
 loop-holds c = asked.methods-begin (c .before .before .before .before .before .pre .0) (c .before .before .methods-of .ensures) (c .wide .ensures .0)
@@ -39,7 +40,7 @@ later-requires : tie.Need-later-requires Inv-loop μ-loop
 later-requires c κs = search needs
 
 after-method-requires : tie.Need-after-method-requires Inv-loop μ-loop
-after-method-requires c κs = let g = asked.methods-one (c .before .before .before .before .before .before .before .methods-of .result) (c .before .before .before .before .loop .number) (c .before .before .before .before .loop .inv) (c .before .before .before .loop-test .taken) in (standard, g .1 .pack .domains, (g .3 .0, g .3 .1, g .3 .2))
+after-method-requires c κs = let g = asked.methods-one (c .before .before .before .before .before .before .before .methods-of .result) (c .before .before .before .before .loop .number) (c .before .before .before .before .loop .inv) (c .before .before .before .loop-test .taken) in (_, g .1 .pack .domains, (g .3 .0, g .3 .1, g .3 .2))
 
 sub-left : tie.Need-sub-left Inv-loop μ-loop
 sub-left c = omega arith

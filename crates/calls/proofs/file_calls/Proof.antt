@@ -1,5 +1,4 @@
 -- `calls::file_calls` meets its contract: the loop goes on while question 18 is answered yes, and keeps the number. Assumes nothing.
-use Rattle.rules.specs.Package.{standard}
 use Rattle.files.proofs.Steps as steps
 use Rattle.files.proofs.Walks.{classes-there}
 use Rattle.calls.proofs.Lookups as look
@@ -41,7 +40,7 @@ later-requires : tie.Need-later-requires Inv-loop μ-loop
 later-requires c κs = search needs
 
 after-class-requires : tie.Need-after-class-requires Inv-loop μ-loop
-after-class-requires c κs = let g = asked.classes-one (c .before .before .before .before .before .before .before .classes-at .result) (c .before .before .before .before .loop .number) (c .before .before .before .before .loop .inv) (c .before .before .before .loop-test .taken) in (standard, g .1 .pack .domains, (g .3 .0, g .3 .1, g .3 .2))
+after-class-requires c κs = let g = asked.classes-one (c .before .before .before .before .before .before .before .classes-at .result) (c .before .before .before .before .loop .number) (c .before .before .before .before .loop .inv) (c .before .before .before .loop-test .taken) in (_, g .1 .pack .domains, (g .3 .0, g .3 .1, g .3 .2))
 
 sub-left : tie.Need-sub-left Inv-loop μ-loop
 sub-left c = omega arith

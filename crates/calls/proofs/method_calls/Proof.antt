@@ -1,6 +1,6 @@
 -- `calls::method_calls` meets its contract: the loop goes on while question 18 is answered yes, and keeps the number; what is left of the code falls. Assumes nothing.
 use Rattle.codes.specs.Calls.{Follows}
-use Rattle.rules.specs.Package.{standard}
+use Rattle.rules.specs.Package.{storeLimits}
 use Rattle.calls.specs.Maps.{numbering}
 use Rattle.calls.proofs.Asked as asked
 use denote.Ref.{now}
@@ -19,7 +19,7 @@ abbrev μ-loop : tie.MeasureT-loop
 μ-loop f s end table homes named map loading at code from₀ number₀ from number = length code - from
 
 code-of-requires : tie.Need-code-of-requires Inv-loop μ-loop
-code-of-requires c κs = let g = c .before .before .pre .0 in (standard, g .1 .pack .domains, (g .3 .0, g .3 .1, g .3 .2))
+code-of-requires c κs = let g = c .before .before .pre .0 in (storeLimits (now (c .before .before .args .s)), g .1 .pack .domains, (g .3 .0, g .3 .1, g .3 .2))
 
 loop-holds : tie.Need-loop-holds Inv-loop μ-loop
 loop-holds c = asked.calls-begin (now (c .code-of .result)) (c .code-of .ensures) (c .before .before .before .pre .0)

@@ -99,7 +99,7 @@ class-depth-one-more-requires : (t : ℕ) → class-depth-lts.Need-one-more-requ
   tell-reads.Asked,
   tell-reads.Learnt,
 ) (class-depth-at t) class-depth.Post
-class-depth-one-more-requires t c κs = walk.depth-small (c .before .before .before .before .before .before .before .args .most) (c .before .before .before .before .before .before .before .pre .1 .1 .0 .1)
+class-depth-one-more-requires t c κs = walk.depth-small (now (c .before .before .before .before .before .before .before .args .s)) (c .before .before .before .before .before .before .before .args .most) (c .before .before .before .before .before .before .before .pre .1 .1 .0 .1)
 
 class-depth-tell-requires : (t : ℕ) → class-depth-lts.Need-tell-requires (
   told-reads.Asked,
@@ -111,7 +111,7 @@ class-depth-tell-requires : (t : ℕ) → class-depth-lts.Need-tell-requires (
   tell-reads.Asked,
   tell-reads.Learnt,
 ) (class-depth-at t) class-depth.Post
-class-depth-tell-requires t c κs = (c .before .before .parents-depth .ensures .1 .size, (memos.key-fits (now (c .before .before .before .before .before .before .before .before .before .args .f)) (now (c .before .before .before .before .before .before .before .before .before .args .s)) (c .before .before .before .before .before .before .before .before .before .args .end) (c .before .before .before .before .before .before .before .before .before .args .h) (c .before .before .before .before .before .before .before .before .before .args .n) (c .before .before .before .before .before .before .before .before .before .pre .1 .1 .0 .0) (c .before .before .before .before .before .before .before .before .before .pre .1 .0)), omega (arith, c .before .one-more .ensures .1, walk.depth-small (c .before .before .before .before .before .before .before .before .before .args .most) (c .before .before .before .before .before .before .before .before .before .pre .1 .1 .0 .1), c .before .before .before .before .before .before .before .before .before .pre .1 .1 .0 .2))
+class-depth-tell-requires t c κs = (c .before .before .parents-depth .ensures .1 .size, (memos.key-fits (now (c .before .before .before .before .before .before .before .before .before .args .f)) (now (c .before .before .before .before .before .before .before .before .before .args .s)) (c .before .before .before .before .before .before .before .before .before .args .end) (c .before .before .before .before .before .before .before .before .before .args .h) (c .before .before .before .before .before .before .before .before .before .args .n) (c .before .before .before .before .before .before .before .before .before .pre .1 .1 .0 .0) (c .before .before .before .before .before .before .before .before .before .pre .1 .0)), omega (arith, c .before .one-more .ensures .1, walk.depth-small (now (c .before .before .before .before .before .before .before .before .before .args .s)) (c .before .before .before .before .before .before .before .before .before .args .most) (c .before .before .before .before .before .before .before .before .before .pre .1 .1 .0 .1), c .before .before .before .before .before .before .before .before .before .pre .1 .1 .0 .2))
 
 class-depth-returns-2 : (t : ℕ) → class-depth-lts.Need-returns-2 (
   told-reads.Asked,

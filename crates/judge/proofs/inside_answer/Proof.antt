@@ -18,7 +18,7 @@ returns : tie.Need-returns
 returns c = (stages.stage-15 (now (c .before .before .before .before .before .before .args .s)) (c .before .before .before .before .before .before .args .end) (now (c .before .before .before .before .before .before .args .domain)) (now (c .before .before .before .before .before .before .args .file)) (c .before .before .before .before .before .before .args .depth) (subst (NamesIs (now (c .before .before .before .before .before .before .args .file))) (creation.not-yes (c .before .names-ok .result) (c .if1 .taken)) (c .before .names-ok .ensures)), (refl, entered.memo-stays (now (c .before .before .before .before .before .before .args .file)) (c .before .before .before .before .before .before .args .base) (now (c .before .before .before .before .before .before .args .memo)) (c .before .before .before .before .before .before .pre .1 .1 .1 .1 .0)))
 
 codes-ok-requires : tie.Need-codes-ok-requires
-codes-ok-requires c κs = (stages.file-here (now (c .before .before .before .before .before .before .before .args .s)) (c .before .before .before .before .before .before .before .args .end) (now (c .before .before .before .before .before .before .before .args .domain)) (now (c .before .before .before .before .before .before .before .args .file)) (c .before .before .before .before .before .before .before .pre .0), c .before .before .before .before .before .before .before .pre .1 .1 .0)
+codes-ok-requires c κs = (stages.file-here (now (c .before .before .before .before .before .before .before .args .s)) (c .before .before .before .before .before .before .before .args .end) (now (c .before .before .before .before .before .before .before .args .domain)) (now (c .before .before .before .before .before .before .before .args .file)) (now (c .before .before .before .before .before .before .before .args .marks)) (c .before .before .before .before .before .before .before .pre .1 .1 .0 .1) (c .before .before .before .before .before .before .before .pre .0), c .before .before .before .before .before .before .before .pre .1 .1 .0 .0)
 
 cast-t16 : tie.Need-cast-t16
 cast-t16 c = omega (arith, stages.codes-small (now (c .before .before .before .before .before .before .before .before .before .before .before .args .s)) (c .before .before .before .before .before .before .before .before .before .before .before .args .end) (now (c .before .before .before .before .before .before .before .before .before .before .before .args .domain)) (now (c .before .before .before .before .before .before .before .before .before .before .before .args .file)) (c .before .before .before .codes-ok .result) (c .before .before .before .before .before .before .before .before .before .before .before .pre .0) (c .before .before .before .codes-ok .ensures))

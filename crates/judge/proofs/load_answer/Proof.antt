@@ -36,19 +36,19 @@ enum-told-3 : tie.Need-enum-told-3
 enum-told-3 c = search needs
 
 package-answer-requires : tie.Need-package-answer-requires
-package-answer-requires c κs = (((c .before .before .before .before .before .before .before .before .before .before .before .before .before .pre .0) .0, (loading.said-0 (limitsOf (c .before .before .before .before .before .before .before .before .before .before .before .before .before .args .limits)) (c .before .before .before .before .before .before .before .before .before .before .before .before .before .pre .1 .1 .0 .2) (now (c .before .before .before .before .before .before .before .before .before .before .before .before .before .args .file)) (c .before .before .before .before .read-package .result) (c .before .before .enum-told3 .given .0 .0) (c .before .before .enum-told3 .given .1) (c .before .before .before .before .read-package .ensures)) .1 .0, (c .before .before .before .before .before .before .before .before .before .before .before .before .before .pre .0) .1, (loading.said-0 (limitsOf (c .before .before .before .before .before .before .before .before .before .before .before .before .before .args .limits)) (c .before .before .before .before .before .before .before .before .before .before .before .before .before .pre .1 .1 .0 .2) (now (c .before .before .before .before .before .before .before .before .before .before .before .before .before .args .file)) (c .before .before .before .before .read-package .result) (c .before .before .enum-told3 .given .0 .0) (c .before .before .enum-told3 .given .1) (c .before .before .before .before .read-package .ensures)) .1 .1), c .before .before .before .before .before .before .before .before .before .before .before .before .before .pre .1)
+package-answer-requires c κs = (((c .before .before .before .before .before .before .before .before .before .before .before .before .before .pre .0) .0, (loading.said-0 (now (c .before .before .before .before .before .before .before .before .before .before .before .before .before .args .s)) (limitsOf (c .before .before .before .before .before .before .before .before .before .before .before .before .before .args .limits)) (c .before .before .before .before .before .before .before .before .before .before .before .before .before .pre .1 .1 .0 .2) (now (c .before .before .before .before .before .before .before .before .before .before .before .before .before .args .file)) (c .before .before .before .before .read-package .result) (c .before .before .enum-told3 .given .0 .0) (c .before .before .enum-told3 .given .1) (c .before .before .before .before .read-package .ensures)) .1 .0, (c .before .before .before .before .before .before .before .before .before .before .before .before .before .pre .0) .1, (loading.said-0 (now (c .before .before .before .before .before .before .before .before .before .before .before .before .before .args .s)) (limitsOf (c .before .before .before .before .before .before .before .before .before .before .before .before .before .args .limits)) (c .before .before .before .before .before .before .before .before .before .before .before .before .before .pre .1 .1 .0 .2) (now (c .before .before .before .before .before .before .before .before .before .before .before .before .before .args .file)) (c .before .before .before .before .read-package .result) (c .before .before .enum-told3 .given .0 .0) (c .before .before .enum-told3 .given .1) (c .before .before .before .before .read-package .ensures)) .1 .1), c .before .before .before .before .before .before .before .before .before .before .before .before .before .pre .1)
 
 returns-3 : tie.Need-returns-3
-returns-3 c = (loading.load-10 (now (c .before .before .before .before .before .before .before .before .before .before .before .args .s)) (c .before .before .before .before .before .before .before .before .before .before .before .args .end) (now (c .before .before .before .before .before .before .before .before .before .before .before .args .domain)) (now (c .before .before .before .before .before .before .before .before .before .before .before .args .file)) (sym (c .before .before .before .before .before .before .length-ok .ensures) ∙ (creation.not-no (c .before .before .before .before .before .before .length-ok .result) (c .before .before .before .before .before .if1 .left))) (subst (CreatedSays (now (c .before .before .before .before .before .before .before .before .before .before .before .args .s)) (c .before .before .before .before .before .before .before .before .before .before .before .args .end) (now (c .before .before .before .before .before .before .before .before .before .before .before .args .domain))) (creation.not-no (c .before .before .before .before .domain-there .result) (c .before .before .before .if2 .left)) (entered.created-there (now (c .before .before .before .before .before .before .before .before .before .before .before .args .s)) (c .before .before .before .before .before .before .before .before .before .before .before .args .end) (now (c .before .before .before .before .before .before .before .before .before .before .before .args .domain)) (c .before .before .before .before .domain-there .result) (c .before .before .before .before .domain-there .ensures))) (loading.said-10 (limitsOf (c .before .before .before .before .before .before .before .before .before .before .before .args .limits)) (c .before .before .before .before .before .before .before .before .before .before .before .pre .1 .1 .0 .2) (now (c .before .before .before .before .before .before .before .before .before .before .before .args .file)) (c .before .before .read-package .result) (c .enum-told .given .1) (c .before .before .read-package .ensures)), (refl, entered.memo-refused (c .before .before .before .before .before .before .before .before .before .before .before .args .end) (now (c .before .before .before .before .before .before .before .before .before .before .before .args .domain)) (now (c .before .before .before .before .before .before .before .before .before .before .before .args .file)) 10 _))
+returns-3 c = (loading.load-10 (now (c .before .before .before .before .before .before .before .before .before .before .before .args .s)) (c .before .before .before .before .before .before .before .before .before .before .before .args .end) (now (c .before .before .before .before .before .before .before .before .before .before .before .args .domain)) (now (c .before .before .before .before .before .before .before .before .before .before .before .args .file)) (sym (c .before .before .before .before .before .before .length-ok .ensures) ∙ (creation.not-no (c .before .before .before .before .before .before .length-ok .result) (c .before .before .before .before .before .if1 .left))) (subst (CreatedSays (now (c .before .before .before .before .before .before .before .before .before .before .before .args .s)) (c .before .before .before .before .before .before .before .before .before .before .before .args .end) (now (c .before .before .before .before .before .before .before .before .before .before .before .args .domain))) (creation.not-no (c .before .before .before .before .domain-there .result) (c .before .before .before .if2 .left)) (entered.created-there (now (c .before .before .before .before .before .before .before .before .before .before .before .args .s)) (c .before .before .before .before .before .before .before .before .before .before .before .args .end) (now (c .before .before .before .before .before .before .before .before .before .before .before .args .domain)) (c .before .before .before .before .domain-there .result) (c .before .before .before .before .domain-there .ensures))) (loading.said-10 (now (c .before .before .before .before .before .before .before .before .before .before .before .args .s)) (limitsOf (c .before .before .before .before .before .before .before .before .before .before .before .args .limits)) (c .before .before .before .before .before .before .before .before .before .before .before .pre .1 .1 .0 .2) (now (c .before .before .before .before .before .before .before .before .before .before .before .args .file)) (c .before .before .read-package .result) (c .enum-told .given .1) (c .before .before .read-package .ensures)), (refl, entered.memo-refused (c .before .before .before .before .before .before .before .before .before .before .before .args .end) (now (c .before .before .before .before .before .before .before .before .before .before .before .args .domain)) (now (c .before .before .before .before .before .before .before .before .before .before .before .args .file)) 10 _))
 
 returns-4 : tie.Need-returns-4
-returns-4 c = (loading.load-11 (now (c .before .before .before .before .before .before .before .before .before .before .before .args .s)) (c .before .before .before .before .before .before .before .before .before .before .before .args .end) (now (c .before .before .before .before .before .before .before .before .before .before .before .args .domain)) (now (c .before .before .before .before .before .before .before .before .before .before .before .args .file)) (sym (c .before .before .before .before .before .before .length-ok .ensures) ∙ (creation.not-no (c .before .before .before .before .before .before .length-ok .result) (c .before .before .before .before .before .if1 .left))) (subst (CreatedSays (now (c .before .before .before .before .before .before .before .before .before .before .before .args .s)) (c .before .before .before .before .before .before .before .before .before .before .before .args .end) (now (c .before .before .before .before .before .before .before .before .before .before .before .args .domain))) (creation.not-no (c .before .before .before .before .domain-there .result) (c .before .before .before .if2 .left)) (entered.created-there (now (c .before .before .before .before .before .before .before .before .before .before .before .args .s)) (c .before .before .before .before .before .before .before .before .before .before .before .args .end) (now (c .before .before .before .before .before .before .before .before .before .before .before .args .domain)) (c .before .before .before .before .domain-there .result) (c .before .before .before .before .domain-there .ensures))) ((loading.said-11 (limitsOf (c .before .before .before .before .before .before .before .before .before .before .before .args .limits)) (c .before .before .before .before .before .before .before .before .before .before .before .pre .1 .1 .0 .2) (now (c .before .before .before .before .before .before .before .before .before .before .before .args .file)) (c .before .before .read-package .result) (c .enum-told2 .given .1) (c .before .before .read-package .ensures)) .0) ((loading.said-11 (limitsOf (c .before .before .before .before .before .before .before .before .before .before .before .args .limits)) (c .before .before .before .before .before .before .before .before .before .before .before .pre .1 .1 .0 .2) (now (c .before .before .before .before .before .before .before .before .before .before .before .args .file)) (c .before .before .read-package .result) (c .enum-told2 .given .1) (c .before .before .read-package .ensures)) .1), (refl, entered.memo-refused (c .before .before .before .before .before .before .before .before .before .before .before .args .end) (now (c .before .before .before .before .before .before .before .before .before .before .before .args .domain)) (now (c .before .before .before .before .before .before .before .before .before .before .before .args .file)) 11 _))
+returns-4 c = (loading.load-11 (now (c .before .before .before .before .before .before .before .before .before .before .before .args .s)) (c .before .before .before .before .before .before .before .before .before .before .before .args .end) (now (c .before .before .before .before .before .before .before .before .before .before .before .args .domain)) (now (c .before .before .before .before .before .before .before .before .before .before .before .args .file)) (sym (c .before .before .before .before .before .before .length-ok .ensures) ∙ (creation.not-no (c .before .before .before .before .before .before .length-ok .result) (c .before .before .before .before .before .if1 .left))) (subst (CreatedSays (now (c .before .before .before .before .before .before .before .before .before .before .before .args .s)) (c .before .before .before .before .before .before .before .before .before .before .before .args .end) (now (c .before .before .before .before .before .before .before .before .before .before .before .args .domain))) (creation.not-no (c .before .before .before .before .domain-there .result) (c .before .before .before .if2 .left)) (entered.created-there (now (c .before .before .before .before .before .before .before .before .before .before .before .args .s)) (c .before .before .before .before .before .before .before .before .before .before .before .args .end) (now (c .before .before .before .before .before .before .before .before .before .before .before .args .domain)) (c .before .before .before .before .domain-there .result) (c .before .before .before .before .domain-there .ensures))) ((loading.said-11 (now (c .before .before .before .before .before .before .before .before .before .before .before .args .s)) (limitsOf (c .before .before .before .before .before .before .before .before .before .before .before .args .limits)) (c .before .before .before .before .before .before .before .before .before .before .before .pre .1 .1 .0 .2) (now (c .before .before .before .before .before .before .before .before .before .before .before .args .file)) (c .before .before .read-package .result) (c .enum-told2 .given .1) (c .before .before .read-package .ensures)) .0) ((loading.said-11 (now (c .before .before .before .before .before .before .before .before .before .before .before .args .s)) (limitsOf (c .before .before .before .before .before .before .before .before .before .before .before .args .limits)) (c .before .before .before .before .before .before .before .before .before .before .before .pre .1 .1 .0 .2) (now (c .before .before .before .before .before .before .before .before .before .before .before .args .file)) (c .before .before .read-package .result) (c .enum-told2 .given .1) (c .before .before .read-package .ensures)) .1), (refl, entered.memo-refused (c .before .before .before .before .before .before .before .before .before .before .before .args .end) (now (c .before .before .before .before .before .before .before .before .before .before .before .args .domain)) (now (c .before .before .before .before .before .before .before .before .before .before .before .args .file)) 11 _))
 
 same-length : tie.Need-same-length
 same-length c = search needs
 
 returns-5 : tie.Need-returns-5
-returns-5 c = (loading.load-reads (now (c .before .before .before .before .before .before .before .before .before .before .before .before .before .before .before .before .args .s)) (c .before .before .before .before .before .before .before .before .before .before .before .before .before .before .before .before .args .end) (now (c .before .before .before .before .before .before .before .before .before .before .before .before .before .before .before .before .args .domain)) (now (c .before .before .before .before .before .before .before .before .before .before .before .before .before .before .before .before .args .file)) (sym (c .before .before .before .before .before .before .before .before .before .before .before .length-ok .ensures) ∙ (creation.not-no (c .before .before .before .before .before .before .before .before .before .before .before .length-ok .result) (c .before .before .before .before .before .before .before .before .before .before .if1 .left))) (subst (CreatedSays (now (c .before .before .before .before .before .before .before .before .before .before .before .before .before .before .before .before .args .s)) (c .before .before .before .before .before .before .before .before .before .before .before .before .before .before .before .before .args .end) (now (c .before .before .before .before .before .before .before .before .before .before .before .before .before .before .before .before .args .domain))) (creation.not-no (c .before .before .before .before .before .before .before .before .before .domain-there .result) (c .before .before .before .before .before .before .before .before .if2 .left)) (entered.created-there (now (c .before .before .before .before .before .before .before .before .before .before .before .before .before .before .before .before .args .s)) (c .before .before .before .before .before .before .before .before .before .before .before .before .before .before .before .before .args .end) (now (c .before .before .before .before .before .before .before .before .before .before .before .before .before .before .before .before .args .domain)) (c .before .before .before .before .before .before .before .before .before .domain-there .result) (c .before .before .before .before .before .before .before .before .before .domain-there .ensures))) ((loading.said-0 (limitsOf (c .before .before .before .before .before .before .before .before .before .before .before .before .before .before .before .before .args .limits)) (c .before .before .before .before .before .before .before .before .before .before .before .before .before .before .before .before .pre .1 .1 .0 .2) (now (c .before .before .before .before .before .before .before .before .before .before .before .before .before .before .before .before .args .file)) (c .before .before .before .before .before .before .before .read-package .result) (c .before .before .before .before .before .enum-told3 .given .0 .0) (c .before .before .before .before .before .enum-told3 .given .1) (c .before .before .before .before .before .before .before .read-package .ensures)) .0) ((loading.said-0 (limitsOf (c .before .before .before .before .before .before .before .before .before .before .before .before .before .before .before .before .args .limits)) (c .before .before .before .before .before .before .before .before .before .before .before .before .before .before .before .before .pre .1 .1 .0 .2) (now (c .before .before .before .before .before .before .before .before .before .before .before .before .before .before .before .before .args .file)) (c .before .before .before .before .before .before .before .read-package .result) (c .before .before .before .before .before .enum-told3 .given .0 .0) (c .before .before .before .before .before .enum-told3 .given .1) (c .before .before .before .before .before .before .before .read-package .ensures)) .1 .0) ((loading.said-0 (limitsOf (c .before .before .before .before .before .before .before .before .before .before .before .before .before .before .before .before .args .limits)) (c .before .before .before .before .before .before .before .before .before .before .before .before .before .before .before .before .pre .1 .1 .0 .2) (now (c .before .before .before .before .before .before .before .before .before .before .before .before .before .before .before .before .args .file)) (c .before .before .before .before .before .before .before .read-package .result) (c .before .before .before .before .before .enum-told3 .given .0 .0) (c .before .before .before .before .before .enum-told3 .given .1) (c .before .before .before .before .before .before .before .read-package .ensures)) .1 .1) (c .before .before .package-answer .result) (c .before .before .package-answer .ensures .0), c .before .before .package-answer .ensures .1)
+returns-5 c = (loading.load-reads (now (c .before .before .before .before .before .before .before .before .before .before .before .before .before .before .before .before .args .s)) (c .before .before .before .before .before .before .before .before .before .before .before .before .before .before .before .before .args .end) (now (c .before .before .before .before .before .before .before .before .before .before .before .before .before .before .before .before .args .domain)) (now (c .before .before .before .before .before .before .before .before .before .before .before .before .before .before .before .before .args .file)) (sym (c .before .before .before .before .before .before .before .before .before .before .before .length-ok .ensures) ∙ (creation.not-no (c .before .before .before .before .before .before .before .before .before .before .before .length-ok .result) (c .before .before .before .before .before .before .before .before .before .before .if1 .left))) (subst (CreatedSays (now (c .before .before .before .before .before .before .before .before .before .before .before .before .before .before .before .before .args .s)) (c .before .before .before .before .before .before .before .before .before .before .before .before .before .before .before .before .args .end) (now (c .before .before .before .before .before .before .before .before .before .before .before .before .before .before .before .before .args .domain))) (creation.not-no (c .before .before .before .before .before .before .before .before .before .domain-there .result) (c .before .before .before .before .before .before .before .before .if2 .left)) (entered.created-there (now (c .before .before .before .before .before .before .before .before .before .before .before .before .before .before .before .before .args .s)) (c .before .before .before .before .before .before .before .before .before .before .before .before .before .before .before .before .args .end) (now (c .before .before .before .before .before .before .before .before .before .before .before .before .before .before .before .before .args .domain)) (c .before .before .before .before .before .before .before .before .before .domain-there .result) (c .before .before .before .before .before .before .before .before .before .domain-there .ensures))) ((loading.said-0 (now (c .before .before .before .before .before .before .before .before .before .before .before .before .before .before .before .before .args .s)) (limitsOf (c .before .before .before .before .before .before .before .before .before .before .before .before .before .before .before .before .args .limits)) (c .before .before .before .before .before .before .before .before .before .before .before .before .before .before .before .before .pre .1 .1 .0 .2) (now (c .before .before .before .before .before .before .before .before .before .before .before .before .before .before .before .before .args .file)) (c .before .before .before .before .before .before .before .read-package .result) (c .before .before .before .before .before .enum-told3 .given .0 .0) (c .before .before .before .before .before .enum-told3 .given .1) (c .before .before .before .before .before .before .before .read-package .ensures)) .0) ((loading.said-0 (now (c .before .before .before .before .before .before .before .before .before .before .before .before .before .before .before .before .args .s)) (limitsOf (c .before .before .before .before .before .before .before .before .before .before .before .before .before .before .before .before .args .limits)) (c .before .before .before .before .before .before .before .before .before .before .before .before .before .before .before .before .pre .1 .1 .0 .2) (now (c .before .before .before .before .before .before .before .before .before .before .before .before .before .before .before .before .args .file)) (c .before .before .before .before .before .before .before .read-package .result) (c .before .before .before .before .before .enum-told3 .given .0 .0) (c .before .before .before .before .before .enum-told3 .given .1) (c .before .before .before .before .before .before .before .read-package .ensures)) .1 .0) ((loading.said-0 (now (c .before .before .before .before .before .before .before .before .before .before .before .before .before .before .before .before .args .s)) (limitsOf (c .before .before .before .before .before .before .before .before .before .before .before .before .before .before .before .before .args .limits)) (c .before .before .before .before .before .before .before .before .before .before .before .before .before .before .before .before .pre .1 .1 .0 .2) (now (c .before .before .before .before .before .before .before .before .before .before .before .before .before .before .before .before .args .file)) (c .before .before .before .before .before .before .before .read-package .result) (c .before .before .before .before .before .enum-told3 .given .0 .0) (c .before .before .before .before .before .enum-told3 .given .1) (c .before .before .before .before .before .before .before .read-package .ensures)) .1 .1) (c .before .before .package-answer .result) (c .before .before .package-answer .ensures .0), c .before .before .package-answer .ensures .1)
 
 pub load-answer-spec : {M : Type 1} → statement M
 load-answer-spec =

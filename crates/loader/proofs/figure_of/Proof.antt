@@ -18,7 +18,7 @@ cast-result : tie.Need-cast-result
 cast-result c =
     let start = c .before .before .before in
     let known = c .before .answer in
-    let h : known .given .0 .0 ≤ 8 = subst (λ (x : LoadAnswer). figureOf x ≤ 8) (known .given .1) (start .pre) in omega arith
+    let h : known .given .0 .0 ≤ 16 = subst (λ (x : LoadAnswer). figureOf x ≤ 16) (known .given .1) (start .pre) in omega arith
 
 returns : tie.Need-returns
 returns c = search needs

@@ -3,7 +3,7 @@ use Rattle.loader.specs.Answers.{OtherSays}
 use Rattle.store.proofs.Find as found
 use Rattle.store.proofs.Walk.{walk-start}
 use Rattle.store.specs.Entries.{part}
-use Rattle.rules.specs.Package.{standard}
+use Rattle.rules.specs.Package.{storeLimits}
 use Rattle.loader.specs.Answers.{importer}
 use Rattle.loader.proofs.Importers as importers
 use denote.Ref.{now}
@@ -15,7 +15,7 @@ use Rattle.loader.proofs.imported.Statement.{statement}
 use Rattle.loader.proofs.imported.Tie as tie
 
 abbrev Inv-loop : tie.InvT-loop
-Inv-loop s end aid at₀ at = found.Walks (importer aid) s end at
+Inv-loop s end aid at₀ at = found.Walks (importer (storeLimits s) aid) s end at
 
 abbrev μ-loop : tie.MeasureT-loop
 μ-loop s end aid at₀ at = end - at
@@ -78,7 +78,7 @@ other-imports-requires c κs =
     let turn = c .before .before .before .before .before .loop in
     let read = c .before .before .before .before .entry-at in
     let known = c .before .before .file in
-    (standard, (found.package-reads (turn .inv) (found.part-told (known .given .1) (read .ensures)) (start .pre .0) (start .pre .1) (start .pre .2)) .0, (found.package-reads (turn .inv) (found.part-told (known .given .1) (read .ensures)) (start .pre .0) (start .pre .1) (start .pre .2)) .1)
+    (storeLimits (now (start .args .s)), (found.package-reads (turn .inv) (found.part-told (known .given .1) (read .ensures)) (start .pre .0) (start .pre .1) (start .pre .2)) .0, (found.package-reads (turn .inv) (found.part-told (known .given .1) (read .ensures)) (start .pre .0) (start .pre .1) (start .pre .2)) .1)
 
 returns : tie.Need-returns Inv-loop μ-loop
 returns c =
@@ -88,7 +88,7 @@ returns c =
     let turn = c .before .before .before .before .before .before .before .loop in
     let read = c .before .before .before .before .before .before .entry-at in
     let known = c .before .before .before .before .file in
-    importers.imported-yes aid s (start .args .end) (turn .at) (turn .inv) (known .given .0 .0) (known .given .0 .1 .0) (known .given .0 .1 .1 .0) (found.part-told (known .given .1) (read .ensures)) (importers.importer-is aid (part s (known .given .0 .0) (known .given .0 .1 .0)) (part s (known .given .0 .1 .0) (known .given .0 .1 .1 .0)) true ((found.package-reads (turn .inv) (found.part-told (known .given .1) (read .ensures)) (start .pre .0) (start .pre .1) (start .pre .2)) .0) ((found.package-reads (turn .inv) (found.part-told (known .given .1) (read .ensures)) (start .pre .0) (start .pre .1) (start .pre .2)) .1) (subst (OtherSays (part s (known .given .0 .1 .0) (known .given .0 .1 .1 .0)) aid) (c .if1 .taken) (c .before .other-imports .ensures)))
+    importers.imported-yes aid s (start .args .end) (turn .at) (turn .inv) (known .given .0 .0) (known .given .0 .1 .0) (known .given .0 .1 .1 .0) (found.part-told (known .given .1) (read .ensures)) (importers.importer-is (storeLimits s) aid (part s (known .given .0 .0) (known .given .0 .1 .0)) (part s (known .given .0 .1 .0) (known .given .0 .1 .1 .0)) true ((found.package-reads (turn .inv) (found.part-told (known .given .1) (read .ensures)) (start .pre .0) (start .pre .1) (start .pre .2)) .0) ((found.package-reads (turn .inv) (found.part-told (known .given .1) (read .ensures)) (start .pre .0) (start .pre .1) (start .pre .2)) .1) (subst (OtherSays (part s (known .given .0 .1 .0) (known .given .0 .1 .1 .0)) aid) (c .if1 .taken) (c .before .other-imports .ensures)))
 
 loop-less-2 : tie.Need-loop-less-2 Inv-loop μ-loop
 loop-less-2 c =
@@ -107,7 +107,7 @@ loop-again-2 c =
     let turn = c .before .before .before .before .before .before .before .loop in
     let read = c .before .before .before .before .before .before .entry-at in
     let known = c .before .before .before .before .file in
-    found.walks-package (turn .inv) (found.part-told (known .given .1) (read .ensures)) (importers.importer-is aid (part s (known .given .0 .0) (known .given .0 .1 .0)) (part s (known .given .0 .1 .0) (known .given .0 .1 .1 .0)) false ((found.package-reads (turn .inv) (found.part-told (known .given .1) (read .ensures)) (start .pre .0) (start .pre .1) (start .pre .2)) .0) ((found.package-reads (turn .inv) (found.part-told (known .given .1) (read .ensures)) (start .pre .0) (start .pre .1) (start .pre .2)) .1) (subst (OtherSays (part s (known .given .0 .1 .0) (known .given .0 .1 .1 .0)) aid) (c .if1 .left) (c .before .other-imports .ensures)))
+    found.walks-package (turn .inv) (found.part-told (known .given .1) (read .ensures)) (importers.importer-is (storeLimits s) aid (part s (known .given .0 .0) (known .given .0 .1 .0)) (part s (known .given .0 .1 .0) (known .given .0 .1 .1 .0)) false ((found.package-reads (turn .inv) (found.part-told (known .given .1) (read .ensures)) (start .pre .0) (start .pre .1) (start .pre .2)) .0) ((found.package-reads (turn .inv) (found.part-told (known .given .1) (read .ensures)) (start .pre .0) (start .pre .1) (start .pre .2)) .1) (subst (OtherSays (part s (known .given .0 .1 .0) (known .given .0 .1 .1 .0)) aid) (c .if1 .left) (c .before .other-imports .ensures)))
 
 enum-told : tie.Need-enum-told Inv-loop μ-loop
 enum-told c = c .match .keys3

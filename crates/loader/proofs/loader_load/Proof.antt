@@ -9,8 +9,8 @@ use borrow.Author.Needs.{needs}
 use Rattle.loader.proofs.loader_load.Statement.{statement}
 use Rattle.loader.proofs.loader_load.Tie as tie
 
-standard-requires : tie.Need-standard-requires
-standard-requires c κs = search needs
+limits-of-requires : tie.Need-limits-of-requires
+limits-of-requires c κs = search needs
 
 table-requires : tie.Need-table-requires
 table-requires c κs = search needs
@@ -19,7 +19,7 @@ slice-aggregate-opened-with : tie.Need-slice-aggregate-opened-with
 slice-aggregate-opened-with c = search needs
 
 opened-with-requires : tie.Need-opened-with-requires
-opened-with-requires c κs = ((c .before .before .before .before .before .table .ensures, numbers.code-fits (limitsOf (c .before .before .before .before .before .before .standard .result)) _ (c .before .before .before .before .before .before .standard .ensures) (search needs), c .before .before .before .before .before .before .standard .ensures), (search needs, search needs))
+opened-with-requires c κs = ((c .before .before .before .before .before .table .ensures, numbers.code-fits _ (limitsOf (c .before .before .before .before .before .before .limits-of .result)) _ (c .before .before .before .before .before .before .limits-of .ensures) (search needs), c .before .before .before .before .before .before .limits-of .ensures), (search needs, search needs))
 
 enum-known-n : tie.Need-enum-known-n
 enum-known-n c = search needs
@@ -31,16 +31,16 @@ slice-aggregate-load-answer : tie.Need-slice-aggregate-load-answer
 slice-aggregate-load-answer c = search needs
 
 load-answer-requires : tie.Need-load-answer-requires
-load-answer-requires c κs = (numbers.over-some (now (c .before .before .before .before .before .before .before .before .before .before .before .before .before .before .before .before .before .before .before .before .args .store)) (c .before .before .before .before .before .before .used .given .0 .0) (subst (OpenedSays (now (c .before .before .before .before .before .before .before .before .before .before .before .before .before .before .before .before .before .before .before .before .args .store))) (c .before .before .before .before .before .before .used .given .1) (c .before .before .before .before .before .before .before .before .before .opened-with .ensures .0)), (numbers.small (now (c .before .before .before .before .before .before .before .before .before .before .before .before .before .before .before .before .before .before .before .before .args .store)) (c .before .before .before .before .before .before .used .given .0 .0) (subst (OpenedSays (now (c .before .before .before .before .before .before .before .before .before .before .before .before .before .before .before .before .before .before .before .before .args .store))) (c .before .before .before .before .before .before .used .given .1) (c .before .before .before .before .before .before .before .before .before .opened-with .ensures .0)), ((c .before .before .before .before .before .before .before .before .before .before .before .before .before .before .before .table .ensures, numbers.code-fits (limitsOf (c .before .before .before .before .before .before .before .before .before .before .before .before .before .before .before .before .standard .result)) _ (c .before .before .before .before .before .before .before .before .before .before .before .before .before .before .before .before .standard .ensures) (search needs), c .before .before .before .before .before .before .before .before .before .before .before .before .before .before .before .before .standard .ensures), numbers.indexed (now (c .before .before .before .before .before .before .before .before .before .before .before .before .before .before .before .before .before .before .before .before .args .store)) (c .before .before .before .before .before .before .before .before .before .opened-with .result) (c .before .before .before .before .before .before .used .given .0 .0) _ _ (c .before .before .before .before .before .before .used .given .1) (c .before .before .before .before .before .before .before .before .before .opened-with .ensures .1 .1))))
+load-answer-requires c κs = (numbers.over-some (now (c .before .before .before .before .before .before .before .before .before .before .before .before .before .before .before .before .before .before .before .before .before .args .store)) (c .before .before .before .before .before .before .used .given .0 .0) (subst (OpenedSays (now (c .before .before .before .before .before .before .before .before .before .before .before .before .before .before .before .before .before .before .before .before .before .args .store))) (c .before .before .before .before .before .before .used .given .1) (c .before .before .before .before .before .before .before .before .before .opened-with .ensures .0)), (numbers.small (now (c .before .before .before .before .before .before .before .before .before .before .before .before .before .before .before .before .before .before .before .before .before .args .store)) (c .before .before .before .before .before .before .used .given .0 .0) (subst (OpenedSays (now (c .before .before .before .before .before .before .before .before .before .before .before .before .before .before .before .before .before .before .before .before .before .args .store))) (c .before .before .before .before .before .before .used .given .1) (c .before .before .before .before .before .before .before .before .before .opened-with .ensures .0)), ((c .before .before .before .before .before .before .before .before .before .before .before .before .before .before .before .table .ensures, numbers.code-fits _ (limitsOf (c .before .before .before .before .before .before .before .before .before .before .before .before .before .before .before .before .limits-of .result)) _ (c .before .before .before .before .before .before .before .before .before .before .before .before .before .before .before .before .limits-of .ensures) (search needs), c .before .before .before .before .before .before .before .before .before .before .before .before .before .before .before .before .limits-of .ensures), numbers.indexed (now (c .before .before .before .before .before .before .before .before .before .before .before .before .before .before .before .before .before .before .before .before .before .args .store)) (c .before .before .before .before .before .before .before .before .before .opened-with .result) (c .before .before .before .before .before .before .used .given .0 .0) _ _ (c .before .before .before .before .before .before .used .given .1) (c .before .before .before .before .before .before .before .before .before .opened-with .ensures .1 .1))))
 
 load-on-requires : tie.Need-load-on-requires
-load-on-requires c κs = ((subst (OpenedSays (now (c .before .before .before .before .before .before .before .before .before .before .before .before .before .before .before .before .before .before .before .before .before .before .before .args .store))) (c .before .before .before .before .before .before .before .before .before .used .given .1) (c .before .before .before .before .before .before .before .before .before .before .before .before .opened-with .ensures .0)), c .before .before .load-answer .ensures .0)
+load-on-requires c κs = ((subst (OpenedSays (now (c .before .before .before .before .before .before .before .before .before .before .before .before .before .before .before .before .before .before .before .before .before .before .before .before .args .store))) (c .before .before .before .before .before .before .before .before .before .used .given .1) (c .before .before .before .before .before .before .before .before .before .before .before .before .opened-with .ensures .0)), c .before .before .load-answer .ensures .0)
 
 same-length : tie.Need-same-length
 same-length c = search needs
 
 returns : tie.Need-returns
-returns c = additions.load-unopened (now (c .before .before .before .before .before .before .before .before .before .before .before .before .before .before .before .args .store)) (now (c .before .before .before .before .before .before .before .before .before .before .before .before .before .before .before .args .domain)) (now (c .before .before .before .before .before .before .before .before .before .before .before .before .before .before .before .args .file)) (c .before .before .before .before .opened-with .result) (c .before .n .given .0 .0) (c .before .n .given .1) (c .before .before .before .before .opened-with .ensures .0)
+returns c = additions.load-unopened (now (c .before .before .before .before .before .before .before .before .before .before .before .before .before .before .before .before .args .store)) (now (c .before .before .before .before .before .before .before .before .before .before .before .before .before .before .before .before .args .domain)) (now (c .before .before .before .before .before .before .before .before .before .before .before .before .before .before .before .before .args .file)) (c .before .before .before .before .opened-with .result) (c .before .n .given .0 .0) (c .before .n .given .1) (c .before .before .before .before .opened-with .ensures .0)
 
 same-length-2 : tie.Need-same-length-2
 same-length-2 c = search needs
@@ -52,7 +52,7 @@ pub loader-load-spec : {M : Type 1} → statement M
 loader-load-spec =
     tie.close
     (tie.spec
-    standard-requires
+    limits-of-requires
     table-requires
     slice-aggregate-opened-with
     opened-with-requires

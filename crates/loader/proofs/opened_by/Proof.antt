@@ -8,14 +8,14 @@ use Rattle.loader.proofs.opened_by.Tie as tie
 table-requires : tie.Need-table-requires
 table-requires c κs = search needs
 
-standard-requires : tie.Need-standard-requires
-standard-requires c κs = search needs
+limits-of-requires : tie.Need-limits-of-requires
+limits-of-requires c κs = search needs
 
 slice-aggregate-opened-with : tie.Need-slice-aggregate-opened-with
 slice-aggregate-opened-with c = search needs
 
 opened-with-requires : tie.Need-opened-with-requires
-opened-with-requires c κs = ((c .before .before .before .before .before .table .ensures, numbers.code-fits (limitsOf (c .before .before .before .before .standard .result)) _ (c .before .before .before .before .standard .ensures) (search needs), c .before .before .before .before .standard .ensures), (search needs, search needs))
+opened-with-requires c κs = ((c .before .before .before .before .before .table .ensures, numbers.code-fits _ (limitsOf (c .before .before .before .before .limits-of .result)) _ (c .before .before .before .before .limits-of .ensures) (search needs), c .before .before .before .before .limits-of .ensures), (search needs, search needs))
 
 returns : tie.Need-returns
 returns c = c .before .opened-with .ensures .0
@@ -25,7 +25,7 @@ opened-by-spec =
     tie.close
     (tie.spec
     table-requires
-    standard-requires
+    limits-of-requires
     slice-aggregate-opened-with
     opened-with-requires
     returns)

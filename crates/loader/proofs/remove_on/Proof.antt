@@ -1,9 +1,10 @@
 -- `loader::remove_on` leaves what a removal in a sound store does. Assumes nothing.
-use Rattle.rules.specs.Package.{standard}
-use Rattle.rules.specs.Operations.{remove, isPackage}
+use Rattle.rules.specs.Package.{Limits, storeLimits}
+use Rattle.rules.specs.Operations.{remove, without, isPackage}
+use Rattle.rules.proofs.Limits.{store-limits}
 use Rattle.loader.proofs.Cuts as cuts
 use denote.Ref.{now}
-use mathlib.Core.Path.{refl}
+use mathlib.Core.Path.{sym, ap}
 use borrow.Author.Needs.{needs}
 use Rattle.loader.proofs.remove_on.Statement.{statement}
 use Rattle.loader.proofs.remove_on.Tie as tie
@@ -23,7 +24,7 @@ cut-entry-requires c κs =
     let aid = now (start .args .«package») in
     let answer = c .before .before .before .before .remove-answer in
     let known = c .before .before .at in
-    cuts.cut-at (now (start .args .store)) (start .args .used) (start .pre) (remove aid) (isPackage standard aid) (answer .result) (answer .ensures) (known .given .0 .0) (known .given .0 .1 .0) (known .given .1)
+    cuts.cut-at (now (start .args .store)) (start .args .used) (start .pre) (remove aid) (isPackage (storeLimits (now (start .args .store))) aid) (answer .result) (answer .ensures) (known .given .0 .0) (known .given .0 .1 .0) (known .given .1)
 
 same-length : tie.Need-same-length
 same-length c = search needs
@@ -34,7 +35,7 @@ returns c =
     let aid = now (start .args .«package») in
     let answer = c .before .before .before .remove-answer in
     let known = c .before .n in
-    cuts.cut-refused (now (start .args .store)) (start .args .used) (start .pre) (remove aid) (isPackage standard aid) (answer .result) (answer .ensures) (known .given .0 .0) (known .given .1)
+    cuts.cut-refused (now (start .args .store)) (start .args .used) (start .pre) (remove aid) (isPackage (storeLimits (now (start .args .store))) aid) (answer .result) (answer .ensures) (known .given .0 .0) (known .given .1)
 
 same-length-2 : tie.Need-same-length-2
 same-length-2 c = search needs
@@ -46,7 +47,7 @@ returns-2 c =
     let answer = c .before .before .before .before .before .before .before .remove-answer in
     let known = c .before .before .before .before .before .at in
     let cut = c .before .before .cut-entry in
-    cuts.cut-done (now (start .args .store)) (start .args .used) (start .pre) (remove aid) (isPackage standard aid) (answer .result) (answer .ensures) (known .given .0 .0) (known .given .0 .1 .0) _ (known .given .1) (λ es. refl) (cut .ensures)
+    cuts.cut-done (now (start .args .store)) (start .args .used) (start .pre) (remove aid) (isPackage (storeLimits (now (start .args .store))) aid) (answer .result) (answer .ensures) (known .given .0 .0) (known .given .0 .1 .0) _ (known .given .1) (λ es. ap (λ (l : Limits). without (isPackage l aid) es) (sym (store-limits (now (start .args .store))))) (cut .ensures)
 
 pub remove-on-spec : {M : Type 1} → statement M
 remove-on-spec =

@@ -19,7 +19,7 @@ use Rattle.running.proofs.+find_chain.{statement}
 use Rattle.running.proofs.+find_chain.Tie.{close}
 
 abbrev μ-find-chain : Measures 2 find-chain-kinds.ps ℕ
-μ-find-chain κs a = 8 - a .1 .1 .1 .0
+μ-find-chain κs a = 16 - a .1 .1 .1 .0
 
 abbrev find-chain-at : ℕ → In 2 find-chain-kinds.ps
 find-chain-at t =

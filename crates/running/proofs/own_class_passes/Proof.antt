@@ -31,7 +31,7 @@ add-mark-2 : tie.Need-add-mark-2
 add-mark-2 c = omega (arith, whole.own-small (now (c .before .before .before .before .before .args .f)) (now (c .before .before .before .before .before .args .s)) (c .before .before .before .before .before .args .end) (c .before .before .before .before .before .args .b) (c .before .before .before .before .before .pre .0), c .before .before .before .before .before .pre .1 .1 .1)
 
 find-chain-requires : tie.Need-find-chain-requires
-find-chain-requires c κs = (subst (λ (a : Home). ChainRoom (now (c .before .before .before .before .before .before .args .f)) (now (c .before .before .before .before .before .before .args .s)) 0 a (c .before .before .before .before .before .before .args .b)) (sym (c .before .before .before .own-home .ensures)) (chains.own-room (now (c .before .before .before .before .before .before .args .f)) (now (c .before .before .before .before .before .before .args .s)) (c .before .before .before .before .before .before .args .end) (c .before .before .before .before .before .before .args .b) (c .before .before .before .before .before .before .pre .0)), length-replicate {A = ℕ} 32 0)
+find-chain-requires c κs = (subst (λ (a : Home). ChainRoom (now (c .before .before .before .before .before .before .args .f)) (now (c .before .before .before .before .before .before .args .s)) 0 a (c .before .before .before .before .before .before .args .b)) (sym (c .before .before .before .own-home .ensures)) (chains.own-room (now (c .before .before .before .before .before .before .args .f)) (now (c .before .before .before .before .before .before .args .s)) (c .before .before .before .before .before .before .args .end) (c .before .before .before .before .before .before .args .b) (c .before .before .before .before .before .before .pre .0)), length-replicate {A = ℕ} 64 0)
 
 class-passes-requires : tie.Need-class-passes-requires
 class-passes-requires c κs = (subst (λ (a : Home). WalkThere (now (c .before .before .before .before .before .before .before .before .before .args .f)) (now (c .before .before .before .before .before .before .before .before .before .args .s)) (c .before .before .before .before .before .before .before .before .before .args .end) (c .before .before .before .before .before .before .before .before .before .args .b) a (c .before .before .before .before .before .before .before .before .before .args .b)) (sym (c .before .before .before .before .before .before .own-home .ensures)) (whole.own-walk (now (c .before .before .before .before .before .before .before .before .before .args .f)) (now (c .before .before .before .before .before .before .before .before .before .args .s)) (c .before .before .before .before .before .before .before .before .before .args .end) (c .before .before .before .before .before .before .before .before .before .args .b) (subst (λ (a : Home). Kind0Is (now (c .before .before .before .before .before .before .before .before .before .args .f)) (now (c .before .before .before .before .before .before .before .before .before .args .s)) a (c .before .before .before .before .before .before .before .before .before .args .b) true) (c .before .before .before .before .before .before .own-home .ensures) (subst (λ (v : Bool). Kind0Is (now (c .before .before .before .before .before .before .before .before .before .args .f)) (now (c .before .before .before .before .before .before .before .before .before .args .s)) (c .before .before .before .before .before .before .own-home .result) (c .before .before .before .before .before .before .before .before .before .args .b) v) (records.not-no (c .before .before .before .before .before .is-kind0 .result) (c .before .before .before .before .if1 .left)) (c .before .before .before .before .before .is-kind0 .ensures))) (c .before .before .before .before .before .before .before .before .before .pre .0)), (whole.marks-start (now (c .before .before .before .before .before .before .before .before .before .args .f)) (now (c .before .before .before .before .before .before .before .before .before .args .s)) (c .before .before .before .before .before .before .before .before .before .args .end) (c .before .before .before .before .before .before .before .before .before .args .b) (c .before .before .before .before .before .before .before .before .before .args .base) (now (c .before .before .before .before .before .before .before .before .before .args .memo)) (c .before .before .before .before .before .before .before .before .before .pre .1 .0) (c .before .before .before .before .before .before .before .before .before .pre .1 .1 .1) (c .before .before .before .before .before .before .before .before .before .pre .0), (c .before .before .before .before .before .before .before .before .before .pre .1 .1 .0, chains.own-chain (now (c .before .before .before .before .before .before .before .before .before .args .f)) (now (c .before .before .before .before .before .before .before .before .before .args .s)) (c .before .before .before .before .before .before .before .before .before .args .end) (c .before .before .before .before .before .before .before .before .before .args .b) (c .before .before .before .before .before .before .own-home .result) (c .before .before .before .before .before .before .own-home .ensures) _ _ (c .before .before .find-chain .result) (c .before .before .find-chain .ensures .0) (c .before .before .find-chain .ensures .1))))

@@ -2,6 +2,7 @@
 use Rattle.store.proofs.Walk.{walk-start, place-any}
 use Rattle.store.specs.Entries.{liesIn}
 use Rattle.rules.specs.Bytes.{isSome}
+use Rattle.rules.specs.Package.{storeLimits}
 use Rattle.store.proofs.Asked as asked
 use Rattle.store.proofs.Find as found
 use denote.Ref.{now}
@@ -60,7 +61,7 @@ returns : tie.Need-returns Inv-loop μ-loop
 returns c =
     let start = c .before .before .before .before .before .before .before .before .before .before in
     let aid = now (start .args .aid) in
-    λ es r h. sym (asked.in-use es aid h ∙ sym (place-any (liesIn aid) 7 es) ∙ ap isSome (found.found-package (c .before .before .before .before .before .before .before .loop .inv) (found.part-told (c .before .before .before .before .from .given .1) (c .before .before .before .before .before .before .entry-at .ensures)) (sym (c .before .same-bytes .ensures) ∙ c .if1 .taken) es r))
+    λ es r h. sym (asked.in-use (storeLimits (now (start .args .s))) es aid h ∙ sym (place-any (liesIn aid) 7 es) ∙ ap isSome (found.found-package (c .before .before .before .before .before .before .before .loop .inv) (found.part-told (c .before .before .before .before .from .given .1) (c .before .before .before .before .before .before .entry-at .ensures)) (sym (c .before .same-bytes .ensures) ∙ c .if1 .taken) es r))
 
 loop-less-2 : tie.Need-loop-less-2 Inv-loop μ-loop
 loop-less-2 c =
@@ -74,7 +75,7 @@ enum-told : tie.Need-enum-told Inv-loop μ-loop
 enum-told c = c .match .keys3
 
 returns-2 : tie.Need-returns-2 Inv-loop μ-loop
-returns-2 c = λ es r h. sym (asked.in-use es (now (c .before .before .before .before .before .before .args .aid)) h ∙ found.found-none (c .before .before .before .loop .inv) (found.part-told (c .enum-told .given .1) (c .before .before .entry-at .ensures)) es r)
+returns-2 c = λ es r h. sym (asked.in-use (storeLimits (now (c .before .before .before .before .before .before .args .s))) es (now (c .before .before .before .before .before .before .args .aid)) h ∙ found.found-none (c .before .before .before .loop .inv) (found.part-told (c .enum-told .given .1) (c .before .before .entry-at .ensures)) es r)
 
 pub domain-in-use-spec : {M : Type 1} → statement M
 domain-in-use-spec =

@@ -1,7 +1,7 @@
 -- `store::find_package` tells where a package stands: none of the entries passed is the package's. Assumes nothing.
 use Rattle.store.proofs.Walk.{walk-start}
 use Rattle.store.specs.Entries.{part}
-use Rattle.rules.specs.Package.{standard}
+use Rattle.rules.specs.Package.{storeLimits}
 use Rattle.store.proofs.Own.{own-by}
 use Rattle.store.proofs.Asked as asked
 use Rattle.store.proofs.Find as found
@@ -63,7 +63,7 @@ own-is-requires : tie.Need-own-is-requires Inv-loop μ-loop
 own-is-requires c κs =
     let start = c .before .before .before .before .before .before .before .before in
     let y = found.package-reads (c .before .before .before .before .before .loop .inv) (found.part-told (c .before .before .file .given .1) (c .before .before .before .before .entry-at .ensures)) (start .pre .0) (start .pre .1) (start .pre .2) in
-    let x = own-by standard (part (now (start .args .s)) (c .before .before .file .given .0 .1 .0) (c .before .before .file .given .0 .1 .1 .0)) (y .0) (y .1) in
+    let x = own-by (storeLimits (now (start .args .s))) (part (now (start .args .s)) (c .before .before .file .given .0 .1 .0) (c .before .before .file .given .0 .1 .1 .0)) (y .0) (y .1) in
     (x .inside, x .to)
 
 returns : tie.Need-returns Inv-loop μ-loop

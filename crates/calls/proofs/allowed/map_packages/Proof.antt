@@ -1,5 +1,5 @@
 -- `calls::allowed::map_packages` meets its contract: the loop keeps that the packages passed are mapped. Assumes nothing.
-use Rattle.rules.specs.Package.{standard}
+use Rattle.rules.specs.Package.{storeLimits}
 use Rattle.homes.specs.Homes.{fileOf, HomeThere}
 use Rattle.homes.proofs.Lookups.{there-bounds, there-reads}
 use mathlib.Core.Path.{_∙_, ap}
@@ -35,7 +35,7 @@ loop-holds : tie.Need-loop-holds Inv-loop μ-loop
 loop-holds c = maps.maps-none (now (c .before .before .before .before .before .before .before .args .map)) (c .before .before .before .before .before .before .before .pre .1 .1)
 
 home-at-requires : tie.Need-home-at-requires Inv-loop μ-loop
-home-at-requires c κs = (c .before .before .before .before .before .before .before .before .before .pre .1 .0 .size, omega (arith, c .loop-test .taken, (look.imports-count (c .before .before .before .wide .result) (c .before .before .before .before .before .imports-at .ensures) (c .before .before .before .wide .ensures .0)) standard (c .before .before .before .before .before .before .before .before .before .pre .0 .1 .pack) (c .before .before .before .before .before .before .before .before .before .pre .0 .2 .setting .reads), look.imports-few standard (now (c .before .before .before .before .before .before .before .before .before .args .f)) (c .before .before .before .before .before .before .before .before .before .pre .0 .1 .pack) (c .before .before .before .before .before .before .before .before .before .pre .0 .2 .setting .reads)))
+home-at-requires c κs = (c .before .before .before .before .before .before .before .before .before .pre .1 .0 .size, omega (arith, c .loop-test .taken, (look.imports-count (c .before .before .before .wide .result) (c .before .before .before .before .before .imports-at .ensures) (c .before .before .before .wide .ensures .0)) (storeLimits (now (c .before .before .before .before .before .before .before .before .before .args .s))) (c .before .before .before .before .before .before .before .before .before .pre .0 .1 .pack) (c .before .before .before .before .before .before .before .before .before .pre .0 .2 .setting .reads), look.imports-few (storeLimits (now (c .before .before .before .before .before .before .before .before .before .args .s))) (now (c .before .before .before .before .before .before .before .before .before .args .f)) (c .before .before .before .before .before .before .before .before .before .pre .0 .1 .pack) (c .before .before .before .before .before .before .before .before .before .pre .0 .2 .setting .reads)))
 
 file-of-requires : tie.Need-file-of-requires Inv-loop μ-loop
 file-of-requires c κs = there-bounds (now (c .before .before .before .before .before .before .before .before .before .before .args .f)) (now (c .before .before .before .before .before .before .before .before .before .before .args .s)) (c .home-at .result) (subst (HomeThere (now (c .before .before .before .before .before .before .before .before .before .before .args .f)) (now (c .before .before .before .before .before .before .before .before .before .before .args .s))) (sym (c .home-at .ensures)) (look.numbered-there (now (c .before .before .before .before .before .before .before .before .before .before .args .homes)) (c .before .before .before .before .before .before .before .before .before .before .pre .1 .0) (look.imports-count (c .before .before .before .before .wide .result) (c .before .before .before .before .before .before .imports-at .ensures) (c .before .before .before .before .wide .ensures .0)) (c .before .before .loop .p) (c .before .loop-test .taken) (c .before .before .before .before .before .before .before .before .before .before .pre .0)))
@@ -44,13 +44,13 @@ domains-at-requires-2 : tie.Need-domains-at-requires-2 Inv-loop μ-loop
 domains-at-requires-2 c κs = (there-reads (now (c .before .before .before .before .before .before .before .before .before .before .before .args .f)) (now (c .before .before .before .before .before .before .before .before .before .before .before .args .s)) (c .before .home-at .result) (now (c .file-of .result)) (c .file-of .ensures) (subst (HomeThere (now (c .before .before .before .before .before .before .before .before .before .before .before .args .f)) (now (c .before .before .before .before .before .before .before .before .before .before .before .args .s))) (sym (c .before .home-at .ensures)) (look.numbered-there (now (c .before .before .before .before .before .before .before .before .before .before .before .args .homes)) (c .before .before .before .before .before .before .before .before .before .before .before .pre .1 .0) (look.imports-count (c .before .before .before .before .before .wide .result) (c .before .before .before .before .before .before .before .imports-at .ensures) (c .before .before .before .before .before .wide .ensures .0)) (c .before .before .before .loop .p) (c .before .before .loop-test .taken) (c .before .before .before .before .before .before .before .before .before .before .before .pre .0))))
 
 mul-map-domains : tie.Need-mul-map-domains Inv-loop μ-loop
-mul-map-domains c = omega (arith, c .before .before .before .before .loop-test .taken, (look.imports-count (c .before .before .before .before .before .before .before .wide .result) (c .before .before .before .before .before .before .before .before .before .imports-at .ensures) (c .before .before .before .before .before .before .before .wide .ensures .0)) standard (c .before .before .before .before .before .before .before .before .before .before .before .before .before .pre .0 .1 .pack) (c .before .before .before .before .before .before .before .before .before .before .before .before .before .pre .0 .2 .setting .reads), look.imports-few standard (now (c .before .before .before .before .before .before .before .before .before .before .before .before .before .args .f)) (c .before .before .before .before .before .before .before .before .before .before .before .before .before .pre .0 .1 .pack) (c .before .before .before .before .before .before .before .before .before .before .before .before .before .pre .0 .2 .setting .reads))
+mul-map-domains c = omega (arith, c .before .before .before .before .loop-test .taken, (look.imports-count (c .before .before .before .before .before .before .before .wide .result) (c .before .before .before .before .before .before .before .before .before .imports-at .ensures) (c .before .before .before .before .before .before .before .wide .ensures .0)) (storeLimits (now (c .before .before .before .before .before .before .before .before .before .before .before .before .before .args .s))) (c .before .before .before .before .before .before .before .before .before .before .before .before .before .pre .0 .1 .pack) (c .before .before .before .before .before .before .before .before .before .before .before .before .before .pre .0 .2 .setting .reads), look.imports-few (storeLimits (now (c .before .before .before .before .before .before .before .before .before .before .before .before .before .args .s))) (now (c .before .before .before .before .before .before .before .before .before .before .before .before .before .args .f)) (c .before .before .before .before .before .before .before .before .before .before .before .before .before .pre .0 .1 .pack) (c .before .before .before .before .before .before .before .before .before .before .before .before .before .pre .0 .2 .setting .reads))
 
 map-domains-requires : tie.Need-map-domains-requires Inv-loop μ-loop
-map-domains-requires c κs = ((maps.domains-there (c .before .before .before .before .before .before .domains-at .ensures) (look.judged-reads (c .before .before .before .before .before .before .before .before .before .before .before .before .before .pre .0))), (maps.domains-there (c .before .domains-at2 .ensures) (there-reads (now (c .before .before .before .before .before .before .before .before .before .before .before .before .before .args .f)) (now (c .before .before .before .before .before .before .before .before .before .before .before .before .before .args .s)) (c .before .before .before .home-at .result) (now (c .before .before .file-of .result)) (c .before .before .file-of .ensures) (subst (HomeThere (now (c .before .before .before .before .before .before .before .before .before .before .before .before .before .args .f)) (now (c .before .before .before .before .before .before .before .before .before .before .before .before .before .args .s))) (sym (c .before .before .before .home-at .ensures)) (look.numbered-there (now (c .before .before .before .before .before .before .before .before .before .before .before .before .before .args .homes)) (c .before .before .before .before .before .before .before .before .before .before .before .before .before .pre .1 .0) (look.imports-count (c .before .before .before .before .before .before .before .wide .result) (c .before .before .before .before .before .before .before .before .before .imports-at .ensures) (c .before .before .before .before .before .before .before .wide .ensures .0)) (c .before .before .before .before .before .loop .p) (c .before .before .before .before .loop-test .taken) (c .before .before .before .before .before .before .before .before .before .before .before .before .before .pre .0)))), (c .before .before .before .before .before .loop .inv .size, omega (arith, c .before .before .before .before .loop-test .taken, (look.imports-count (c .before .before .before .before .before .before .before .wide .result) (c .before .before .before .before .before .before .before .before .before .imports-at .ensures) (c .before .before .before .before .before .before .before .wide .ensures .0)) standard (c .before .before .before .before .before .before .before .before .before .before .before .before .before .pre .0 .1 .pack) (c .before .before .before .before .before .before .before .before .before .before .before .before .before .pre .0 .2 .setting .reads), look.imports-few standard (now (c .before .before .before .before .before .before .before .before .before .before .before .before .before .args .f)) (c .before .before .before .before .before .before .before .before .before .before .before .before .before .pre .0 .1 .pack) (c .before .before .before .before .before .before .before .before .before .before .before .before .before .pre .0 .2 .setting .reads)))))
+map-domains-requires c κs = ((maps.domains-there (c .before .before .before .before .before .before .domains-at .ensures) (look.judged-reads (c .before .before .before .before .before .before .before .before .before .before .before .before .before .pre .0))), (maps.domains-there (c .before .domains-at2 .ensures) (there-reads (now (c .before .before .before .before .before .before .before .before .before .before .before .before .before .args .f)) (now (c .before .before .before .before .before .before .before .before .before .before .before .before .before .args .s)) (c .before .before .before .home-at .result) (now (c .before .before .file-of .result)) (c .before .before .file-of .ensures) (subst (HomeThere (now (c .before .before .before .before .before .before .before .before .before .before .before .before .before .args .f)) (now (c .before .before .before .before .before .before .before .before .before .before .before .before .before .args .s))) (sym (c .before .before .before .home-at .ensures)) (look.numbered-there (now (c .before .before .before .before .before .before .before .before .before .before .before .before .before .args .homes)) (c .before .before .before .before .before .before .before .before .before .before .before .before .before .pre .1 .0) (look.imports-count (c .before .before .before .before .before .before .before .wide .result) (c .before .before .before .before .before .before .before .before .before .imports-at .ensures) (c .before .before .before .before .before .before .before .wide .ensures .0)) (c .before .before .before .before .before .loop .p) (c .before .before .before .before .loop-test .taken) (c .before .before .before .before .before .before .before .before .before .before .before .before .before .pre .0)))), (c .before .before .before .before .before .loop .inv .size, omega (arith, c .before .before .before .before .loop-test .taken, (look.imports-count (c .before .before .before .before .before .before .before .wide .result) (c .before .before .before .before .before .before .before .before .before .imports-at .ensures) (c .before .before .before .before .before .before .before .wide .ensures .0)) (storeLimits (now (c .before .before .before .before .before .before .before .before .before .before .before .before .before .args .s))) (c .before .before .before .before .before .before .before .before .before .before .before .before .before .pre .0 .1 .pack) (c .before .before .before .before .before .before .before .before .before .before .before .before .before .pre .0 .2 .setting .reads), look.imports-few (storeLimits (now (c .before .before .before .before .before .before .before .before .before .before .before .before .before .args .s))) (now (c .before .before .before .before .before .before .before .before .before .before .before .before .before .args .f)) (c .before .before .before .before .before .before .before .before .before .before .before .before .before .pre .0 .1 .pack) (c .before .before .before .before .before .before .before .before .before .before .before .before .before .pre .0 .2 .setting .reads)))))
 
 add-p : tie.Need-add-p Inv-loop μ-loop
-add-p c = omega (arith, c .before .before .before .before .before .loop-test .taken, (look.imports-count (c .before .before .before .before .before .before .before .before .wide .result) (c .before .before .before .before .before .before .before .before .before .before .imports-at .ensures) (c .before .before .before .before .before .before .before .before .wide .ensures .0)) standard (c .before .before .before .before .before .before .before .before .before .before .before .before .before .before .pre .0 .1 .pack) (c .before .before .before .before .before .before .before .before .before .before .before .before .before .before .pre .0 .2 .setting .reads), look.imports-few standard (now (c .before .before .before .before .before .before .before .before .before .before .before .before .before .before .args .f)) (c .before .before .before .before .before .before .before .before .before .before .before .before .before .before .pre .0 .1 .pack) (c .before .before .before .before .before .before .before .before .before .before .before .before .before .before .pre .0 .2 .setting .reads))
+add-p c = omega (arith, c .before .before .before .before .before .loop-test .taken, (look.imports-count (c .before .before .before .before .before .before .before .before .wide .result) (c .before .before .before .before .before .before .before .before .before .before .imports-at .ensures) (c .before .before .before .before .before .before .before .before .wide .ensures .0)) (storeLimits (now (c .before .before .before .before .before .before .before .before .before .before .before .before .before .before .args .s))) (c .before .before .before .before .before .before .before .before .before .before .before .before .before .before .pre .0 .1 .pack) (c .before .before .before .before .before .before .before .before .before .before .before .before .before .before .pre .0 .2 .setting .reads), look.imports-few (storeLimits (now (c .before .before .before .before .before .before .before .before .before .before .before .before .before .before .args .s))) (now (c .before .before .before .before .before .before .before .before .before .before .before .before .before .before .args .f)) (c .before .before .before .before .before .before .before .before .before .before .before .before .before .before .pre .0 .1 .pack) (c .before .before .before .before .before .before .before .before .before .before .before .before .before .before .pre .0 .2 .setting .reads))
 
 loop-less : tie.Need-loop-less Inv-loop μ-loop
 loop-less c = omega (arith, c .before .before .before .before .before .loop-test .taken)

@@ -2,22 +2,21 @@
 use Rattle.files.specs.Say.{ImplementedIs}
 use Rattle.calls.proofs.Numbers as numbers
 use denote.Ref.{now}
-use native.Mathlib.Omega.{arith}
 use borrow.Author.Needs.{needs}
 use Rattle.calls.proofs.code_numbers.method_number.Statement.{statement}
 use Rattle.calls.proofs.code_numbers.method_number.Tie as tie
 
 is-implemented-requires : tie.Need-is-implemented-requires
-is-implemented-requires c κs = search needs
+is-implemented-requires c κs = let g = c .before .before .pre .0 in (g .0, g .1, g .2)
 
 returns : tie.Need-returns
 returns c = numbers.bare-number (numbers.was-no (ImplementedIs (now (c .before .before .before .before .args .f)) (c .before .before .before .before .args .at)) (c .if1 .taken) (c .before .is-implemented .ensures))
 
 code-of-requires : tie.Need-code-of-requires
-code-of-requires c κs = search needs
+code-of-requires c κs = let g = c .before .before .before .before .pre .0 in (g .0, g .1, g .2)
 
 check-code-requires : tie.Need-check-code-requires
-check-code-requires c κs = (c .before .before .before .before .before .before .pre .1 .0, omega (arith, numbers.method-short (now (c .before .code-of .result)) (c .before .code-of .ensures) (c .before .before .before .before .before .before .pre .0), c .before .before .before .before .before .before .pre .1 .1))
+check-code-requires c κs = (c .before .before .before .before .before .before .pre .1, numbers.method-short (now (c .before .before .before .before .before .before .args .marks)) (now (c .before .code-of .result)) (c .before .code-of .ensures) (c .before .before .before .before .before .before .pre .0))
 
 same-length : tie.Need-same-length
 same-length c = search needs

@@ -1,5 +1,5 @@
 -- `calls::references::named_by` meets its contract: the home of the package, the class record at its place, the method in it. Assumes nothing.
-use Rattle.rules.specs.Package.{standard}
+use Rattle.rules.specs.Package.{storeLimits}
 use Rattle.files.specs.Say.{DeclaredPlaced}
 use Rattle.files.specs.declared.Spot.the-variants.{At, Nothing}
 use Rattle.homes.specs.Homes.{fileOf, HomeThere, ClassPlaced}
@@ -18,7 +18,7 @@ returns : tie.Need-returns
 returns c = look.numbered-none (now (c .before .before .before .args .homes)) (c .before .before .before .args .p) (c .before .before .before .args .c) (c .before .before .before .args .n) (c .before .before .before .pre .1 .1) (c .if1 .taken)
 
 home-at-requires : tie.Need-home-at-requires
-home-at-requires c κs = (c .before .before .before .pre .1 .0 .size, omega (arith, c .if1 .left, (c .before .before .before .pre .1 .1) standard (c .before .before .before .pre .0 .1 .pack) (c .before .before .before .pre .0 .2 .setting .reads), look.imports-few standard (now (c .before .before .before .args .f)) (c .before .before .before .pre .0 .1 .pack) (c .before .before .before .pre .0 .2 .setting .reads)))
+home-at-requires c κs = (c .before .before .before .pre .1 .0 .size, omega (arith, c .if1 .left, (c .before .before .before .pre .1 .1) (storeLimits (now (c .before .before .before .args .s))) (c .before .before .before .pre .0 .1 .pack) (c .before .before .before .pre .0 .2 .setting .reads), look.imports-few (storeLimits (now (c .before .before .before .args .s))) (now (c .before .before .before .args .f)) (c .before .before .before .pre .0 .1 .pack) (c .before .before .before .pre .0 .2 .setting .reads)))
 
 class-place-requires : tie.Need-class-place-requires
 class-place-requires c κs = (subst (HomeThere (now (c .before .before .before .before .args .f)) (now (c .before .before .before .before .args .s))) (sym (c .home-at .ensures)) (look.numbered-there (now (c .before .before .before .before .args .homes)) (c .before .before .before .before .pre .1 .0) (c .before .before .before .before .pre .1 .1) (c .before .before .before .before .args .p) (c .before .if1 .left) (c .before .before .before .before .pre .0)))
