@@ -1,5 +1,5 @@
 -- Loops over the elements of a list by their numbers: a test of all, a count, from element i on. Assumes nothing.
-use Prim.Native.Nat.{ℕ, zero, suc, _+_, _≤_, _<_}
+use Prim.Native.Nat.{ℕ, zero, suc, _+_, _≤_}
 use native.Mathlib.Omega.{arith}
 use native.Mathlib.Numerals.{add-one}
 use mathlib.Core.Path.{_≡_, refl, sym, _∙_, ap}
@@ -44,11 +44,6 @@ module _ {A : Type 0} where
   at-end [] i h = refl
   at-end (y ∷ ys) zero h = absurd (omega arith)
   at-end (y ∷ ys) (suc i) h = at-end ys i (omega arith)
-
-  pub at-there : (xs : List A) (i : ℕ) → i < length xs → (x : A) × (at xs i ≡ some x)
-  at-there [] i h = absurd (omega arith)
-  at-there (y ∷ ys) zero h = (y, refl)
-  at-there (y ∷ ys) (suc i) h = at-there ys i (omega arith)
 
   -- a test that takes no number
   pub all-from : (p : A → Bool) (i : ℕ) (xs : List A) → all p xs ≡ allFrom (λ j x. p x) i xs

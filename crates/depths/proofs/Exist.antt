@@ -12,12 +12,13 @@ use Rattle.rules.specs.Package.{storeLimits, ClassNumber, Class}
 use Rattle.rules.specs.Store.{Entry}
 use Rattle.rules.specs.Classes.{Installed, installed, packageNumbered}
 use Rattle.rules.specs.Questions.{parentExists}
+use Rattle.rules.proofs.Lists.{at-there}
 use Rattle.homes.specs.Homes.{Imports, ownHome, HomeIs, HomeThere, NumberedIs, RecordIs}
 use Rattle.homes.specs.Homes as homes
 use Rattle.homes.specs.declared.Home.{Home}
 use Rattle.homes.specs.declared.HomeFound.the-variants.{At, Nothing}
 use Rattle.depths.specs.Depths.{ImportsThere, OfImports, ClassCount, HasClass, OwnClass, OfOwnClass, ExistsIs, AllExist, ParentsExist}
-use Rattle.depths.proofs.ByNumber.{at-there, all-from, Left, left-more, left-bad, left-done}
+use Rattle.depths.proofs.ByNumber.{all-from, Left, left-more, left-bad, left-done}
 use Rattle.depths.proofs.Records.{RecordBy, record-by}
 
 -- a package by its number, found at a home

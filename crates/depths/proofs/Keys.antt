@@ -4,14 +4,14 @@ use Prim.Native.Nat.{ℕ, zero, suc, _+_, _-_, _*_, _/_, _≤_, _<_}
 use native.Mathlib.Omega.{arith}
 use native.Mathlib.Decide.{decLe}
 use mathlib.Core.Path.{_≡_, refl, sym, _∙_, ap, subst}
-use mathlib.Core.List.{List, [], _∷_, _++_}
+use mathlib.Core.List.{List, _∷_, _++_}
 use mathlib.Core.Option.{some}
 use lib.ListN.{length, drop, length-drop}
 use Rattle.rules.specs.Bytes.{Bytes, Aid, Reader, at, u1, u2, many, aid, counted}
 use Rattle.rules.specs.Package.{Limits, storeLimits, mostDomains, mostImports, mostReferences, mostClasses, mostMethods, Class, Package, classNumber, reference, method, class, readFile}
 use Rattle.rules.specs.Store.{Entry, loaded, openingLength}
 use Rattle.rules.specs.Classes.{Installed}
-use Rattle.rules.proofs.Tests.{none-some}
+use Rattle.rules.proofs.Lists.{at-below}
 use Rattle.places.specs.Reads.{Reads}
 use Rattle.places.proofs.Steady.{Steady, steady-u1, steady-many, steady-u2, steady-aid, steady-counted, steady-number, steady-reference, steady-method, steady-class}
 use Rattle.places.proofs.Inverse.{reads-u1, reads-left, reads-done, reads-counted}
@@ -57,12 +57,6 @@ class-forward l ds s i k j p =
     let a = counted-forward (l .parents) classNumber steady-number s (i + 1) (k .parents) (t .middle) (t .parents) in
     let b = counted-forward mostMethods (method l ds) (steady-method l ds) s (t .middle) (k .methods) j (t .methods) in
     omega arith
-
--- an element has a number below the length
-pub at-below : {A : Type 0} (xs : List A) (i : ℕ) (x : A) → at xs i ≡ some x → i < length xs
-at-below [] i x e = absurd (none-some e)
-at-below (y ∷ ys) zero x e = omega arith
-at-below (y ∷ ys) (suc i) x e = let h = at-below ys i x e in omega arith
 
 module _ (l : Limits) (f : Bytes) (p : Package) (r : readFile l f ≡ some p) where
   -- a file takes 12 bytes, and three for each class, or more; it has no more classes than the greatest count

@@ -17,7 +17,7 @@ use Rattle.rules.specs.Classes.{Installed, installedBy, installed, packageNumbe
 use Rattle.rules.specs.Questions.{own, parentExists, parentIsKind0, parentKinds}
 use Rattle.rules.specs.Operations.{acceptedAll, soundEntries}
 use Rattle.rules.proofs.Tests.{and-l, and-r, all-mem, allFrom-zero}
-use Rattle.rules.proofs.Lists.{at-mem, some-is}
+use Rattle.rules.proofs.Lists.{at-mem, some-is, at-there}
 use Rattle.rules.proofs.Bounds.{flat-mem}
 use Rattle.rules.proofs.Asked.{parents-yes}
 use Rattle.rules.proofs.Sound.{Sane, sound-sane}
@@ -28,7 +28,7 @@ use Rattle.homes.specs.declared.Home.{Home}
 use Rattle.homes.specs.declared.HomeFound.the-variants.{At, Nothing}
 use Rattle.depths.specs.Depths.{ParentsThere, OfParents, ClassCount, ClassIs, ClassThere, OfClass, rank, ParentAt, ParentIs, Kind0Is, Kind0Count, KindsIs, AllKinds}
 use Rattle.depths.specs.declared.Parent.the-variants.{In, End}
-use Rattle.depths.proofs.ByNumber.{at-end, at-there, all-from, none-counted, Left, left-more, left-bad, left-done, Counting, count-more, count-done}
+use Rattle.depths.proofs.ByNumber.{at-end, all-from, none-counted, Left, left-more, left-bad, left-done, Counting, count-more, count-done}
 use Rattle.depths.proofs.Records.{RecordBy, record-by}
 use Rattle.depths.proofs.Exist.{NumberedAt, numbered-at, numbered-none}
 

@@ -27,13 +27,6 @@ use Rattle.homes.specs.declared.HomeFound.the-variants.{At, Nothing}
 use Rattle.homes.proofs.Homes.{all-read}
 use Rattle.imports.specs.Say.{SettingThere, OfSetting, NewIs, ImportHomeIs}
 
--- the package of an AID, as a home
-pub home-at : (s : Bytes) (end : ℕ) (a : Aid) (r : FileSpot) (i j k : ℕ) → r ≡ File i j k → FileAt s end a r → ByAid s end a (At (record { from = j; to = k; before = i }))
-home-at s end a r i j k e q es t u = subst (λ (x : FileSpot). FileSays s es a x) e (q es t u)
-
-pub home-none : (s : Bytes) (end : ℕ) (a : Aid) (r : FileSpot) → r ≡ Missing → FileAt s end a r → ByAid s end a Nothing
-home-none s end a r e q es t u = (subst (λ (x : FileSpot). FileSays s es a x) e (q es t u)) .1
-
 -- where every element of a list passes a test it passes for all, where one does not it does not
 pub every : {A : Type 0} (p : A → Bool) (xs : List A) → ((i : ℕ) (x : A) → at xs i ≡ some x → p x ≡ true) → all p xs ≡ true
 every p [] h = refl
@@ -47,18 +40,6 @@ one-not p (y ∷ ys) (suc i) x e h = go (p y) (one-not p ys i x e h)
     go : (b : Bool) → all p ys ≡ false → (b && all p ys) ≡ false
     go true n = n
     go false n = refl
-
--- a number below the length has an element
-pub at-there : {A : Type 0} (xs : List A) (i : ℕ) → i < length xs → (x : A) × (at xs i ≡ some x)
-at-there [] i h = absurd (omega arith)
-at-there (x ∷ xs) zero h = (x, refl)
-at-there (x ∷ xs) (suc i) h = at-there xs i (omega arith)
-
--- an element has a number below the length
-pub at-below : {A : Type 0} (xs : List A) (i : ℕ) (x : A) → at xs i ≡ some x → i < length xs
-at-below [] i x e = let z : _≡_ {A = ℕ} 0 1 = cc in absurd (omega arith)
-at-below (y ∷ ys) zero x e = omega arith
-at-below (y ∷ ys) (suc i) x e = let h = at-below ys i x e in omega arith
 
 module _ (f s : Bytes) (end : ℕ) where
   pub setting-reads : SettingThere f s end → Readable f

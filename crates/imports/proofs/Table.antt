@@ -1,7 +1,6 @@
 -- The table of the imports' homes while it is filled, and what it says in the end. Assumes nothing.
 use Prim.Native.Nat.{ℕ, suc, _+_, _*_, _≤_, _<_}
 use native.Mathlib.Omega.{arith}
-use native.Mathlib.Decide.{decLe}
 use mathlib.Core.Path.{_≡_, sym, _∙_, ap, subst, subst⁻¹}
 use mathlib.Core.Bool.{true, false}
 use mathlib.Core.List.{List, [], append-nil}
@@ -15,7 +14,7 @@ use Rattle.rules.specs.Package.{storeLimits}
 use Rattle.rules.specs.Store.{Entry}
 use Rattle.rules.specs.Classes.{Installed, installed, byAid, packageNumbered}
 use Rattle.rules.specs.Questions.{q13-imports}
-use Rattle.rules.proofs.Lists.{at-mem}
+use Rattle.rules.proofs.Lists.{at-mem, at-below, at-there, same-or-not}
 use Rattle.files.specs.Say.{ImportsAt}
 use Rattle.homes.specs.Homes.{Setting, Imports, ownHome, FoundIs, HomeSays}
 use Rattle.homes.specs.Found.{homeAt, ImportHomes}
@@ -23,14 +22,7 @@ use Rattle.homes.specs.declared.Home.{Home}
 use Rattle.homes.specs.declared.HomeFound.the-variants.{At, Nothing}
 use Rattle.homes.proofs.Homes.{all-read, Before, import-found}
 use Rattle.imports.specs.Say.{OfSetting, ImportsIs, ImportHomeIs}
-use Rattle.imports.proofs.Imports.{every, one-not, at-there, at-below, imports-count}
-
--- two numbers are the same, or not
-decide-eq : (i j : ℕ) → (i ≡ j) ⊎ (i ≡ j → ⊥)
-decide-eq i j = elim (decLe i j) [
-  | no q ↦ inr (λ e. omega arith)
-  | yes q ↦ elim (decLe j i) [ no w ↦ inr (λ e. omega arith) | yes w ↦ inl (omega arith) ]
-]
+use Rattle.imports.proofs.Imports.{every, one-not, imports-count}
 
 -- the three places of a home put at k
 abbrev pub putAt : List ℕ → ℕ → Home → List ℕ
@@ -85,7 +77,7 @@ module _ (f s : Bytes) (end : ℕ) where
   filled-start t e = record { size = e; homes = λ es self g i b. absurd (omega arith) }
 
   pub filled-more : (k : ℕ) (t u : List ℕ) (h : Home) → Filled k t → k < 16 → ImportHomeIs f s end k (At h) → u ≡ putAt t k h → Filled (k + 1) u
-  filled-more k t u h q b p e = subst⁻¹ (Filled (k + 1)) e (record { size = size; homes = λ es self g i c a n. home es self g i c a n (decide-eq i k) })
+  filled-more k t u h q b p e = subst⁻¹ (Filled (k + 1)) e (record { size = size; homes = λ es self g i c a n. home es self g i c a n (same-or-not i k) })
     where
       size : length (putAt t k h) ≡ 48
       size = length-set (set (set t (3 * k) (h .from)) (3 * k + 1) (h .to)) (3 * k + 2) (h .before) ∙ length-set (set t (3 * k) (h .from)) (3 * k + 1) (h .to) ∙ length-set t (3 * k) (h .from) ∙ q .size

@@ -1,6 +1,5 @@
 -- A creation over sound entries, question by question. Assumes nothing.
 use Prim.Native.Nat.{ℕ, _≤_}
-use native.Mathlib.Omega.{arith}
 use mathlib.Core.Path.{_≡_, refl, sym, _∙_, ap}
 use mathlib.Core.Bool.{Bool, true, false, _&&_, not}
 use mathlib.Core.List.{List, [], _∷_}
@@ -57,12 +56,3 @@ module _ (s : Bytes) (end : ℕ) (a : Aid) where
   pub create-21 : (b : Bool) → aidLength (length a) ≡ true → CreatedSays s end a false → Fits s end (domain a) b → CreateSays s end a (pick b 0 21)
   unfolding createQuestions
   create-21 b h c f es o = rw (one-length a ∙ h, new-not es a ∙ ap not (sym (c es o)), f es (over-used s end es o))
-
--- a test that was turned round
-pub not-yes : (b : Bool) → not b ≡ true → b ≡ false
-not-yes true e = let z : _≡_ {A = ℕ} 0 1 = cc in absurd (omega arith)
-not-yes false e = refl
-
-pub not-no : (b : Bool) → not b ≡ false → b ≡ true
-not-no true e = refl
-not-no false e = let z : _≡_ {A = ℕ} 0 1 = cc in absurd (omega arith)

@@ -2,7 +2,7 @@
 use Prim.Native.Nat.{ℕ, zero, suc, _+_, _*_, _≤_, _<_}
 use native.Mathlib.Omega.{arith}
 use mathlib.Core.Path.{_≡_, refl, sym, _∙_, ap, subst}
-use mathlib.Core.Bool.{Bool, true, false, not}
+use mathlib.Core.Bool.{true, false}
 use mathlib.Core.List.{List, [], _∷_}
 use mathlib.Core.Option.{some, Option·some-injective}
 use lib.Dec.{eqb}
@@ -14,6 +14,7 @@ use Rattle.rules.specs.Package.{Limits, storeLimits, ClassNumber, Class, classN
 use Rattle.rules.specs.Store.{Entry}
 use Rattle.rules.specs.Classes.{Installed}
 use Rattle.rules.proofs.Tests.{none-some}
+use Rattle.rules.proofs.Lists.{at-below}
 use Rattle.rules.proofs.Limits.{limits-range}
 use Rattle.places.specs.Reads.{Reads, Placed}
 use Rattle.places.proofs.Steady.{steady-u1, steady-number}
@@ -35,25 +36,11 @@ pub record Front (k : Class) (r : Bytes) : Type 0 where
   pub inside : 2 + 2 * getD r 1 0 ≤ length r
   pub pair : (i : ℕ) (p : ClassNumber) → at (k .parents) i ≡ some p → (getD r (2 + 2 * i) 0 ≡ p .pack) × (getD r (3 + 2 * i) 0 ≡ p .class)
 
--- a test that was turned round
-pub not-yes : (b : Bool) → not b ≡ true → b ≡ false
-not-yes true e = cc
-not-yes false e = refl
-
-pub not-no : (b : Bool) → not b ≡ false → b ≡ true
-not-no true e = refl
-not-no false e = cc
-
 -- an element by its number: the list from there on
 pub at-split : {A : Type 0} (xs : List A) (i : ℕ) → i < length xs → (p : A) × (at xs i ≡ some p) × (drop i xs ≡ p ∷ drop (suc i) xs)
 at-split [] i h = absurd (omega arith)
 at-split (y ∷ ys) zero h = (y, refl, refl)
 at-split (y ∷ ys) (suc i) h = at-split ys i (omega arith)
-
-pub at-inside : {A : Type 0} (xs : List A) (i : ℕ) (x : A) → at xs i ≡ some x → i < length xs
-at-inside [] i x e = absurd (none-some e)
-at-inside (y ∷ ys) zero x e = omega arith
-at-inside (y ∷ ys) (suc i) x e = let h = at-inside ys i x e in omega arith
 
 module _ (l : Limits) (few : l .parents ≤ 8) (ds : List Aid) (g : Bytes) (c : ℕ) (k : Class) (j : ℕ) (p : Reads (class l ds) g c k j) where
   pub front : Front k (drop c g)
@@ -73,7 +60,7 @@ module _ (l : Limits) (few : l .parents ≤ 8) (ds : List Aid) (g : Bytes) (c : 
         few = omega (arith, one, small);
         inside = omega (arith, one, far, w .next, u .list .to, length-drop c g);
         pair = λ i x e.
-            let below : i < u .number = omega (arith, at-inside (k .parents) i x e, len) in
+            let below : i < u .number = omega (arith, at-below (k .parents) i x e, len) in
             let y = placed-at (many-nth classNumber steady-number 2 g wide (u .number) (u .place) (k .parents) (t .middle) (u .list) i below) in
             let z : y .0 ≡ x = Option·some-injective _ _ (sym (y .2) ∙ e) in
             let n = number-part g (u .place + 2 * i) (y .0) (y .1) (y .3) in

@@ -18,7 +18,7 @@ use Rattle.rules.specs.Questions.{own, runningAllows}
 use Rattle.rules.specs.Paths.{IsOrBelow, itself, below}
 use Rattle.rules.proofs.Tests.{of-true, flat-mem-is, listOf-mem}
 use Rattle.rules.proofs.Bounds.{flat-mem}
-use Rattle.rules.proofs.Lists.{at-mem}
+use Rattle.rules.proofs.Lists.{at-mem, at-below, same-or-not}
 use Rattle.homes.specs.Homes.{HomeIs}
 use Rattle.homes.specs.Memo.{memoLength, key}
 use Rattle.homes.specs.declared.Home.{Home}
@@ -26,7 +26,7 @@ use Rattle.homes.proofs.Homes.{home-reads}
 use Rattle.running.specs.Say.{Judged, Running, CountIs, ParentThere, rank, NamedAt, ParentIs, WalkThere, MethodsPass, Passes, ClassPasses, ParentsPass, ParentsThere, Marks, SeenIs}
 use Rattle.running.specs.declared.ClassSpot.{ClassSpot}
 use Rattle.depths.proofs.Keys.{key-small, key-one}
-use Rattle.running.proofs.Records.{at-split, at-inside}
+use Rattle.running.proofs.Records.{at-split}
 use Rattle.running.proofs.Loops.{walk-class}
 
 -- a member of a list has a number
@@ -90,7 +90,7 @@ module _ (f s : Bytes) (end b : ℕ) (h : Home) (n : ℕ) where
       go (inr u) =
           let y = parent-named-is (installed (storeLimits s) es) (record { home = x; number = n }) k e (u .0) (u .1) in
           let i = mem-at (k .parents) (y .0) (y .1) in
-          p es self r x o k e (i .0) (omega (arith, q end es self (r .judged) x o k e, at-inside (k .parents) (i .0) (y .0) (i .1))) (y .0) (i .1) (u .0) (y .2) a (u .2)
+          p es self r x o k e (i .0) (omega (arith, q end es self (r .judged) x o k e, at-below (k .parents) (i .0) (y .0) (i .1))) (y .0) (i .1) (u .0) (y .2) a (u .2)
 
   -- the place in the memo
   pub key-inside : length s ≤ 65535 → WalkThere f s end b h n → key h n < memoLength
@@ -103,17 +103,11 @@ module _ (f s : Bytes) (end b : ℕ) (h : Home) (n : ℕ) where
 
     pub mark-set : length s ≤ 65535 → WalkThere f s end b h n → ClassPasses f s end b h n true → Marks f s end b mark (set memo (key h n) mark)
     mark-set z t p = record {
-      below = record { size = length-set memo (key h n) mark ∙ m .below .size; small = λ i. small i (decide i (key h n)) };
+      below = record { size = length-set memo (key h n) mark ∙ m .below .size; small = λ i. small i (same-or-not i (key h n)) };
       fits = m .fits;
-      hold = λ g l e es self r x o k q. hold g l e es self r x o k q (decide (key g l) (key h n));
+      hold = λ g l e es self r x o k q. hold g l e es self r x o k q (same-or-not (key g l) (key h n));
     }
       where
-        decide : (i j : ℕ) → (i ≡ j) ⊎ (i ≡ j → ⊥)
-        decide i j = elim (decLe i j) [
-          | no q ↦ inr (λ e. omega arith)
-          | yes q ↦ elim (decLe j i) [ no w ↦ inr (λ e. omega arith) | yes w ↦ inl (omega arith) ]
-        ]
-
         inside : key h n < length memo
         inside = omega (arith, key-inside z t, m .below .size)
 

@@ -9,4 +9,3 @@ pub mod Find
 pub mod Asked
 pub mod Paste
 pub mod Change
-pub mod Files

@@ -1,9 +1,9 @@
 -- `running::class_passes` and `running::parents_pass` meet their contracts. The measure is 16 times the rank of the class, and 15 or the parents left. What is marked is true. Assumes nothing.
+use borrow.Author.Tests.{not-true, not-false}
 use Rattle.running.specs.Say.{MethodsPass, ClassPasses, ParentsPass, SeenIs}
 use Rattle.homes.specs.Memo.{key}
 use Rattle.running.proofs.Walk as walk
 use Rattle.running.proofs.Loops as loops
-use Rattle.running.proofs.Records as records
 use denote.Ref.{now}
 use Prim.Native.Nat.{ℕ, _+_, _*_, _<_}
 use mathlib.Core.Path.{subst}
@@ -125,7 +125,7 @@ class-passes-returns-2 : (t : ℕ) → class-passes-lts.Need-returns-2 (
   set-mark-reads.Asked,
   set-mark-reads.Learnt,
 ) (class-passes-at t) class-passes.Post
-class-passes-returns-2 t c = (walk.class-no (now (c .before .before .before .before .before .before .before .before .args .f)) (now (c .before .before .before .before .before .before .before .before .args .s)) (c .before .before .before .before .before .before .before .before .args .end) (c .before .before .before .before .before .before .before .before .args .b) (c .before .before .before .before .before .before .before .before .args .h) (c .before .before .before .before .before .before .before .before .args .n) (subst (λ (v : Bool). MethodsPass (now (c .before .before .before .before .before .before .before .before .args .f)) (now (c .before .before .before .before .before .before .before .before .args .s)) (c .before .before .before .before .before .before .before .before .args .end) (c .before .before .before .before .before .before .before .before .args .b) (c .before .before .before .before .before .before .before .before .args .h) (c .before .before .before .before .before .before .before .before .args .n) v) (records.not-yes (c .before .class-methods-pass .result) (c .if2 .taken)) (c .before .class-methods-pass .ensures)), (c .before .before .before .before .before .before .before .before .pre .1 .1 .0))
+class-passes-returns-2 t c = (walk.class-no (now (c .before .before .before .before .before .before .before .before .args .f)) (now (c .before .before .before .before .before .before .before .before .args .s)) (c .before .before .before .before .before .before .before .before .args .end) (c .before .before .before .before .before .before .before .before .args .b) (c .before .before .before .before .before .before .before .before .args .h) (c .before .before .before .before .before .before .before .before .args .n) (subst (λ (v : Bool). MethodsPass (now (c .before .before .before .before .before .before .before .before .args .f)) (now (c .before .before .before .before .before .before .before .before .args .s)) (c .before .before .before .before .before .before .before .before .args .end) (c .before .before .before .before .before .before .before .before .args .b) (c .before .before .before .before .before .before .before .before .args .h) (c .before .before .before .before .before .before .before .before .args .n) v) (not-true (c .before .class-methods-pass .result) (c .if2 .taken)) (c .before .class-methods-pass .ensures)), (c .before .before .before .before .before .before .before .before .pre .1 .1 .0))
 
 class-passes-parent-count-requires : (t : ℕ) → class-passes-lts.Need-parent-count-requires (
   is-marked-reads.Asked,
@@ -167,7 +167,7 @@ class-passes-returns-3 : (t : ℕ) → class-passes-lts.Need-returns-3 (
   set-mark-reads.Asked,
   set-mark-reads.Learnt,
 ) (class-passes-at t) class-passes.Post
-class-passes-returns-3 t c = (walk.class-parent-no (now (c .before .before .before .before .before .before .before .before .before .before .before .before .args .f)) (now (c .before .before .before .before .before .before .before .before .before .before .before .before .args .s)) (c .before .before .before .before .before .before .before .before .before .before .before .before .args .end) (c .before .before .before .before .before .before .before .before .before .before .before .before .args .b) (c .before .before .before .before .before .before .before .before .before .before .before .before .args .h) (c .before .before .before .before .before .before .before .before .before .before .before .before .args .n) (c .before .before .before .parent-count .result) (subst (λ (v : Bool). ParentsPass (now (c .before .before .before .before .before .before .before .before .before .before .before .before .args .f)) (now (c .before .before .before .before .before .before .before .before .before .before .before .before .args .s)) (c .before .before .before .before .before .before .before .before .before .before .before .before .args .end) (c .before .before .before .before .before .before .before .before .before .before .before .before .args .b) (c .before .before .before .before .before .before .before .before .before .before .before .before .args .h) (c .before .before .before .before .before .before .before .before .before .before .before .before .args .n) (c .before .before .before .parent-count .result) v) (records.not-yes (c .before .parents-pass .result) (c .if3 .taken)) (c .before .parents-pass .ensures .0)), c .before .parents-pass .ensures .1)
+class-passes-returns-3 t c = (walk.class-parent-no (now (c .before .before .before .before .before .before .before .before .before .before .before .before .args .f)) (now (c .before .before .before .before .before .before .before .before .before .before .before .before .args .s)) (c .before .before .before .before .before .before .before .before .before .before .before .before .args .end) (c .before .before .before .before .before .before .before .before .before .before .before .before .args .b) (c .before .before .before .before .before .before .before .before .before .before .before .before .args .h) (c .before .before .before .before .before .before .before .before .before .before .before .before .args .n) (c .before .before .before .parent-count .result) (subst (λ (v : Bool). ParentsPass (now (c .before .before .before .before .before .before .before .before .before .before .before .before .args .f)) (now (c .before .before .before .before .before .before .before .before .before .before .before .before .args .s)) (c .before .before .before .before .before .before .before .before .before .before .before .before .args .end) (c .before .before .before .before .before .before .before .before .before .before .before .before .args .b) (c .before .before .before .before .before .before .before .before .before .before .before .before .args .h) (c .before .before .before .before .before .before .before .before .before .before .before .before .args .n) (c .before .before .before .parent-count .result) v) (not-true (c .before .parents-pass .result) (c .if3 .taken)) (c .before .parents-pass .ensures .0)), c .before .parents-pass .ensures .1)
 
 class-passes-set-mark-requires : (t : ℕ) → class-passes-lts.Need-set-mark-requires (
   is-marked-reads.Asked,
@@ -195,7 +195,7 @@ class-passes-returns-4 : (t : ℕ) → class-passes-lts.Need-returns-4 (
   set-mark-reads.Asked,
   set-mark-reads.Learnt,
 ) (class-passes-at t) class-passes.Post
-class-passes-returns-4 t c = ((walk.class-yes (now (c .before .before .before .before .before .before .before .before .before .before .before .before .before .before .args .f)) (now (c .before .before .before .before .before .before .before .before .before .before .before .before .before .before .args .s)) (c .before .before .before .before .before .before .before .before .before .before .before .before .before .before .args .end) (c .before .before .before .before .before .before .before .before .before .before .before .before .before .before .args .b) (c .before .before .before .before .before .before .before .before .before .before .before .before .before .before .args .h) (c .before .before .before .before .before .before .before .before .before .before .before .before .before .before .args .n) (c .before .before .before .before .before .parent-count .result) (subst (λ (v : Bool). MethodsPass (now (c .before .before .before .before .before .before .before .before .before .before .before .before .before .before .args .f)) (now (c .before .before .before .before .before .before .before .before .before .before .before .before .before .before .args .s)) (c .before .before .before .before .before .before .before .before .before .before .before .before .before .before .args .end) (c .before .before .before .before .before .before .before .before .before .before .before .before .before .before .args .b) (c .before .before .before .before .before .before .before .before .before .before .before .before .before .before .args .h) (c .before .before .before .before .before .before .before .before .before .before .before .before .before .before .args .n) v) (records.not-no (c .before .before .before .before .before .before .before .class-methods-pass .result) (c .before .before .before .before .before .before .if2 .left)) (c .before .before .before .before .before .before .before .class-methods-pass .ensures)) (c .before .before .before .before .before .parent-count .ensures .0) (subst (λ (v : Bool). ParentsPass (now (c .before .before .before .before .before .before .before .before .before .before .before .before .before .before .args .f)) (now (c .before .before .before .before .before .before .before .before .before .before .before .before .before .before .args .s)) (c .before .before .before .before .before .before .before .before .before .before .before .before .before .before .args .end) (c .before .before .before .before .before .before .before .before .before .before .before .before .before .before .args .b) (c .before .before .before .before .before .before .before .before .before .before .before .before .before .before .args .h) (c .before .before .before .before .before .before .before .before .before .before .before .before .before .before .args .n) (c .before .before .before .before .before .parent-count .result) v) (records.not-no (c .before .before .before .parents-pass .result) (c .before .before .if3 .left)) (c .before .before .before .parents-pass .ensures .0))), walk.mark-after (now (c .before .before .before .before .before .before .before .before .before .before .before .before .before .before .args .f)) (now (c .before .before .before .before .before .before .before .before .before .before .before .before .before .before .args .s)) (c .before .before .before .before .before .before .before .before .before .before .before .before .before .before .args .end) (c .before .before .before .before .before .before .before .before .before .before .before .before .before .before .args .b) (c .before .before .before .before .before .before .before .before .before .before .before .before .before .before .args .h) (c .before .before .before .before .before .before .before .before .before .before .before .before .before .before .args .n) (c .before .before .before .before .before .before .before .before .before .before .before .before .before .before .args .mark) _ (c .before .before .before .parents-pass .ensures .1) (c .before .before .before .before .before .before .before .before .before .before .before .before .before .before .pre .1 .1 .1 .0) (c .before .before .before .before .before .before .before .before .before .before .before .before .before .before .pre .1 .0) (walk.class-yes (now (c .before .before .before .before .before .before .before .before .before .before .before .before .before .before .args .f)) (now (c .before .before .before .before .before .before .before .before .before .before .before .before .before .before .args .s)) (c .before .before .before .before .before .before .before .before .before .before .before .before .before .before .args .end) (c .before .before .before .before .before .before .before .before .before .before .before .before .before .before .args .b) (c .before .before .before .before .before .before .before .before .before .before .before .before .before .before .args .h) (c .before .before .before .before .before .before .before .before .before .before .before .before .before .before .args .n) (c .before .before .before .before .before .parent-count .result) (subst (λ (v : Bool). MethodsPass (now (c .before .before .before .before .before .before .before .before .before .before .before .before .before .before .args .f)) (now (c .before .before .before .before .before .before .before .before .before .before .before .before .before .before .args .s)) (c .before .before .before .before .before .before .before .before .before .before .before .before .before .before .args .end) (c .before .before .before .before .before .before .before .before .before .before .before .before .before .before .args .b) (c .before .before .before .before .before .before .before .before .before .before .before .before .before .before .args .h) (c .before .before .before .before .before .before .before .before .before .before .before .before .before .before .args .n) v) (records.not-no (c .before .before .before .before .before .before .before .class-methods-pass .result) (c .before .before .before .before .before .before .if2 .left)) (c .before .before .before .before .before .before .before .class-methods-pass .ensures)) (c .before .before .before .before .before .parent-count .ensures .0) (subst (λ (v : Bool). ParentsPass (now (c .before .before .before .before .before .before .before .before .before .before .before .before .before .before .args .f)) (now (c .before .before .before .before .before .before .before .before .before .before .before .before .before .before .args .s)) (c .before .before .before .before .before .before .before .before .before .before .before .before .before .before .args .end) (c .before .before .before .before .before .before .before .before .before .before .before .before .before .before .args .b) (c .before .before .before .before .before .before .before .before .before .before .before .before .before .before .args .h) (c .before .before .before .before .before .before .before .before .before .before .before .before .before .before .args .n) (c .before .before .before .before .before .parent-count .result) v) (records.not-no (c .before .before .before .parents-pass .result) (c .before .before .if3 .left)) (c .before .before .before .parents-pass .ensures .0))) _ (c .set-mark .ensures))
+class-passes-returns-4 t c = ((walk.class-yes (now (c .before .before .before .before .before .before .before .before .before .before .before .before .before .before .args .f)) (now (c .before .before .before .before .before .before .before .before .before .before .before .before .before .before .args .s)) (c .before .before .before .before .before .before .before .before .before .before .before .before .before .before .args .end) (c .before .before .before .before .before .before .before .before .before .before .before .before .before .before .args .b) (c .before .before .before .before .before .before .before .before .before .before .before .before .before .before .args .h) (c .before .before .before .before .before .before .before .before .before .before .before .before .before .before .args .n) (c .before .before .before .before .before .parent-count .result) (subst (λ (v : Bool). MethodsPass (now (c .before .before .before .before .before .before .before .before .before .before .before .before .before .before .args .f)) (now (c .before .before .before .before .before .before .before .before .before .before .before .before .before .before .args .s)) (c .before .before .before .before .before .before .before .before .before .before .before .before .before .before .args .end) (c .before .before .before .before .before .before .before .before .before .before .before .before .before .before .args .b) (c .before .before .before .before .before .before .before .before .before .before .before .before .before .before .args .h) (c .before .before .before .before .before .before .before .before .before .before .before .before .before .before .args .n) v) (not-false (c .before .before .before .before .before .before .before .class-methods-pass .result) (c .before .before .before .before .before .before .if2 .left)) (c .before .before .before .before .before .before .before .class-methods-pass .ensures)) (c .before .before .before .before .before .parent-count .ensures .0) (subst (λ (v : Bool). ParentsPass (now (c .before .before .before .before .before .before .before .before .before .before .before .before .before .before .args .f)) (now (c .before .before .before .before .before .before .before .before .before .before .before .before .before .before .args .s)) (c .before .before .before .before .before .before .before .before .before .before .before .before .before .before .args .end) (c .before .before .before .before .before .before .before .before .before .before .before .before .before .before .args .b) (c .before .before .before .before .before .before .before .before .before .before .before .before .before .before .args .h) (c .before .before .before .before .before .before .before .before .before .before .before .before .before .before .args .n) (c .before .before .before .before .before .parent-count .result) v) (not-false (c .before .before .before .parents-pass .result) (c .before .before .if3 .left)) (c .before .before .before .parents-pass .ensures .0))), walk.mark-after (now (c .before .before .before .before .before .before .before .before .before .before .before .before .before .before .args .f)) (now (c .before .before .before .before .before .before .before .before .before .before .before .before .before .before .args .s)) (c .before .before .before .before .before .before .before .before .before .before .before .before .before .before .args .end) (c .before .before .before .before .before .before .before .before .before .before .before .before .before .before .args .b) (c .before .before .before .before .before .before .before .before .before .before .before .before .before .before .args .h) (c .before .before .before .before .before .before .before .before .before .before .before .before .before .before .args .n) (c .before .before .before .before .before .before .before .before .before .before .before .before .before .before .args .mark) _ (c .before .before .before .parents-pass .ensures .1) (c .before .before .before .before .before .before .before .before .before .before .before .before .before .before .pre .1 .1 .1 .0) (c .before .before .before .before .before .before .before .before .before .before .before .before .before .before .pre .1 .0) (walk.class-yes (now (c .before .before .before .before .before .before .before .before .before .before .before .before .before .before .args .f)) (now (c .before .before .before .before .before .before .before .before .before .before .before .before .before .before .args .s)) (c .before .before .before .before .before .before .before .before .before .before .before .before .before .before .args .end) (c .before .before .before .before .before .before .before .before .before .before .before .before .before .before .args .b) (c .before .before .before .before .before .before .before .before .before .before .before .before .before .before .args .h) (c .before .before .before .before .before .before .before .before .before .before .before .before .before .before .args .n) (c .before .before .before .before .before .parent-count .result) (subst (λ (v : Bool). MethodsPass (now (c .before .before .before .before .before .before .before .before .before .before .before .before .before .before .args .f)) (now (c .before .before .before .before .before .before .before .before .before .before .before .before .before .before .args .s)) (c .before .before .before .before .before .before .before .before .before .before .before .before .before .before .args .end) (c .before .before .before .before .before .before .before .before .before .before .before .before .before .before .args .b) (c .before .before .before .before .before .before .before .before .before .before .before .before .before .before .args .h) (c .before .before .before .before .before .before .before .before .before .before .before .before .before .before .args .n) v) (not-false (c .before .before .before .before .before .before .before .class-methods-pass .result) (c .before .before .before .before .before .before .if2 .left)) (c .before .before .before .before .before .before .before .class-methods-pass .ensures)) (c .before .before .before .before .before .parent-count .ensures .0) (subst (λ (v : Bool). ParentsPass (now (c .before .before .before .before .before .before .before .before .before .before .before .before .before .before .args .f)) (now (c .before .before .before .before .before .before .before .before .before .before .before .before .before .before .args .s)) (c .before .before .before .before .before .before .before .before .before .before .before .before .before .before .args .end) (c .before .before .before .before .before .before .before .before .before .before .before .before .before .before .args .b) (c .before .before .before .before .before .before .before .before .before .before .before .before .before .before .args .h) (c .before .before .before .before .before .before .before .before .before .before .before .before .before .before .args .n) (c .before .before .before .before .before .parent-count .result) v) (not-false (c .before .before .before .parents-pass .result) (c .before .before .if3 .left)) (c .before .before .before .parents-pass .ensures .0))) _ (c .set-mark .ensures))
 
 parents-pass-returns : (t : ℕ) → parents-pass-lts.Need-returns (
   parent-at-reads.Asked,
@@ -245,7 +245,7 @@ parents-pass-returns-2 : (t : ℕ) → parents-pass-lts.Need-returns-2 (
   parents-pass-below t,
   parents-pass.Post,
 ) (parents-pass-at t) parents-pass.Post
-parents-pass-returns-2 t c = (walk.parents-no (now (c .before .before .before .before .before .before .before .before .args .f)) (now (c .before .before .before .before .before .before .before .before .args .s)) (c .before .before .before .before .before .before .before .before .args .end) (c .before .before .before .before .before .before .before .before .args .b) (c .before .before .before .before .before .before .before .before .args .h) (c .before .before .before .before .before .before .before .before .args .n) (c .before .before .before .before .before .before .before .before .args .left) (c .before .before .before .before .before .if1 .left) (c .before .before .before .before .parent-at .result) (c .before .before .before .before .parent-at .ensures) (c .before .before .before .before .before .before .before .before .pre .1 .0) (subst (λ (v : Bool). ClassPasses (now (c .before .before .before .before .before .before .before .before .args .f)) (now (c .before .before .before .before .before .before .before .before .args .s)) (c .before .before .before .before .before .before .before .before .args .end) (c .before .before .before .before .before .before .before .before .args .b) ((c .before .before .before .before .parent-at .result) .home) ((c .before .before .before .before .parent-at .result) .number) v) (records.not-yes (c .before .class-passes .result) (c .if2 .taken)) (c .before .class-passes .ensures .0)), c .before .class-passes .ensures .1)
+parents-pass-returns-2 t c = (walk.parents-no (now (c .before .before .before .before .before .before .before .before .args .f)) (now (c .before .before .before .before .before .before .before .before .args .s)) (c .before .before .before .before .before .before .before .before .args .end) (c .before .before .before .before .before .before .before .before .args .b) (c .before .before .before .before .before .before .before .before .args .h) (c .before .before .before .before .before .before .before .before .args .n) (c .before .before .before .before .before .before .before .before .args .left) (c .before .before .before .before .before .if1 .left) (c .before .before .before .before .parent-at .result) (c .before .before .before .before .parent-at .ensures) (c .before .before .before .before .before .before .before .before .pre .1 .0) (subst (λ (v : Bool). ClassPasses (now (c .before .before .before .before .before .before .before .before .args .f)) (now (c .before .before .before .before .before .before .before .before .args .s)) (c .before .before .before .before .before .before .before .before .args .end) (c .before .before .before .before .before .before .before .before .args .b) ((c .before .before .before .before .parent-at .result) .home) ((c .before .before .before .before .parent-at .result) .number) v) (not-true (c .before .class-passes .result) (c .if2 .taken)) (c .before .class-passes .ensures .0)), c .before .class-passes .ensures .1)
 
 parents-pass-sub-parents-pass : (t : ℕ) → parents-pass-lts.Need-sub-parents-pass (
   parent-at-reads.Asked,
@@ -275,7 +275,7 @@ parents-pass-returns-3 : (t : ℕ) → parents-pass-lts.Need-returns-3 (
   parents-pass-below t,
   parents-pass.Post,
 ) (parents-pass-at t) parents-pass.Post
-parents-pass-returns-3 t c = (walk.parents-more (now (c .before .before .before .before .before .before .before .before .before .before .args .f)) (now (c .before .before .before .before .before .before .before .before .before .before .args .s)) (c .before .before .before .before .before .before .before .before .before .before .args .end) (c .before .before .before .before .before .before .before .before .before .before .args .b) (c .before .before .before .before .before .before .before .before .before .before .args .h) (c .before .before .before .before .before .before .before .before .before .before .args .n) (c .before .before .before .before .before .before .before .before .before .before .args .left) (c .before .before .before .before .before .before .before .if1 .left) (c .before .before .before .before .before .before .parent-at .result) (c .before .before .before .before .before .before .parent-at .ensures) (subst (λ (v : Bool). ClassPasses (now (c .before .before .before .before .before .before .before .before .before .before .args .f)) (now (c .before .before .before .before .before .before .before .before .before .before .args .s)) (c .before .before .before .before .before .before .before .before .before .before .args .end) (c .before .before .before .before .before .before .before .before .before .before .args .b) ((c .before .before .before .before .before .before .parent-at .result) .home) ((c .before .before .before .before .before .before .parent-at .result) .number) v) (records.not-no (c .before .before .before .class-passes .result) (c .before .before .if2 .left)) (c .before .before .before .class-passes .ensures .0)) (c .parents-pass .result) (c .parents-pass .ensures .0), c .parents-pass .ensures .1)
+parents-pass-returns-3 t c = (walk.parents-more (now (c .before .before .before .before .before .before .before .before .before .before .args .f)) (now (c .before .before .before .before .before .before .before .before .before .before .args .s)) (c .before .before .before .before .before .before .before .before .before .before .args .end) (c .before .before .before .before .before .before .before .before .before .before .args .b) (c .before .before .before .before .before .before .before .before .before .before .args .h) (c .before .before .before .before .before .before .before .before .before .before .args .n) (c .before .before .before .before .before .before .before .before .before .before .args .left) (c .before .before .before .before .before .before .before .if1 .left) (c .before .before .before .before .before .before .parent-at .result) (c .before .before .before .before .before .before .parent-at .ensures) (subst (λ (v : Bool). ClassPasses (now (c .before .before .before .before .before .before .before .before .before .before .args .f)) (now (c .before .before .before .before .before .before .before .before .before .before .args .s)) (c .before .before .before .before .before .before .before .before .before .before .args .end) (c .before .before .before .before .before .before .before .before .before .before .args .b) ((c .before .before .before .before .before .before .parent-at .result) .home) ((c .before .before .before .before .before .before .parent-at .result) .number) v) (not-false (c .before .before .before .class-passes .result) (c .before .before .if2 .left)) (c .before .before .before .class-passes .ensures .0)) (c .parents-pass .result) (c .parents-pass .ensures .0), c .parents-pass .ensures .1)
 
 pub +class-passes+parents-pass-spec : {M : Type 1} → statement M
 +class-passes+parents-pass-spec = close μ-class-passes μ-parents-pass (λ t. class-passes-lts.spec (

@@ -1,11 +1,11 @@
 -- `running::class_methods_pass` meets its contract: the loop goes on while every method passed. Assumes nothing.
 use Rattle.running.specs.Say.{MethodPasses}
 use Rattle.running.proofs.Loops as loops
-use Rattle.running.proofs.Records as records
 use denote.Ref.{now}
 use mathlib.Core.Path.{subst}
 use mathlib.Core.Bool.{Bool}
 use native.Mathlib.Omega.{arith}
+use borrow.Author.Tests.{not-true, not-false}
 use borrow.Author.Needs.{needs}
 use Rattle.running.proofs.class_methods_pass.Statement.{statement}
 use Rattle.running.proofs.class_methods_pass.Tie as tie
@@ -38,7 +38,7 @@ method-passes-requires : tie.Need-method-passes-requires Inv-loop μ-loop
 method-passes-requires c κs = (loops.method-here (now (c .before .before .before .before .before .before .before .before .args .f)) (now (c .before .before .before .before .before .before .before .before .args .s)) (c .before .before .before .before .before .before .before .before .args .end) (c .before .before .before .before .before .before .before .before .args .b) (c .before .before .before .before .before .before .before .before .args .h) (c .before .before .before .before .before .before .before .before .args .n) (c .before .before .before .before .methods-at .result) (c .before .before .before .before .methods-at .ensures) (c .before .loop .left) (c .before .loop .c) (c .before .loop .inv) (c .loop-test .taken) (c .before .before .before .before .before .before .before .before .pre .0), c .before .before .before .before .before .before .before .before .pre .1)
 
 returns : tie.Need-returns Inv-loop μ-loop
-returns c = loops.methods-hit (now (c .before .before .before .before .before .before .before .before .before .before .args .f)) (now (c .before .before .before .before .before .before .before .before .before .before .args .s)) (c .before .before .before .before .before .before .before .before .before .before .args .end) (c .before .before .before .before .before .before .before .before .before .before .args .b) (c .before .before .before .before .before .before .before .before .before .before .args .h) (c .before .before .before .before .before .before .before .before .before .before .args .n) (c .before .before .before .before .before .before .methods-at .result) (c .before .before .before .before .before .before .methods-at .ensures) (c .before .before .before .loop .left) (c .before .before .before .loop .c) (c .before .before .before .loop .inv) (c .before .before .loop-test .taken) (subst (λ (v : Bool). MethodPasses (now (c .before .before .before .before .before .before .before .before .before .before .args .f)) (now (c .before .before .before .before .before .before .before .before .before .before .args .s)) (c .before .before .before .before .before .before .before .before .before .before .args .end) (c .before .before .before .before .before .before .before .before .before .before .args .b) (c .before .before .before .before .before .before .before .before .before .before .args .h) (c .before .before .before .loop .c) v) (records.not-yes (c .before .method-passes .result) (c .if1 .taken)) (c .before .method-passes .ensures))
+returns c = loops.methods-hit (now (c .before .before .before .before .before .before .before .before .before .before .args .f)) (now (c .before .before .before .before .before .before .before .before .before .before .args .s)) (c .before .before .before .before .before .before .before .before .before .before .args .end) (c .before .before .before .before .before .before .before .before .before .before .args .b) (c .before .before .before .before .before .before .before .before .before .before .args .h) (c .before .before .before .before .before .before .before .before .before .before .args .n) (c .before .before .before .before .before .before .methods-at .result) (c .before .before .before .before .before .before .methods-at .ensures) (c .before .before .before .loop .left) (c .before .before .before .loop .c) (c .before .before .before .loop .inv) (c .before .before .loop-test .taken) (subst (λ (v : Bool). MethodPasses (now (c .before .before .before .before .before .before .before .before .before .before .args .f)) (now (c .before .before .before .before .before .before .before .before .before .before .args .s)) (c .before .before .before .before .before .before .before .before .before .before .args .end) (c .before .before .before .before .before .before .before .before .before .before .args .b) (c .before .before .before .before .before .before .before .before .before .before .args .h) (c .before .before .before .loop .c) v) (not-true (c .before .method-passes .result) (c .if1 .taken)) (c .before .method-passes .ensures))
 
 after-method-requires : tie.Need-after-method-requires Inv-loop μ-loop
 after-method-requires c κs = loops.file-here (now (c .before .before .before .before .before .before .before .before .before .before .args .f)) (now (c .before .before .before .before .before .before .before .before .before .before .args .s)) (c .before .before .before .before .before .before .before .before .before .before .args .end) (c .before .before .before .before .before .before .before .before .before .before .args .b) (c .before .before .before .before .before .before .before .before .before .before .args .h) (c .before .before .before .before .before .before .before .before .before .before .args .n) (c .before .before .before .before .before .before .methods-at .result) (c .before .before .before .before .before .before .methods-at .ensures) (c .before .before .before .loop .left) (c .before .before .before .loop .c) (c .before .before .before .loop .inv) (c .before .before .loop-test .taken) (now (c .before .before .before .before .before .before .before .file-of .result)) (c .before .before .before .before .before .before .before .file-of .ensures) (c .before .before .before .before .before .before .before .before .before .before .pre .0)
@@ -50,7 +50,7 @@ loop-less : tie.Need-loop-less Inv-loop μ-loop
 loop-less c = omega arith
 
 loop-again : tie.Need-loop-again Inv-loop μ-loop
-loop-again c = loops.methods-miss (now (c .before .before .before .before .before .before .before .before .before .before .before .args .f)) (now (c .before .before .before .before .before .before .before .before .before .before .before .args .s)) (c .before .before .before .before .before .before .before .before .before .before .before .args .end) (c .before .before .before .before .before .before .before .before .before .before .before .args .b) (c .before .before .before .before .before .before .before .before .before .before .before .args .h) (c .before .before .before .before .before .before .before .before .before .before .before .args .n) (c .before .before .before .before .before .before .before .methods-at .result) (c .before .before .before .before .before .before .before .methods-at .ensures) (c .before .before .before .before .loop .left) (c .before .before .before .before .loop .c) (c .before .before .before .before .loop .inv) (c .before .before .before .loop-test .taken) (now (c .before .before .before .before .before .before .before .before .file-of .result)) (c .after-method .result) (c .before .before .before .before .before .before .before .before .file-of .ensures) (subst (λ (v : Bool). MethodPasses (now (c .before .before .before .before .before .before .before .before .before .before .before .args .f)) (now (c .before .before .before .before .before .before .before .before .before .before .before .args .s)) (c .before .before .before .before .before .before .before .before .before .before .before .args .end) (c .before .before .before .before .before .before .before .before .before .before .before .args .b) (c .before .before .before .before .before .before .before .before .before .before .before .args .h) (c .before .before .before .before .loop .c) v) (records.not-no (c .before .before .method-passes .result) (c .before .if1 .left)) (c .before .before .method-passes .ensures)) (c .after-method .ensures)
+loop-again c = loops.methods-miss (now (c .before .before .before .before .before .before .before .before .before .before .before .args .f)) (now (c .before .before .before .before .before .before .before .before .before .before .before .args .s)) (c .before .before .before .before .before .before .before .before .before .before .before .args .end) (c .before .before .before .before .before .before .before .before .before .before .before .args .b) (c .before .before .before .before .before .before .before .before .before .before .before .args .h) (c .before .before .before .before .before .before .before .before .before .before .before .args .n) (c .before .before .before .before .before .before .before .methods-at .result) (c .before .before .before .before .before .before .before .methods-at .ensures) (c .before .before .before .before .loop .left) (c .before .before .before .before .loop .c) (c .before .before .before .before .loop .inv) (c .before .before .before .loop-test .taken) (now (c .before .before .before .before .before .before .before .before .file-of .result)) (c .after-method .result) (c .before .before .before .before .before .before .before .before .file-of .ensures) (subst (λ (v : Bool). MethodPasses (now (c .before .before .before .before .before .before .before .before .before .before .before .args .f)) (now (c .before .before .before .before .before .before .before .before .before .before .before .args .s)) (c .before .before .before .before .before .before .before .before .before .before .before .args .end) (c .before .before .before .before .before .before .before .before .before .before .before .args .b) (c .before .before .before .before .before .before .before .before .before .before .before .args .h) (c .before .before .before .before .loop .c) v) (not-false (c .before .before .method-passes .result) (c .before .if1 .left)) (c .before .before .method-passes .ensures)) (c .after-method .ensures)
 
 returns-2 : tie.Need-returns-2 Inv-loop μ-loop
 returns-2 c = loops.methods-done (now (c .before .before .before .before .before .before .before .before .args .f)) (now (c .before .before .before .before .before .before .before .before .args .s)) (c .before .before .before .before .before .before .before .before .args .end) (c .before .before .before .before .before .before .before .before .args .b) (c .before .before .before .before .before .before .before .before .args .h) (c .before .before .before .before .before .before .before .before .args .n) (c .before .before .before .before .methods-at .result) (c .before .before .before .before .methods-at .ensures) (c .before .loop .left) (c .before .loop .c) (c .before .loop .inv) (c .loop-test .left)

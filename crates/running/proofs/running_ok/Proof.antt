@@ -2,12 +2,12 @@
 use Rattle.homes.specs.Memo.{MemoBelow}
 use Rattle.running.specs.Say.{OwnPasses}
 use Rattle.running.proofs.Whole as whole
-use Rattle.running.proofs.Records as records
 use denote.Ref.{now}
 use Prim.Native.Nat.{_+_, _-_}
 use mathlib.Core.Path.{subst}
 use mathlib.Core.Bool.{Bool}
 use native.Mathlib.Omega.{arith}
+use borrow.Author.Tests.{not-true, not-false}
 use borrow.Author.Needs.{needs}
 use Rattle.running.proofs.running_ok.Statement.{statement}
 use Rattle.running.proofs.running_ok.Tie as tie
@@ -34,7 +34,7 @@ own-class-passes-requires : tie.Need-own-class-passes-requires Inv-loop μ-loop
 own-class-passes-requires c κs = (whole.own-there′ (now (c .before .before .before .before .before .before .before .before .args .f)) (now (c .before .before .before .before .before .before .before .before .args .s)) (c .before .before .before .before .before .before .before .before .args .end) (c .before .before .before .wide .result) (c .before .before .loop .b) (c .before .before .loop .inv .0) (c .before .loop-test .taken) (c .before .before .before .before .before .before .before .before .pre .0), (c .before .before .loop .inv .1, (c .before .before .before .before .before .before .before .before .pre .1 .0, c .before .before .before .before .before .before .before .before .pre .1 .1 .1)))
 
 returns : tie.Need-returns Inv-loop μ-loop
-returns c = (whole.own-no (now (c .before .before .before .before .before .before .before .before .before .before .args .f)) (now (c .before .before .before .before .before .before .before .before .before .before .args .s)) (c .before .before .before .before .before .before .before .before .before .before .args .end) (c .before .before .before .before .before .wide .result) (c .before .before .before .before .loop .b) (c .before .before .before .before .loop .inv .0) (c .before .before .before .loop-test .taken) (subst (λ (v : Bool). OwnPasses (now (c .before .before .before .before .before .before .before .before .before .before .args .f)) (now (c .before .before .before .before .before .before .before .before .before .before .args .s)) (c .before .before .before .before .before .before .before .before .before .before .args .end) (c .before .before .before .before .loop .b) v) (records.not-yes (c .before .own-class-passes .result) (c .if1 .taken)) (c .before .own-class-passes .ensures .0)), whole.memo-after (now (c .before .before .before .before .before .before .before .before .before .before .args .f)) (now (c .before .before .before .before .before .before .before .before .before .before .args .s)) (c .before .before .before .before .before .before .before .before .before .before .args .end) (c .before .before .before .before .before .wide .result) (c .before .before .before .before .loop .b) (c .before .before .before .before .loop .inv .0) (c .before .before .before .before .before .before .before .before .before .before .args .base) ((c .before .before .before .before .before .before .before .before .before .before .args .base) + c .before .before .before .before .loop .b + 1) _ (omega (arith, c .before .before .before .loop-test .taken)) (c .before .own-class-passes .ensures .1))
+returns c = (whole.own-no (now (c .before .before .before .before .before .before .before .before .before .before .args .f)) (now (c .before .before .before .before .before .before .before .before .before .before .args .s)) (c .before .before .before .before .before .before .before .before .before .before .args .end) (c .before .before .before .before .before .wide .result) (c .before .before .before .before .loop .b) (c .before .before .before .before .loop .inv .0) (c .before .before .before .loop-test .taken) (subst (λ (v : Bool). OwnPasses (now (c .before .before .before .before .before .before .before .before .before .before .args .f)) (now (c .before .before .before .before .before .before .before .before .before .before .args .s)) (c .before .before .before .before .before .before .before .before .before .before .args .end) (c .before .before .before .before .loop .b) v) (not-true (c .before .own-class-passes .result) (c .if1 .taken)) (c .before .own-class-passes .ensures .0)), whole.memo-after (now (c .before .before .before .before .before .before .before .before .before .before .args .f)) (now (c .before .before .before .before .before .before .before .before .before .before .args .s)) (c .before .before .before .before .before .before .before .before .before .before .args .end) (c .before .before .before .before .before .wide .result) (c .before .before .before .before .loop .b) (c .before .before .before .before .loop .inv .0) (c .before .before .before .before .before .before .before .before .before .before .args .base) ((c .before .before .before .before .before .before .before .before .before .before .args .base) + c .before .before .before .before .loop .b + 1) _ (omega (arith, c .before .before .before .loop-test .taken)) (c .before .own-class-passes .ensures .1))
 
 add-b : tie.Need-add-b Inv-loop μ-loop
 add-b c = omega (arith, c .before .before .before .loop-test .taken, c .before .before .before .before .before .wide .ensures .1)
@@ -43,7 +43,7 @@ loop-less : tie.Need-loop-less Inv-loop μ-loop
 loop-less c = omega (arith, c .before .before .before .loop-test .taken)
 
 loop-again : tie.Need-loop-again Inv-loop μ-loop
-loop-again c = (whole.own-yes (now (c .before .before .before .before .before .before .before .before .before .before .args .f)) (now (c .before .before .before .before .before .before .before .before .before .before .args .s)) (c .before .before .before .before .before .before .before .before .before .before .args .end) (c .before .before .before .before .before .wide .result) (c .before .before .before .before .loop .b) (c .before .before .before .before .loop .inv .0) (c .before .before .before .loop-test .taken) (subst (λ (v : Bool). OwnPasses (now (c .before .before .before .before .before .before .before .before .before .before .args .f)) (now (c .before .before .before .before .before .before .before .before .before .before .args .s)) (c .before .before .before .before .before .before .before .before .before .before .args .end) (c .before .before .before .before .loop .b) v) (records.not-no (c .before .own-class-passes .result) (c .if1 .left)) (c .before .own-class-passes .ensures .0)), whole.below-more ((c .before .before .before .before .before .before .before .before .before .before .args .base) + c .before .before .before .before .loop .b + 1) ((c .before .before .before .before .before .before .before .before .before .before .args .base) + (c .before .before .before .before .loop .b + 1)) _ (omega arith) (c .before .own-class-passes .ensures .1))
+loop-again c = (whole.own-yes (now (c .before .before .before .before .before .before .before .before .before .before .args .f)) (now (c .before .before .before .before .before .before .before .before .before .before .args .s)) (c .before .before .before .before .before .before .before .before .before .before .args .end) (c .before .before .before .before .before .wide .result) (c .before .before .before .before .loop .b) (c .before .before .before .before .loop .inv .0) (c .before .before .before .loop-test .taken) (subst (λ (v : Bool). OwnPasses (now (c .before .before .before .before .before .before .before .before .before .before .args .f)) (now (c .before .before .before .before .before .before .before .before .before .before .args .s)) (c .before .before .before .before .before .before .before .before .before .before .args .end) (c .before .before .before .before .loop .b) v) (not-false (c .before .own-class-passes .result) (c .if1 .left)) (c .before .own-class-passes .ensures .0)), whole.below-more ((c .before .before .before .before .before .before .before .before .before .before .args .base) + c .before .before .before .before .loop .b + 1) ((c .before .before .before .before .before .before .before .before .before .before .args .base) + (c .before .before .before .before .loop .b + 1)) _ (omega arith) (c .before .own-class-passes .ensures .1))
 
 returns-2 : tie.Need-returns-2 Inv-loop μ-loop
 returns-2 c = (whole.own-done (now (c .before .before .before .before .before .before .before .args .f)) (now (c .before .before .before .before .before .before .before .args .s)) (c .before .before .before .before .before .before .before .args .end) (c .before .before .wide .result) (c .before .loop .b) (c .before .loop .inv .0) (c .loop-test .left), whole.memo-after (now (c .before .before .before .before .before .before .before .args .f)) (now (c .before .before .before .before .before .before .before .args .s)) (c .before .before .before .before .before .before .before .args .end) (c .before .before .wide .result) (c .before .loop .b) (c .before .loop .inv .0) (c .before .before .before .before .before .before .before .args .base) ((c .before .before .before .before .before .before .before .args .base) + c .before .loop .b) _ (omega (arith, c .before .loop .inv .0 .few)) (c .before .loop .inv .1))
