@@ -46,11 +46,11 @@
  * Peak stack in bytes, measured on x86-64:
  *
  *     loader_fresh      259
- *     loader_create     78,315
- *     loader_delete     78,315
- *     loader_load       78,411
- *     loader_remove     77,995
- *     loader_query      78,027
+ *     loader_create     104,059
+ *     loader_delete     104,043
+ *     loader_load       104,155
+ *     loader_remove     103,867
+ *     loader_query      104,667
  */
 #ifndef LOADER_H
 #define LOADER_H

@@ -26,6 +26,7 @@ use Rattle.homes.specs.Homes.{Parents, ownHome, Stored, HomeIs, HomeThere, Numb
 use Rattle.homes.specs.Homes as homes
 use Rattle.homes.specs.declared.Home.{Home}
 use Rattle.homes.specs.declared.HomeFound.the-variants.{At, Nothing}
+use Rattle.homes.proofs.Homes.{home-below}
 use Rattle.depths.specs.Depths.{ParentsThere, OfParents, ClassCount, ClassIs, ClassThere, OfClass, rank, ParentAt, ParentIs, Kind0Is, Kind0Count, KindsIs, AllKinds}
 use Rattle.depths.specs.declared.Parent.the-variants.{In, End}
 use Rattle.depths.proofs.ByNumber.{at-end, all-from, none-counted, Left, left-more, left-bad, left-done, Counting, count-more, count-done}
@@ -54,6 +55,10 @@ all-exist f s end es self g h x (homes.stored t) =
 module _ (f s : Bytes) (end : ℕ) (h : Home) (n : ℕ) where
   pub class-home : ClassThere f s end h n → HomeThere f s h
   class-home t = (end, t .0, t .1, t .4 .parents .imported, t .2, t .4 .home)
+
+  -- the entry of its package starts where the entries end, or before
+  pub class-before : ClassThere f s end h n → h .before ≤ end
+  class-before t = home-below f s end (t .0) (t .1) (t .4 .parents .imported .setting) h (t .2) (t .4 .home)
 
   -- each listed parent does
   listed-exists : (es : List Entry) (self x : Installed) (k : Class) → ClassIs f s end h n es self x k → (i : ℕ) (p : ClassNumber) → at (k .parents) i ≡ some p → T (parentExists (installed (storeLimits s) es) x n p)

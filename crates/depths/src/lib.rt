@@ -9,6 +9,7 @@ ghost use lib.ListN.{length, getD, set};
 ghost use Rattle.rules.specs.Package.{storeLimits};
 ghost use Rattle.files.specs.Say.{Readable};
 ghost use Rattle.homes.specs.Homes.{HomeThere};
+ghost use Rattle.homes.specs.Found.{Indexed};
 ghost use Rattle.homes.specs.Memo.{memoLength, key, MemoBelow};
 ghost use Rattle.depths.specs.Depths.{ImportsThere, ParentsThere, ClassCount, HasClass, OwnClass, ExistsIs, AllExist, ParentsExist, ClassThere, ParentIs, Kind0Is, Kind0Count, KindsIs, AllKinds, capped, DepthIs, DeepestIs, MemoIs, ParentedIs, DepthsAre};
 
@@ -45,13 +46,24 @@ fn has_class<'a>(f: &'a [u8], s: &'a [u8], h: Home, n: usize) -> bool
 }
 
 // Does a parent of own class n, told by package and class number, exist, an own one with a smaller number?
-fn parent_exists<'a>(f: &'a [u8], s: &'a [u8], end: usize, n: usize, p: usize, c: usize) -> bool
+fn parent_exists<'a>(
+    f: &'a [u8],
+    s: &'a [u8],
+    end: usize,
+    index: &[u16; 12288],
+    n: usize,
+    p: usize,
+    c: usize,
+) -> bool
     requires { ⌜ ImportsThere (now f) (now s) end ⌝ }
+    requires { ⌜ Indexed (now s) end (now index) ⌝ }
     ensures { λ r. ⌜ ExistsIs (now (f .entry)) (now (s .entry)) end n (record { pack = p; class = c }) r ⌝ }
 {
     match homes::numbered(
         f,
         s,
+        end,
+        index,
         Home {
             from: 0,
             to: 0,
@@ -73,8 +85,15 @@ fn parent_exists<'a>(f: &'a [u8], s: &'a [u8], end: usize, n: usize, p: usize, c
 }
 
 // Does each parent of own class n?
-fn class_parents_exist<'a>(f: &'a [u8], s: &'a [u8], end: usize, n: usize) -> bool
+fn class_parents_exist<'a>(
+    f: &'a [u8],
+    s: &'a [u8],
+    end: usize,
+    index: &[u16; 12288],
+    n: usize,
+) -> bool
     requires { ⌜ OwnClass (now f) (now s) end n ⌝ }
+    requires { ⌜ Indexed (now s) end (now index) ⌝ }
     ensures { λ r. ⌜ AllExist (now (f .entry)) (now (s .entry)) end n r ⌝ }
 {
     let r = homes::class_record(
@@ -90,7 +109,7 @@ fn class_parents_exist<'a>(f: &'a [u8], s: &'a [u8], end: usize, n: usize) -> bo
     let k = wide(r[1]);
     let mut i = 0;
     while i < k {
-        if !parent_exists(f, s, end, n, wide(r[2 + 2 * i]), wide(r[3 + 2 * i])) {
+        if !parent_exists(f, s, end, index, n, wide(r[2 + 2 * i]), wide(r[3 + 2 * i])) {
             return false;
         }
         i += 1;
@@ -99,14 +118,15 @@ fn class_parents_exist<'a>(f: &'a [u8], s: &'a [u8], end: usize, n: usize) -> bo
 }
 
 // 14, first part: does each parent exist, an own one with a smaller number?
-pub fn parents_exist<'a>(f: &'a [u8], s: &'a [u8], end: usize) -> bool
+pub fn parents_exist<'a>(f: &'a [u8], s: &'a [u8], end: usize, index: &[u16; 12288]) -> bool
     requires { ⌜ ImportsThere (now f) (now s) end ⌝ }
+    requires { ⌜ Indexed (now s) end (now index) ⌝ }
     ensures { λ r. ⌜ ParentsExist (now (f .entry)) (now (s .entry)) end r ⌝ }
 {
     let k = class_count(f);
     let mut n = 0;
     while n < k {
-        if !class_parents_exist(f, s, end, n) {
+        if !class_parents_exist(f, s, end, index, n) {
             return false;
         }
         n += 1;
@@ -115,8 +135,17 @@ pub fn parents_exist<'a>(f: &'a [u8], s: &'a [u8], end: usize) -> bool
 }
 
 // Parent i of class n at a home: the same home and a smaller class number, or an earlier home.
-fn nth_parent<'a>(f: &'a [u8], s: &'a [u8], end: usize, h: Home, n: usize, i: usize) -> Parent
+fn nth_parent<'a>(
+    f: &'a [u8],
+    s: &'a [u8],
+    end: usize,
+    index: &[u16; 12288],
+    h: Home,
+    n: usize,
+    i: usize,
+) -> Parent
     requires { ⌜ ClassThere (now f) (now s) end h n ⌝ }
+    requires { ⌜ Indexed (now s) end (now index) ⌝ }
     ensures { λ r. ⌜ ParentIs (now (f .entry)) (now (s .entry)) end h n i r ⌝ }
 {
     let r = homes::class_record(f, s, h, n);
@@ -125,7 +154,7 @@ fn nth_parent<'a>(f: &'a [u8], s: &'a [u8], end: usize, h: Home, n: usize, i: us
         return Parent::End;
     }
     let m = wide(r[3 + 2 * i]);
-    match homes::numbered(f, s, h, wide(r[2 + 2 * i])) {
+    match homes::numbered(f, s, end, index, h, wide(r[2 + 2 * i])) {
         HomeFound::At(g) => Parent::In(g, m),
         HomeFound::Nothing => Parent::End,
     }
@@ -144,14 +173,22 @@ fn kind0<'a>(f: &'a [u8], s: &'a [u8], end: usize, h: Home, n: usize) -> usize
 }
 
 // How many kind-0 parents has class n at a home, counted by places?
-fn kind0_parents<'a>(f: &'a [u8], s: &'a [u8], end: usize, h: Home, n: usize) -> usize
+fn kind0_parents<'a>(
+    f: &'a [u8],
+    s: &'a [u8],
+    end: usize,
+    index: &[u16; 12288],
+    h: Home,
+    n: usize,
+) -> usize
     requires { ⌜ ClassThere (now f) (now s) end h n ⌝ }
+    requires { ⌜ Indexed (now s) end (now index) ⌝ }
     ensures { λ r. ⌜ Kind0Count (now (f .entry)) (now (s .entry)) end h n r ⌝ }
 {
     let mut i = 0;
     let mut found = 0;
     loop {
-        match nth_parent(f, s, end, h, n, i) {
+        match nth_parent(f, s, end, index, h, n, i) {
             Parent::In(g, m) => {
                 found += kind0(f, s, end, g, m);
                 i += 1;
@@ -164,17 +201,26 @@ fn kind0_parents<'a>(f: &'a [u8], s: &'a [u8], end: usize, h: Home, n: usize) ->
 }
 
 // Has class n at a home, where it is an interface, only interface parents, else at most one kind-0 parent?
-fn kinds_ok<'a>(f: &'a [u8], s: &'a [u8], end: usize, h: Home, n: usize) -> bool
+fn kinds_ok<'a>(
+    f: &'a [u8],
+    s: &'a [u8],
+    end: usize,
+    index: &[u16; 12288],
+    h: Home,
+    n: usize,
+) -> bool
     requires { ⌜ ClassThere (now f) (now s) end h n ⌝ }
+    requires { ⌜ Indexed (now s) end (now index) ⌝ }
     ensures { λ r. ⌜ KindsIs (now (f .entry)) (now (s .entry)) end h n r ⌝ }
 {
     let most = kind0(f, s, end, h, n);
-    kind0_parents(f, s, end, h, n) <= most
+    kind0_parents(f, s, end, index, h, n) <= most
 }
 
 // 14, second part: have interfaces only interface parents, classes at most one kind-0 parent?
-pub fn parent_kinds<'a>(f: &'a [u8], s: &'a [u8], end: usize) -> bool
+pub fn parent_kinds<'a>(f: &'a [u8], s: &'a [u8], end: usize, index: &[u16; 12288]) -> bool
     requires { ⌜ ParentsThere (now f) (now s) end ⌝ }
+    requires { ⌜ Indexed (now s) end (now index) ⌝ }
     ensures { λ r. ⌜ AllKinds (now (f .entry)) (now (s .entry)) end r ⌝ }
 {
     let k = class_count(f);
@@ -184,6 +230,7 @@ pub fn parent_kinds<'a>(f: &'a [u8], s: &'a [u8], end: usize) -> bool
             f,
             s,
             end,
+            index,
             Home {
                 from: 0,
                 to: 0,
@@ -247,6 +294,7 @@ fn class_depth<'a>(
     f: &'a [u8],
     s: &'a [u8],
     end: usize,
+    index: &[u16; 12288],
     h: Home,
     n: usize,
     most: usize,
@@ -256,6 +304,7 @@ fn class_depth<'a>(
     requires { ⌜ ClassThere (now f) (now s) end h n ⌝ }
     requires { ⌜ (length (now s) ≤ 65535) × (most ≡ storeLimits (now s) .depth) × (base ≤ 65000) ⌝ }
     requires { ⌜ MemoIs (now f) (now s) end base most (now memo) ⌝ }
+    requires { ⌜ Indexed (now s) end (now index) ⌝ }
     ensures { λ r. ⌜ DepthIs (now (f .entry)) (now (s .entry)) end h n r ⌝ }
     ensures { λ _. ⌜ MemoIs (now (f .entry)) (now (s .entry)) end base most (now (memo .exit)) ⌝ }
 {
@@ -263,7 +312,10 @@ fn class_depth<'a>(
     if known != 0 {
         return known;
     }
-    let d = one_more(parents_depth(f, s, end, h, n, 0, most, memo, base), most);
+    let d = one_more(
+        parents_depth(f, s, end, index, h, n, 0, most, memo, base),
+        most,
+    );
     tell(memo, h, n, base, d);
     d
 }
@@ -273,6 +325,7 @@ fn parents_depth<'a>(
     f: &'a [u8],
     s: &'a [u8],
     end: usize,
+    index: &[u16; 12288],
     h: Home,
     n: usize,
     i: usize,
@@ -283,13 +336,17 @@ fn parents_depth<'a>(
     requires { ⌜ ClassThere (now f) (now s) end h n ⌝ }
     requires { ⌜ (length (now s) ≤ 65535) × (most ≡ storeLimits (now s) .depth) × (base ≤ 65000) ⌝ }
     requires { ⌜ MemoIs (now f) (now s) end base most (now memo) ⌝ }
+    requires { ⌜ Indexed (now s) end (now index) ⌝ }
     ensures { λ r. ⌜ DeepestIs (now (f .entry)) (now (s .entry)) end h n i r ⌝ }
     ensures { λ _. ⌜ MemoIs (now (f .entry)) (now (s .entry)) end base most (now (memo .exit)) ⌝ }
 {
-    match nth_parent(f, s, end, h, n, i) {
+    match nth_parent(f, s, end, index, h, n, i) {
         Parent::In(g, m) => {
-            let d = class_depth(f, s, end, g, m, most, memo, base);
-            larger(d, parents_depth(f, s, end, h, n, i + 1, most, memo, base))
+            let d = class_depth(f, s, end, index, g, m, most, memo, base);
+            larger(
+                d,
+                parents_depth(f, s, end, index, h, n, i + 1, most, memo, base),
+            )
         }
         Parent::End => 0,
     }
@@ -300,6 +357,7 @@ fn depths_ok<'a>(
     f: &'a [u8],
     s: &'a [u8],
     end: usize,
+    index: &[u16; 12288],
     most: usize,
     memo: &mut [u16; 21880],
     base: usize,
@@ -307,6 +365,7 @@ fn depths_ok<'a>(
     requires { ⌜ ParentsThere (now f) (now s) end ⌝ }
     requires { ⌜ (length (now s) ≤ 65535) × (most ≡ storeLimits (now s) .depth) × (base ≤ 65000) ⌝ }
     requires { ⌜ MemoBelow base (now memo) ⌝ }
+    requires { ⌜ Indexed (now s) end (now index) ⌝ }
     ensures { λ r. ⌜ DepthsAre (now (f .entry)) (now (s .entry)) end r ⌝ }
     ensures { λ _. ⌜ MemoBelow (base + most + 1) (now (memo .exit)) ⌝ }
 {
@@ -318,6 +377,7 @@ fn depths_ok<'a>(
             f,
             s,
             end,
+            index,
             Home {
                 from: 0,
                 to: 0,
@@ -342,6 +402,7 @@ pub fn parents_ok<'a>(
     f: &'a [u8],
     s: &'a [u8],
     end: usize,
+    index: &[u16; 12288],
     most: usize,
     memo: &mut [u16; 21880],
     base: usize,
@@ -350,14 +411,15 @@ pub fn parents_ok<'a>(
     requires { ⌜ length (now s) ≤ 65535 ⌝ }
     requires { ⌜ most ≡ storeLimits (now s) .depth ⌝ }
     requires { ⌜ MemoBelow base (now memo) × (base ≤ 65000) ⌝ }
+    requires { ⌜ Indexed (now s) end (now index) ⌝ }
     ensures { λ r. ⌜ ParentedIs (now (f .entry)) (now (s .entry)) end r ⌝ }
     ensures { λ _. ⌜ MemoBelow (base + most + 1) (now (memo .exit)) ⌝ }
 {
-    if !parents_exist(f, s, end) {
+    if !parents_exist(f, s, end, index) {
         return Parented::No;
     }
-    if !parent_kinds(f, s, end) {
+    if !parent_kinds(f, s, end, index) {
         return Parented::No;
     }
-    depths_ok(f, s, end, most, memo, base)
+    depths_ok(f, s, end, index, most, memo, base)
 }

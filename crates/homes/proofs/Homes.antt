@@ -1,16 +1,16 @@
 -- What a home says of the file there: it reads, it was accepted over the entries before it, its imports are found there. Assumes nothing.
-use Prim.Native.Nat.{ℕ, _<_, _≤_}
+use Prim.Native.Nat.{ℕ, _+_, _<_, _≤_}
 use native.Mathlib.Omega.{arith}
 use mathlib.Core.Path.{_≡_, sym, _∙_, ap, subst}
 use mathlib.Core.Bool.{_||_, not}
 use mathlib.Core.List.{List, [], _∷_, _++_, append-nil, append-assoc, List·Memᴰ}
 use mathlib.Core.Option.{Option, none, some, Option·some-injective}
 use lib.Dec.{T, ltb, eqb, eqb→eq, ltb→lt}
-use lib.ListN.{length}
+use lib.ListN.{length, length-append}
 use borrow.Author.Tests.{ne-eqb}
 use Rattle.rules.specs.Bytes.{Bytes, Aid, at, isSome, someAnd}
 use Rattle.rules.specs.Package.{Limits, storeLimits, ClassNumber, Class, readFile}
-use Rattle.rules.specs.Store.{Entry, domain, loaded, openingLength}
+use Rattle.rules.specs.Store.{Entry, domain, loaded, entryBytes, entriesBytes, openingLength}
 use Rattle.rules.specs.Classes.{Installed, installedBy, installed, byAid, classNamed, recordOf}
 use Rattle.rules.specs.Questions.{q13-imports, parentExists}
 use Rattle.rules.specs.Operations.{isPackage, accepted, acceptedAll}
@@ -20,7 +20,7 @@ use Rattle.rules.proofs.Asked.{LoadYes, load-yes, parents-yes}
 use Rattle.rules.proofs.Sound.{byAid-more}
 use Rattle.rules.proofs.Step.{accepted-append}
 use Rattle.store.specs.Entries.{part, Entries, FileReads, AllRead, PackageAt}
-use Rattle.store.proofs.Stand.{entry-one, entries-to}
+use Rattle.store.proofs.Stand.{entry-one, entries-to, entries-next}
 use Rattle.store.proofs.Walk.{found-at}
 use Rattle.homes.specs.Homes.{Setting, Imports, Parents, fileOf, Stored, HomeIs, own, stored, FoundIs}
 use Rattle.homes.specs.declared.Home.{Home}
@@ -53,6 +53,15 @@ module _ (f s : Bytes) (end : ℕ) (es : List Entry) (self : Installed) where
   pub home-bounds : (h : Home) (x : Installed) → HomeIs f s end es self h x → (h .from ≤ h .to) × (h .to ≤ length s)
   home-bounds _ _ own = (omega arith, omega arith)
   home-bounds h x (stored t) = (t .order, t .entry .to)
+
+  -- its entry starts where the entries end, or before
+  pub home-below : Setting f s end es self → (h : Home) (x : Installed) → HomeIs f s end es self h x → h .before ≤ end
+  home-below g _ _ own = omega arith
+  home-below g h x (stored t) =
+      let e : Entry = loaded (x .domain) (part s (h .from) (h .to)) in
+      let l : length (entriesBytes es) ≡ length (entriesBytes (t .pre)) + length (entriesBytes (e ∷ t .post)) =
+      ap (λ (zs : List Entry). length (entriesBytes zs)) (t .are) ∙ ap length (flat-append entryBytes (t .pre) (e ∷ t .post)) ∙ length-append (entriesBytes (t .pre)) (entriesBytes (e ∷ t .post)) in
+      omega (arith, entries-next s openingLength es end (g .stand), entries-next s openingLength (t .pre) (h .before) (t .stand), l)
 
   -- a stored package was accepted over the entries before it
   pub stored-yes : (g : Setting f s end es self) (h : Home) (x : Installed) (t : Stored s es h x) → LoadYes (storeLimits s) (g .size) (t .pre) (x .domain) (part s (h .from) (h .to)) (x .pack)

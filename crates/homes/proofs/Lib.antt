@@ -1,3 +1,4 @@
 -- Laws about homes.
 pub mod Homes
+pub mod Earlier
 pub mod Lookups

@@ -1,20 +1,21 @@
 -- Files, classes and packages looked up at a home: what the functions' returns say. Assumes nothing.
-use Prim.Native.Nat.{ℕ, zero, suc, _+_, _-_, _≤_}
+use Prim.Native.Nat.{ℕ, zero, suc, _-_, _≤_}
 use native.Mathlib.Omega.{arith}
 use mathlib.Core.Path.{_≡_, refl, sym, _∙_, ap, subst, subst⁻¹}
 use mathlib.Core.List.{List·Memᴰ}
 use mathlib.Core.Option.{Option, some}
-use lib.ListN.{length, take, drop, getD, length-drop}
+use lib.ListN.{length, take, drop, length-drop}
 use lib.Seq.{take-all}
 use borrow.Author.Tests.{eq-eqb, ne-eqb}
-use Rattle.rules.specs.Bytes.{Bytes, Aid, at, aid}
+use Rattle.rules.specs.Bytes.{Bytes, Aid, at, isSome, aid}
 use Rattle.rules.specs.Package.{storeLimits, class, readFile}
 use Rattle.rules.specs.Classes.{Installed, installed, byAid, packageNumbered}
+use Rattle.rules.specs.Questions.{q13-imports}
+use Rattle.rules.proofs.Tests.{all-mem}
 use Rattle.rules.proofs.Lists.{at-mem}
-use Rattle.places.specs.Reads.{Reads, Ends, EndsAt, Placed}
-use Rattle.places.proofs.Parts.{aid-part}
+use Rattle.places.specs.Reads.{Ends, Placed}
 use Rattle.places.proofs.Track.{placed-at, placed-none}
-use Rattle.files.specs.Say.{spot, Readable, ImportsAt, AidNth}
+use Rattle.files.specs.Say.{spot, Readable, ImportsAt, AidNth, AidBytes}
 use Rattle.files.specs.Say as say
 use Rattle.files.specs.declared.Spot.{Spot}
 use Rattle.files.specs.declared.Spot.the-variants as spots
@@ -27,6 +28,7 @@ use Rattle.homes.specs.Homes.{fileOf, recordFrom, HomeThere, FoundIs, Ho
 use Rattle.homes.specs.declared.HomeFound.{HomeFound}
 use Rattle.homes.specs.declared.HomeFound.the-variants.{At, Nothing}
 use Rattle.homes.specs.declared.Home.{Home}
+use Rattle.homes.proofs.Earlier.{earlier}
 use Rattle.homes.proofs.Homes.{home-reads, home-bounds, Before, home-before, import-found, import-there}
 
 module _ (f s : Bytes) (h : Home) where
@@ -75,22 +77,22 @@ by-aid-missing s end a r e q es t u = (subst (λ (x : FileSpot). FileSays s es a
 
 -- the package of import k of the file at a home
 module _ (f s : Bytes) (h : Home) where
-  pub there-files : HomeThere f s h → FilesStand s (h .before)
-  there-files t = let b = home-before f s (t .0) (t .1) (t .2) (t .3) h (t .4) (t .5) in (b .pre, b .stand, b .reads)
-
   pub numbered-none : (g : Bytes) (k : ℕ) → g ≡ fileOf f s h → ImportPlaced g k spots.Nothing → NumberedIs f s h (suc k) Nothing
   numbered-none g k e p end es self i x t =
       let n = placed-none (p (storeLimits s) (x .pack) (ap (readFile (storeLimits s)) e ∙ home-reads f s end es self (i .setting) h x t)) in
       rw n
 
-  pub numbered-at : (g : Bytes) (k c : ℕ) (a : Aid) → g ≡ fileOf f s h → ImportPlaced g k (spots.At c) → ((b : Aid) (j : ℕ) → Reads aid g c b j → b ≡ a) → (r : HomeFound) → ByAid s (h .before) a r → NumberedIs f s h (suc k) r
-  numbered-at g k c a e p q r w end es self i x t =
+  pub numbered-at : (g : Bytes) (k c : ℕ) (a : Aid) → g ≡ fileOf f s h → ImportPlaced g k (spots.At c) → AidBytes g c a →
+      (stop : ℕ) → FilesStand s stop → h .before ≤ stop → (r : HomeFound) → ByAid s stop a r → NumberedIs f s h (suc k) r
+  unfolding q13-imports
+  numbered-at g k c a e p q stop d le r w end es self i x t =
       let n = placed-at (p (storeLimits s) (x .pack) (ap (readFile (storeLimits s)) e ∙ home-reads f s end es self (i .setting) h x t)) in
-      let z : n .0 ≡ a = q (n .0) (n .1) (n .3) in
+      let z : n .0 ≡ a = sym (q (n .0) (n .1) (n .3)) in
       let m : List·Memᴰ a (x .pack .imports) = at-mem (x .pack .imports) k a (n .2 ∙ ap some z) in
       let b = home-before f s end es self i h x t in
       let o : packageNumbered (installed (storeLimits s) es) x (suc k) ≡ byAid (installed (storeLimits s) es) a = rw (n .2 ∙ ap some z) in
-      subst⁻¹ (λ (v : Option Installed). FoundIs f s end es self h v r) o (found r m b (w (b .pre) (b .stand) (b .reads)))
+      let here = all-mem (λ y. isSome (byAid (installed (storeLimits s) (b .pre)) y)) (b .imports) m in
+      subst⁻¹ (λ (v : Option Installed). FoundIs f s end es self h v r) o (found r m b (earlier s stop (h .before) a (d .0) (b .pre) (d .1) (b .stand) le here r (w (d .0) (d .1) (d .2))))
     where
       found : (r : HomeFound) → List·Memᴰ a (x .pack .imports) → (b : Before f s end es self h x) → HomeSays s (b .pre) a r → FoundIs f s end es self h (byAid (installed (storeLimits s) es) a) r
       found (At v) m b u = import-found f s end es self h x b a m (v .before) (v .from) (v .to) u
@@ -99,20 +101,6 @@ module _ (f s : Bytes) (h : Home) where
 -- an import's AID stands at the place told
 pub import-ends : (g : Bytes) (k c : ℕ) → Readable g → ImportPlaced g k (spots.At c) → Ends aid g c
 import-ends g k c r p = let q = placed-at (p (r .0) (r .1) (r .2)) in (q .0, q .1, q .3)
-
--- the bytes of an AID between its length and its end
-pub aid-slice : (g : Bytes) (c e : ℕ) → Ends aid g c → EndsAt aid g c e → (c + 1 ≤ e) × (e ≤ length g)
-aid-slice g c e t q =
-    let p = aid-part g c (t .0) (t .1) (t .2) in
-    let z : e ≡ t .1 = q (t .0) (t .1) (t .2) in
-    (omega (arith, p .next), omega (arith, p .to))
-
-pub aid-bytes : (g : Bytes) (c e : ℕ) → EndsAt aid g c e → (b : Aid) (j : ℕ) → Reads aid g c b j → b ≡ take (e - (c + 1)) (drop (c + 1) g)
-aid-bytes g c e q b j r =
-    let p = aid-part g c b j r in
-    let z : e ≡ j = q b j r in
-    let n : getD g c 0 ≡ e - (c + 1) = omega (arith, p .next) in
-    sym (ap (λ (m : ℕ). take m (drop (c + 1) g)) (sym n) ∙ p .bytes)
 
 -- a number that is not 0
 pub numbered-suc : (f s : Bytes) (h : Home) (k : ℕ) (r : HomeFound) → (k ≡ 0 → ⊥) → NumberedIs f s h (suc (k - 1)) r → NumberedIs f s h k r

@@ -1,5 +1,6 @@
--- The homes of a file's imports, found once and kept in a table. Assumes nothing.
+-- Packages found by their AIDs: by an index, and a file's imports once, kept in a table. Assumes nothing.
 --
+-- Indexed s end index == an index of the entries that end at a place, whose files read
 -- tableLength        == three places for each import: from, to and before of its home
 -- homeAt t k         == the home in the table for import k, counted from 0
 -- ImportHomes f s end t == for each import of the file being judged the table has the home of the package installed under its AID
@@ -11,9 +12,16 @@ use Rattle.rules.specs.Bytes.{Bytes}
 use Rattle.rules.specs.Package.{storeLimits}
 use Rattle.rules.specs.Store.{Entry}
 use Rattle.rules.specs.Classes.{Installed, installed, packageNumbered}
+use Rattle.store.specs.Entries.{FilesStand}
+use Rattle.index.specs.Index.{IndexIs}
 use Rattle.homes.specs.Homes.{Imports, ownHome, FoundIs}
 use Rattle.homes.specs.declared.Home.{Home}
 use Rattle.homes.specs.declared.HomeFound.the-variants.{At}
+
+-- an index of the entries that end at a place, whose files read
+pub record Indexed (s : Bytes) (end : ℕ) (index : List ℕ) : Type 0 where
+  pub files : FilesStand s end
+  pub is : IndexIs s end index
 
 abbrev pub tableLength : ℕ
 tableLength = 48

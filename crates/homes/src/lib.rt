@@ -5,7 +5,7 @@ ghost use mathlib.Core.Path.{_≡_};
 ghost use Prim.Native.Nat.{_≤_};
 ghost use lib.ListN.{length};
 ghost use Rattle.files.specs.Say.{Readable};
-ghost use Rattle.store.specs.Entries.{FilesStand};
+ghost use Rattle.homes.specs.Found.{Indexed};
 ghost use Rattle.homes.specs.Homes.{fileOf, HomeThere, ByAid, ImportPlaced, NumberedIs, ClassPlaced, RecordIs};
 
 // The bounds of a file in the store, and the place where the entries before it end; 0 and 0 for the file being judged.
@@ -42,12 +42,12 @@ fn import_place(g: &[u8], k: usize) -> Spot
     files::nth_aid(g, files::imports_at(g), k)
 }
 
-// The home of the package of an AID among the entries that end at a place.
-pub fn by_aid<'a>(s: &'a [u8], before: usize, aid: &'a [u8]) -> HomeFound
-    requires { ⌜ FilesStand (now s) before ⌝ }
-    ensures { λ r. ⌜ ByAid (now (s .entry)) before (now (aid .entry)) r ⌝ }
+// The home of the package of an AID among the entries that end at a place, by an index of these.
+pub fn by_aid(s: &[u8], end: usize, index: &[u16; 12288], aid: &[u8]) -> HomeFound
+    requires { ⌜ Indexed (now s) end (now index) ⌝ }
+    ensures { λ r. ⌜ ByAid (now (s .entry)) end (now (aid .entry)) r ⌝ }
 {
-    match store::find_package(s, before, aid) {
+    match index::package_by(s, end, index, aid) {
         FileSpot::File(at, from, to) => HomeFound::At(Home {
             from: from,
             to: to,
@@ -58,20 +58,24 @@ pub fn by_aid<'a>(s: &'a [u8], before: usize, aid: &'a [u8]) -> HomeFound
 }
 
 // The home of the package that a package number stands for in the file at a home: 0 the same, k the k-th import's.
-pub fn numbered<'a>(f: &'a [u8], s: &'a [u8], h: Home, k: usize) -> HomeFound
+pub fn numbered<'a>(
+    f: &'a [u8],
+    s: &'a [u8],
+    end: usize,
+    index: &[u16; 12288],
+    h: Home,
+    k: usize,
+) -> HomeFound
     requires { ⌜ HomeThere (now f) (now s) h ⌝ }
+    requires { ⌜ Indexed (now s) end (now index) × (h .before ≤ end) ⌝ }
     ensures { λ r. ⌜ NumberedIs (now (f .entry)) (now (s .entry)) h k r ⌝ }
 {
     if k == 0 {
         return HomeFound::At(h);
     }
     let g = file_of(f, s, h);
-    let before = h.before;
     match import_place(g, k - 1) {
-        Spot::At(i) => {
-            let end = files::after_aid(g, i);
-            by_aid(s, before, &g[i + 1..end])
-        }
+        Spot::At(i) => by_aid(s, end, index, files::aid_bytes(g, i)),
         Spot::Nothing => HomeFound::Nothing,
     }
 }

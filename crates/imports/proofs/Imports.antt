@@ -21,6 +21,8 @@ use Rattle.store.specs.Entries.{FilesStand}
 use Rattle.store.specs.Answers.{FileSays, FileAt}
 use Rattle.store.specs.declared.FileSpot.{FileSpot}
 use Rattle.store.specs.declared.FileSpot.the-variants.{File, Missing}
+use Rattle.index.specs.Index.{IndexIs}
+use Rattle.homes.specs.Found.{Indexed}
 use Rattle.homes.specs.Homes.{own, HomeSays, ByAid}
 use Rattle.homes.specs.declared.HomeFound.{HomeFound}
 use Rattle.homes.specs.declared.HomeFound.the-variants.{At, Nothing}
@@ -47,6 +49,9 @@ module _ (f s : Bytes) (end : ℕ) where
 
   pub setting-stands : SettingThere f s end → FilesStand s end
   setting-stands t = (t .0, t .2 .stand, all-read (storeLimits s) (t .2 .size) [] (t .0) (t .2 .sound))
+
+  pub indexed : (index : List ℕ) → SettingThere f s end → IndexIs s end index → Indexed s end index
+  indexed index t i = record { files = setting-stands t; is = i }
 
   -- 12
   module _ (a : Aid) (o : OwnAid f a) (r : FileSpot) (q : FileAt s end a r) where

@@ -7,9 +7,7 @@ use store::FileSpot;
 ghost use mathlib.Core.Path.{_≡_};
 ghost use Prim.Native.Nat.{_+_, _*_, _<_};
 ghost use lib.ListN.{length, set};
-ghost use Rattle.store.specs.Entries.{FilesStand};
 ghost use Rattle.index.specs.Index.{IndexIs};
-ghost use Rattle.homes.specs.Homes.{ByAid};
 ghost use Rattle.homes.specs.Found.{ImportHomes};
 ghost use Rattle.imports.specs.Say.{SettingThere, NewIs, ImportsIs, ImportThere, ImportHomeIs};
 
@@ -22,22 +20,6 @@ pub fn package_new(f: &[u8], s: &[u8], end: usize, index: &[u16; 12288]) -> bool
     match index::package_by(s, end, index, files::own_aid(f)) {
         FileSpot::File(_, _, _) => false,
         FileSpot::Missing => true,
-    }
-}
-
-// The home of the package of an AID.
-fn home_by(s: &[u8], end: usize, index: &[u16; 12288], aid: &[u8]) -> HomeFound
-    requires { ⌜ FilesStand (now s) end ⌝ }
-    requires { ⌜ IndexIs (now s) end (now index) ⌝ }
-    ensures { λ r. ⌜ ByAid (now (s .entry)) end (now (aid .entry)) r ⌝ }
-{
-    match index::package_by(s, end, index, aid) {
-        FileSpot::File(at, from, to) => HomeFound::At(Home {
-            from: from,
-            to: to,
-            before: at,
-        }),
-        FileSpot::Missing => HomeFound::Nothing,
     }
 }
 
@@ -55,7 +37,7 @@ fn import_home(
     ensures { λ r. ⌜ ImportHomeIs (now (f .entry)) (now (s .entry)) end k r ⌝ }
 {
     match files::nth_aid(f, at, k) {
-        Spot::At(c) => home_by(s, end, index, files::aid_bytes(f, c)),
+        Spot::At(c) => homes::by_aid(s, end, index, files::aid_bytes(f, c)),
         Spot::Nothing => HomeFound::Nothing,
     }
 }

@@ -19,6 +19,7 @@ use Rattle.store.specs.Entries.{part, EntryAt, Entries, FilesStand}
 use Rattle.store.proofs.Stand.{entry-next, entries-one}
 use Rattle.index.specs.Index.{DomainStands, IndexIs, PackageStands, CreatedAt}
 use Rattle.homes.specs.Memo.{generation, MemoBelow}
+use Rattle.homes.specs.Found.{Indexed}
 use Rattle.homes.proofs.Homes.{all-read}
 use Rattle.depths.proofs.Keys.{file-classes, generation-next}
 use Rattle.running.specs.Say.{MemoAfter}
@@ -51,6 +52,13 @@ module _ (s : Bytes) (at i j : ℕ) where
       let y = create-yes (length s) (o .0) (part s i j) (sym (c (o .0) (o .1)) ∙ z) in
       record { stands = t; from = b; room = omega (arith, n, aid-five (part s i j) (y .q3)) }
 
+-- the files of the entries read
+pub files-stand : (s : Bytes) (at : ℕ) → OverSome s at → FilesStand s at
+files-stand s at o = (o .0, o .1 .stand, all-read (storeLimits s) (length s) [] (o .0) (o .1 .sound))
+
+pub indexed : (s : Bytes) (at : ℕ) (index : List ℕ) → OverSome s at → IndexIs s at index → Indexed s at index
+indexed s at index o i = record { files = files-stand s at o; is = i }
+
 -- a load, as an entry
 module _ (s : Bytes) (at i m j : ℕ) where
   pub package-yes : (r : LoadAnswer) (x : ℕ) → LoadSays s at (part s i m) (part s m j) r → r ≡ Accepted x → EntrySays s at (loaded (part s i m) (part s m j)) true
@@ -73,9 +81,6 @@ module _ (s : Bytes) (at i m j : ℕ) where
         reads = y .1 .q11;
         new = λ es u v. subst (λ (zs : List Entry). q12-new (installed (storeLimits s) zs) (y .0) ≡ true) (entries-one s 7 (o .0) es at (o .1 .stand) u) (is-true _ (y .1 .q12));
       }
-
-  pub files-stand : OverSome s at → FilesStand s at
-  files-stand o = (o .0, o .1 .stand, all-read (storeLimits s) (length s) [] (o .0) (o .1 .sound))
 
   -- where the entry behind it starts
   pub package-next : EntryAt s at (loaded (part s i m) (part s m j)) j → j ≡ at + 4 + length (part s i m) + length (part s m j)

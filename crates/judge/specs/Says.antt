@@ -3,7 +3,7 @@
 -- Over s end es     == es stand in s up to place end, each accepted over the earlier ones in a buffer of that length
 -- CreateSays, LoadSays == the number of a creation or a load over them, and a load's depth
 -- EntrySays s at e r == whether the entry e would have been accepted over them
--- MemoNext, Indexed == what index and memo hold behind an accepted load and behind a sound store
+-- MemoNext, IndexBehind == what index and memo hold behind an accepted load and behind a sound store
 -- SoundSays s r     == whether s is sound, and its used value
 use Prim.Native.Nat.{ℕ, _+_, _≤_, _<_}
 use mathlib.Core.Path.{_≡_}
@@ -114,6 +114,6 @@ SoundSays s Unsound = sound s ≡ false
 SoundSays s (Used u) = (sound s ≡ true) × ((es : List Entry) → entriesOf s ≡ some es → Holds s es × Over s u es × (used es ≡ u))
 
 -- index and memo behind the entries of a sound store
-abbrev pub Indexed : Bytes → StoreAnswer → List ℕ → List ℕ → Type 0
-Indexed s Unsound index memo = Unit {0}
-Indexed s (Used u) index memo = IndexIs s u index × MemoBelow (generation u) memo
+abbrev pub IndexBehind : Bytes → StoreAnswer → List ℕ → List ℕ → Type 0
+IndexBehind s Unsound index memo = Unit {0}
+IndexBehind s (Used u) index memo = IndexIs s u index × MemoBelow (generation u) memo

@@ -19,9 +19,9 @@ ghost use Rattle.calls.specs.Calls.{CodesSplit};
 ghost use Rattle.store.specs.Entries.{part, EntryAt, StandFrom};
 ghost use Rattle.index.specs.Index.{IndexIs};
 ghost use Rattle.homes.specs.Memo.{generation, MemoBelow};
-ghost use Rattle.homes.specs.Found.{ImportHomes};
+ghost use Rattle.homes.specs.Found.{Indexed, ImportHomes};
 ghost use Rattle.running.specs.Say.{MemoAfter};
-ghost use Rattle.judge.specs.Says.{OverSome, CreatedSays, CreateSays, InsideSome, CallsSay, InsideSays, PackageSome, PackageSays, LoadSays, MemoNext, EntrySays, AllAccepted, SoundSays, Indexed};
+ghost use Rattle.judge.specs.Says.{OverSome, CreatedSays, CreateSays, InsideSome, CallsSay, InsideSays, PackageSome, PackageSays, LoadSays, MemoNext, EntrySays, AllAccepted, SoundSays, IndexBehind};
 
 // A load: the number of the first no, or the depth of the deepest own class.
 pub enum LoadAnswer {
@@ -79,6 +79,7 @@ fn calls_answer<'a>(
     file: &'a [u8],
     table: &[u8; 256],
     homes: &[usize; 48],
+    index: &[u16; 12288],
     memo: &mut [u16; 21880],
     base: usize,
     depth: usize,
@@ -87,6 +88,7 @@ fn calls_answer<'a>(
     requires { ⌜ length (now s) ≤ 65535 ⌝ }
     requires { ⌜ TableIs (now table) × ImportHomes (now file) (now s) end (now homes) ⌝ }
     requires { ⌜ MemoBelow base (now memo) × (base ≤ 65000) ⌝ }
+    requires { ⌜ Indexed (now s) end (now index) ⌝ }
     ensures { λ r. ⌜ CallsSay (now (s .entry)) end (now (domain .entry)) (now (file .entry)) depth r ⌝ }
     ensures { λ _. ⌜ MemoAfter (now (file .entry)) base (now (memo .exit)) ⌝ }
 {
@@ -94,7 +96,7 @@ fn calls_answer<'a>(
     if number != 0 {
         return LoadAnswer::Refused(number as u32);
     }
-    if !running::running_ok(file, s, end, memo, base) {
+    if !running::running_ok(file, s, end, index, memo, base) {
         return LoadAnswer::Refused(20);
     }
     if !store::package_fits(s, end, domain, file) {
@@ -112,6 +114,7 @@ fn inside_answer<'a>(
     table: &[u8; 256],
     marks: &mut [bool],
     homes: &[usize; 48],
+    index: &[u16; 12288],
     memo: &mut [u16; 21880],
     base: usize,
     depth: usize,
@@ -121,6 +124,7 @@ fn inside_answer<'a>(
     requires { ⌜ TableIs (now table) × (storeLimits (now s) .code ≤ length (now marks)) ⌝ }
     requires { ⌜ ImportHomes (now file) (now s) end (now homes) ⌝ }
     requires { ⌜ MemoBelow base (now memo) × (base ≤ 65000) ⌝ }
+    requires { ⌜ Indexed (now s) end (now index) ⌝ }
     ensures { λ r. ⌜ InsideSays (now (s .entry)) end (now (domain .entry)) (now (file .entry)) depth r ⌝ }
     ensures { λ _. ⌜ length (now (marks .exit)) ≡ length (now (marks .entry)) ⌝ }
     ensures { λ _. ⌜ MemoAfter (now (file .entry)) base (now (memo .exit)) ⌝ }
@@ -132,7 +136,7 @@ fn inside_answer<'a>(
     if code != 0 {
         return LoadAnswer::Refused(code as u32);
     }
-    calls_answer(s, end, domain, file, table, homes, memo, base, depth)
+    calls_answer(s, end, domain, file, table, homes, index, memo, base, depth)
 }
 
 // Load, from 12 on, of a file that reads.
@@ -164,7 +168,7 @@ fn package_answer<'a>(
     }
     let most = limits.depth;
     let base = end - end / 8;
-    match depths::parents_ok(file, s, end, most, memo, base) {
+    match depths::parents_ok(file, s, end, index, most, memo, base) {
         Parented::Yes(depth) => inside_answer(
             s,
             end,
@@ -173,6 +177,7 @@ fn package_answer<'a>(
             table,
             marks,
             &homes,
+            index,
             memo,
             base + most + 1,
             depth,
@@ -323,7 +328,7 @@ pub fn soundness(
     requires { ⌜ (now index ≡ replicate 12288 0) × (now memo ≡ replicate 21880 0) ⌝ }
     ensures { λ r. ⌜ SoundSays (now (s .entry)) r ⌝ }
     ensures { λ _. ⌜ length (now (marks .exit)) ≡ length (now (marks .entry)) ⌝ }
-    ensures { λ r. ⌜ Indexed (now (s .entry)) r (now (index .exit)) (now (memo .exit)) ⌝ }
+    ensures { λ r. ⌜ IndexBehind (now (s .entry)) r (now (index .exit)) (now (memo .exit)) ⌝ }
 {
     if !store::size_ok(s) {
         return StoreAnswer::Unsound;

@@ -17,7 +17,7 @@ use Rattle.rules.proofs.Limits.{store-limits}
 use Rattle.store.specs.Entries.{Holds, AllRead, Laid}
 use Rattle.store.proofs.Asked.{size-is}
 use Rattle.homes.proofs.Homes.{all-read}
-use Rattle.judge.specs.Says.{Over, Indexed}
+use Rattle.judge.specs.Says.{Over, IndexBehind}
 use Rattle.judge.specs.declared.StoreAnswer.{StoreAnswer}
 use Rattle.judge.specs.declared.StoreAnswer.the-variants as answers
 use Rattle.loader.specs.Answers.{SoundAt, Asked, OpenedSays, OpenedIndex}
@@ -111,5 +111,5 @@ code-fits s l n e h = let z : l .code ≡ 4096 = ap (λ (x : Limits). x .code) (
 pub indexed : (s : Bytes) (r : Opened) (u : ℕ) (index memo : List ℕ) → r ≡ opened.Used u → OpenedIndex s r index memo → OpenedIndex s (opened.Used u) index memo
 indexed s r u index memo e i = subst (λ (x : Opened). OpenedIndex s x index memo) e i
 
-pub judged-index : (s : Bytes) (r : StoreAnswer) (u : ℕ) (index memo : List ℕ) → r ≡ answers.Used u → Indexed s r index memo → OpenedIndex s (opened.Used u) index memo
-judged-index s r u index memo e i = subst (λ (x : StoreAnswer). Indexed s x index memo) e i
+pub judged-index : (s : Bytes) (r : StoreAnswer) (u : ℕ) (index memo : List ℕ) → r ≡ answers.Used u → IndexBehind s r index memo → OpenedIndex s (opened.Used u) index memo
+judged-index s r u index memo e i = subst (λ (x : StoreAnswer). IndexBehind s x index memo) e i

@@ -13,8 +13,9 @@ use Rattle.rules.proofs.Limits.{limits-range}
 use Rattle.homes.specs.Homes.{ownHome}
 use Rattle.homes.specs.Homes as homes
 use Rattle.homes.specs.declared.Home.{Home}
+use Rattle.homes.proofs.Homes.{home-below}
 use Rattle.running.specs.Chain.{RecordAt, mostLinks, chainLength, linkHome, linkPlace, withLink, LinkIs, ChainFrom, last, more, ChainKept, ChainRoom, ChainIs}
-use Rattle.running.specs.Say.{ClassThere, Kind0ParentIs, OwnThere}
+use Rattle.running.specs.Say.{Judged, ClassIn, Kind0ParentIs, OwnThere}
 use Rattle.running.specs.declared.ClassFound.the-variants as classes
 use Rattle.running.specs.declared.ClassSpot.{ClassSpot}
 use Rattle.running.proofs.Methods.{own-depth}
@@ -71,28 +72,31 @@ module _ (old : List ℕ) (i : ℕ) (h : Home) (c : ℕ) (z : length old ≡ cha
 
 module _ (f s : Bytes) where
   -- the class above a class, which is its kind-0 parent
-  unfoldable pub above-there : (h : Home) (n : ℕ) (d : ClassSpot) → Kind0ParentIs f s h n (classes.At d) → ClassThere f s h n → ClassThere f s (d .home) (d .number)
-  above-there h n d q t =
-      let c = t .1 in
-      let u = q (t .0) (c .entries) (c .self) (c .asked) (c .pack) (c .home) (c .class) (c .is) in
-      (t .0, record { entries = c .entries; self = c .self; asked = c .asked; pack = u .0; home = u .1; class = u .3; is = u .4 })
+  unfoldable pub above-in : (end : ℕ) (h : Home) (n : ℕ) (d : ClassSpot) → Kind0ParentIs f s h n (classes.At d) → ClassIn (Judged f s end) f s end h n → ClassIn (Judged f s end) f s end (d .home) (d .number)
+  above-in end h n d q c =
+      let u = q end (c .entries) (c .self) (c .asked) (c .pack) (c .home) (c .class) (c .is) in
+      record { entries = c .entries; self = c .self; asked = c .asked; pack = u .0; home = u .1; class = u .3; is = u .4 }
 
   -- there is room in the chain
-  module _ (i : ℕ) (h : Home) (n : ℕ) (room : ChainRoom f s i h n) where
+  module _ (end i : ℕ) (h : Home) (n : ℕ) (room : ChainRoom f s end i h n) where
+    -- the class's home stands where the entries end, or before
+    pub room-below : h .before ≤ end
+    room-below = let c = room .class in home-below f s end (c .entries) (c .self) (c .asked .parents .imported .setting) h (c .pack) (c .home)
+
     pub room-inside : i < mostLinks
     room-inside = omega (arith, room .room, room .within)
 
-    pub room-above : (d : ClassSpot) → Kind0ParentIs f s h n (classes.At d) → ChainRoom f s (i + 1) (d .home) (d .number)
-    unfolding above-there
+    pub room-above : (d : ClassSpot) → Kind0ParentIs f s h n (classes.At d) → ChainRoom f s end (i + 1) (d .home) (d .number)
+    unfolding above-in
     room-above d q = go (room .depth) (room .room) (room .within)
       where
-        go : (k : ℕ) → i + k ≤ mostLinks → depthUpTo (installed (storeLimits s) (room .class .1 .entries)) (suc k) (record { home = room .class .1 .pack; number = n }) ≤ k → ChainRoom f s (i + 1) (d .home) (d .number)
+        go : (k : ℕ) → i + k ≤ mostLinks → depthUpTo (installed (storeLimits s) (room .class .entries)) (suc k) (record { home = room .class .pack; number = n }) ≤ k → ChainRoom f s end (i + 1) (d .home) (d .number)
         go zero a w = absurd (omega (arith, w))
         go (suc k) a w =
-            let c = room .class .1 in
-            let u = q (room .class .0) (c .entries) (c .self) (c .asked) (c .pack) (c .home) (c .class) (c .is) in
+            let c = room .class in
+            let u = q end (c .entries) (c .self) (c .asked) (c .pack) (c .home) (c .class) (c .is) in
             record {
-              class = above-there h n d q (room .class);
+              class = above-in end h n d q c;
               depth = k;
               room = omega arith;
               within = parent-depth (installed (storeLimits s) (c .entries)) k (record { home = c .pack; number = n }) (record { home = u .0; number = d .number }) w
@@ -110,22 +114,22 @@ module _ (f s : Bytes) where
   }
 
   -- the chain from a class that was written
-  module _ (i : ℕ) (h : Home) (n : ℕ) (room : ChainRoom f s i h n) (c : ℕ) (p : RecordAt f s h n c) (old mid : List ℕ) (z : length old ≡ chainLength) (e : mid ≡ withLink old i h c) where
+  module _ (end i : ℕ) (h : Home) (n : ℕ) (room : ChainRoom f s end i h n) (c : ℕ) (p : RecordAt f s h n c) (old mid : List ℕ) (z : length old ≡ chainLength) (e : mid ≡ withLink old i h c) where
     mid-kept : ChainKept i old mid
-    mid-kept = subst (ChainKept i old) (sym e) (set-kept old i h c z (room-inside i h n room))
+    mid-kept = subst (ChainKept i old) (sym e) (set-kept old i h c z (room-inside end i h n room))
 
     pub mid-size : length mid ≡ chainLength
     mid-size = mid-kept .size
 
     mid-link : LinkIs f s mid h n i
     mid-link = record {
-      home = ap (λ (v : List ℕ). linkHome v i) e ∙ set-home old i h c z (room-inside i h n room);
-      place = subst (RecordAt f s h n) (sym (ap (λ (v : List ℕ). linkPlace v i) e ∙ set-place old i h c z (room-inside i h n room))) p;
+      home = ap (λ (v : List ℕ). linkHome v i) e ∙ set-home old i h c z (room-inside end i h n room);
+      place = subst (RecordAt f s h n) (sym (ap (λ (v : List ℕ). linkPlace v i) e ∙ set-place old i h c z (room-inside end i h n room))) p;
     }
 
     -- it is the last
     pub chain-last : Kind0ParentIs f s h n classes.Nothing → (ChainFrom f s mid h n i (i + 1) × (i + 1 ≤ mostLinks)) × ChainKept i old mid
-    chain-last q = ((last mid-link q refl, omega (arith, room-inside i h n room)), mid-kept)
+    chain-last q = ((last mid-link q refl, omega (arith, room-inside end i h n room)), mid-kept)
 
     -- or others follow
     pub chain-more : (d : ClassSpot) → Kind0ParentIs f s h n (classes.At d) → (new : List ℕ) (links : ℕ) → ChainFrom f s new (d .home) (d .number) (i + 1) links × (links ≤ mostLinks) → ChainKept (i + 1) mid new →
@@ -136,9 +140,9 @@ module _ (f s : Bytes) where
     )
 
   -- own class b has room from 0 on
-  pub own-room : (end b : ℕ) → OwnThere f s end b → ChainRoom f s 0 (ownHome end) b
+  pub own-room : (end b : ℕ) → OwnThere f s end b → ChainRoom f s end 0 (ownHome end) b
   own-room end b t = record {
-    class = (end, record { entries = t .0; self = t .1; asked = t .2; pack = t .1; home = homes.own; class = t .3; is = t .4 });
+    class = record { entries = t .0; self = t .1; asked = t .2; pack = t .1; home = homes.own; class = t .3; is = t .4 };
     depth = storeLimits s .depth;
     room = omega (arith, (limits-range s) .0);
     within = own-depth f s end b (t .0) (t .1) (t .2) (t .3) (t .4);

@@ -15,7 +15,7 @@ use Rattle.running.specs.Say.{ClassThere, FirstIs, RunningThere, RunsIs,
 use Rattle.running.specs.declared.RunsFound.{RunsFound}
 use Rattle.running.specs.declared.RunsFound.the-variants.{At, Nothing}
 use Rattle.running.proofs.Methods.{there-bounds, class-there, instance-is, first-here, first-above, first-nowhere, own-there, runs-none, first-method, runs-this, runs-not}
-use Rattle.running.proofs.Chain.{above-there}
+use Rattle.running.proofs.Chain.{above-in}
 
 -- what is left of the search for a name: the classes of the chain from number i on, or nothing
 pub data SearchLeft (f s : Bytes) (end b : ℕ) (chain : List ℕ) (links name : ℕ) : ℕ → Type 0 where
@@ -84,5 +84,5 @@ module _ (f s : Bytes) (end b : ℕ) (chain : List ℕ) (links name : ℕ) where
         search-next (classes-from h n t (last l q e′) up) p =
             over {i = i + 1} (omega arith) (runs-none f s end b name (up Nothing (first-nowhere f s h n name (instance-is f s h n g c name spots.Nothing (file-is h n l) (place-is h n l) p) q)))
         search-next (classes-from h n t (more d l q r) up) p =
-            classes-from (d .home) (d .number) (above-there f s h n d q t) r
+            classes-from (d .home) (d .number) (t .0, above-in f s (t .0) h n d q (t .1)) r
             (λ v w. up v (first-above f s h n name (instance-is f s h n g c name spots.Nothing (file-is h n l) (place-is h n l) p) d v q w))

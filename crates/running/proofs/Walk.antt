@@ -22,7 +22,7 @@ use Rattle.rules.proofs.Lists.{at-mem, at-below, same-or-not}
 use Rattle.homes.specs.Homes.{HomeIs}
 use Rattle.homes.specs.Memo.{memoLength, key}
 use Rattle.homes.specs.declared.Home.{Home}
-use Rattle.homes.proofs.Homes.{home-reads}
+use Rattle.homes.proofs.Homes.{home-reads, home-below}
 use Rattle.running.specs.Say.{Judged, Running, CountIs, ParentThere, rank, NamedAt, ParentIs, WalkThere, MethodsPass, Passes, ClassPasses, ParentsPass, ParentsThere, Marks, SeenIs}
 use Rattle.running.specs.declared.ClassSpot.{ClassSpot}
 use Rattle.depths.proofs.Keys.{key-small, key-one}
@@ -95,6 +95,10 @@ module _ (f s : Bytes) (end b : ℕ) (h : Home) (n : ℕ) where
   -- the place in the memo
   pub key-inside : length s ≤ 65535 → WalkThere f s end b h n → key h n < memoLength
   key-inside z t = key-small f s end (t .entries) (t .self) (t .asked .judged .parents .imported .setting) z h (t .pack) (t .home) n (t .class) (t .is)
+
+  -- the class's home stands where the entries end, or before
+  pub walk-below : WalkThere f s end b h n → h .before ≤ end
+  walk-below t = home-below f s end (t .entries) (t .self) (t .asked .judged .parents .imported .setting) h (t .pack) (t .home)
 
   -- a class more is marked
   module _ (mark : ℕ) (memo : List ℕ) (m : Marks f s end b mark memo) where

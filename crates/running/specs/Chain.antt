@@ -4,7 +4,7 @@
 -- withLink chain i h c  == the chain with these written
 -- ChainFrom             == the classes from number i on are class n of the package at home h and those along its kind-0 parents
 -- ChainKept i old new   == the classes before number i stand as they stood
--- ChainRoom f s i h n   == class n is there, and from number i on there is room for it and all above it
+-- ChainRoom f s end i h n == class n is there, and from number i on there is room for it and all above it
 -- ChainIs f s end b chain links == the chain of own class b, which has so many classes
 use Prim.Native.Nat.{ℕ, suc, _+_, _*_, _<_, _≤_}
 use mathlib.Core.Path.{_≡_}
@@ -16,7 +16,7 @@ use Rattle.rules.specs.Classes.{installed, depthUpTo}
 use Rattle.files.specs.declared.Spot.the-variants as spots
 use Rattle.homes.specs.Homes.{ownHome, ClassPlaced}
 use Rattle.homes.specs.declared.Home.{Home}
-use Rattle.running.specs.Say.{ClassThere, Kind0ParentIs}
+use Rattle.running.specs.Say.{Judged, ClassIn, Kind0ParentIs}
 use Rattle.running.specs.declared.ClassSpot.{ClassSpot}
 use Rattle.running.specs.declared.ClassFound.the-variants as classes
 
@@ -59,11 +59,11 @@ pub record ChainKept (i : ℕ) (old new : List ℕ) : Type 0 where
   pub kept : (j : ℕ) → j < 4 * i → getD new j 0 ≡ getD old j 0
 
 -- class n is there, and a chain has room for it and those above it from number i on
-pub record ChainRoom (f s : Bytes) (i : ℕ) (h : Home) (n : ℕ) : Type 0 where
-  pub class : ClassThere f s h n
+pub record ChainRoom (f s : Bytes) (end i : ℕ) (h : Home) (n : ℕ) : Type 0 where
+  pub class : ClassIn (Judged f s end) f s end h n
   pub depth : ℕ
   pub room : i + depth ≤ mostLinks
-  pub within : depthUpTo (installed (storeLimits s) (class .1 .entries)) (suc depth) (record { home = class .1 .pack; number = n }) ≤ depth
+  pub within : depthUpTo (installed (storeLimits s) (class .entries)) (suc depth) (record { home = class .pack; number = n }) ≤ depth
 
 -- the chain of own class b
 pub record ChainIs (f s : Bytes) (end b : ℕ) (chain : List ℕ) (links : ℕ) : Type 0 where

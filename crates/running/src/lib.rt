@@ -9,6 +9,7 @@ ghost use Prim.Native.Nat.{_+_, _<_, _≤_};
 ghost use lib.ListN.{length, set};
 ghost use Rattle.files.specs.Say.{InstancePlaced};
 ghost use Rattle.homes.specs.Homes.{ownHome};
+ghost use Rattle.homes.specs.Found.{Indexed};
 ghost use Rattle.homes.specs.Memo.{memoLength, MemoBelow};
 ghost use Rattle.running.specs.Chain.{RecordAt, mostLinks, chainLength, linkHome, linkPlace, withLink, ChainFrom, ChainKept, ChainRoom, ChainIs};
 ghost use Rattle.running.specs.Say.{ClassThere, CountIs, ParentThere, ParentIs, Kind0Is, Kind0ParentIs, MethodsIn, MethodHere, IfImplemented, RunningThere, RunsIs, BothThere, AllowsAllOf, MethodThere, MethodPasses, WalkThere, MethodsPass, ClassPasses, ParentsPass, ParentsThere, Marks, OwnThere, OwnPasses, JudgedThere, RunningIs, MemoAfter, SeenIs, RecordThere};
@@ -51,14 +52,23 @@ fn parent_count<'a>(f: &'a [u8], s: &'a [u8], h: Home, n: usize) -> usize
     wide(c[1])
 }
 
-// Its parent with number i.
-fn parent_at<'a>(f: &'a [u8], s: &'a [u8], h: Home, n: usize, i: usize) -> ClassSpot
+// Its parent with number i, whose package the index of the entries that end at a place finds.
+fn parent_at<'a>(
+    f: &'a [u8],
+    s: &'a [u8],
+    end: usize,
+    index: &[u16; 12288],
+    h: Home,
+    n: usize,
+    i: usize,
+) -> ClassSpot
     requires { ⌜ ParentThere (now f) (now s) h n i ⌝ }
+    requires { ⌜ Indexed (now s) end (now index) × (h .before ≤ end) ⌝ }
     ensures { λ r. ⌜ ParentIs (now (f .entry)) (now (s .entry)) h n i r ⌝ }
 {
     let c = homes::class_record(f, s, h, n);
     let number = wide(c[3 + 2 * i]);
-    match homes::numbered(f, s, h, wide(c[2 + 2 * i])) {
+    match homes::numbered(f, s, end, index, h, wide(c[2 + 2 * i])) {
         HomeFound::At(g) => ClassSpot {
             home: g,
             number: number,
@@ -80,14 +90,22 @@ fn is_kind0<'a>(f: &'a [u8], s: &'a [u8], h: Home, n: usize) -> bool
 }
 
 // Its first parent of kind 0.
-fn kind0_parent<'a>(f: &'a [u8], s: &'a [u8], h: Home, n: usize) -> ClassFound
+fn kind0_parent<'a>(
+    f: &'a [u8],
+    s: &'a [u8],
+    end: usize,
+    index: &[u16; 12288],
+    h: Home,
+    n: usize,
+) -> ClassFound
     requires { ⌜ ClassThere (now f) (now s) h n ⌝ }
+    requires { ⌜ Indexed (now s) end (now index) × (h .before ≤ end) ⌝ }
     ensures { λ r. ⌜ Kind0ParentIs (now (f .entry)) (now (s .entry)) h n r ⌝ }
 {
     let count = parent_count(f, s, h, n);
     let mut i = 0;
     while i < count {
-        let p = parent_at(f, s, h, n, i);
+        let p = parent_at(f, s, end, index, h, n, i);
         let g = p.home;
         let m = p.number;
         if is_kind0(f, s, g, m) {
@@ -163,23 +181,26 @@ fn link_place(chain: &[usize; 64], i: usize) -> usize
 fn find_chain<'a>(
     f: &'a [u8],
     s: &'a [u8],
+    end: usize,
+    index: &[u16; 12288],
     chain: &mut [usize; 64],
     i: usize,
     h: Home,
     n: usize,
 ) -> usize
-    requires { ⌜ ChainRoom (now f) (now s) i h n ⌝ }
+    requires { ⌜ ChainRoom (now f) (now s) end i h n ⌝ }
     requires { ⌜ length (now chain) ≡ chainLength ⌝ }
+    requires { ⌜ Indexed (now s) end (now index) ⌝ }
     ensures { λ r. ⌜ ChainFrom (now (f .entry)) (now (s .entry)) (now (chain .exit)) h n i r × (r ≤ mostLinks) ⌝ }
     ensures { λ r. ⌜ ChainKept i (now (chain .entry)) (now (chain .exit)) ⌝ }
 {
     let c = record_at(f, s, h, n);
     set_link(chain, i, h, c);
-    match kind0_parent(f, s, h, n) {
+    match kind0_parent(f, s, end, index, h, n) {
         ClassFound::At(d) => {
             let g = d.home;
             let m = d.number;
-            find_chain(f, s, chain, i + 1, g, m)
+            find_chain(f, s, end, index, chain, i + 1, g, m)
         }
         ClassFound::Nothing => i + 1,
     }
@@ -321,6 +342,7 @@ fn class_passes<'a>(
     s: &'a [u8],
     memo: &mut [u16; 21880],
     end: usize,
+    index: &[u16; 12288],
     b: usize,
     mark: usize,
     chain: &[usize; 64],
@@ -332,6 +354,7 @@ fn class_passes<'a>(
     requires { ⌜ Marks (now f) (now s) end b mark (now memo) ⌝ }
     requires { ⌜ length (now s) ≤ 65535 ⌝ }
     requires { ⌜ ChainIs (now f) (now s) end b (now chain) links ⌝ }
+    requires { ⌜ Indexed (now s) end (now index) ⌝ }
     ensures { λ r. ⌜ ClassPasses (now (f .entry)) (now (s .entry)) end b h n r ⌝ }
     ensures { λ r. ⌜ Marks (now (f .entry)) (now (s .entry)) end b mark (now (memo .exit)) ⌝ }
 {
@@ -343,7 +366,7 @@ fn class_passes<'a>(
         return false;
     }
     let count = parent_count(f, s, h, n);
-    if !parents_pass(f, s, memo, end, b, mark, chain, links, h, n, count) {
+    if !parents_pass(f, s, memo, end, index, b, mark, chain, links, h, n, count) {
         return false;
     }
     set_mark(memo, at, mark);
@@ -356,6 +379,7 @@ fn parents_pass<'a>(
     s: &'a [u8],
     memo: &mut [u16; 21880],
     end: usize,
+    index: &[u16; 12288],
     b: usize,
     mark: usize,
     chain: &[usize; 64],
@@ -368,19 +392,21 @@ fn parents_pass<'a>(
     requires { ⌜ Marks (now f) (now s) end b mark (now memo) ⌝ }
     requires { ⌜ (length (now s) ≤ 65535) × (left ≤ 8) ⌝ }
     requires { ⌜ ChainIs (now f) (now s) end b (now chain) links ⌝ }
+    requires { ⌜ Indexed (now s) end (now index) ⌝ }
     ensures { λ r. ⌜ ParentsPass (now (f .entry)) (now (s .entry)) end b h n left r ⌝ }
     ensures { λ r. ⌜ Marks (now (f .entry)) (now (s .entry)) end b mark (now (memo .exit)) ⌝ }
 {
     if left == 0 {
         return true;
     }
-    let p = parent_at(f, s, h, n, left - 1);
+    let i = left - 1;
+    let p = parent_at(f, s, end, index, h, n, i);
     let g = p.home;
     let m = p.number;
-    if !class_passes(f, s, memo, end, b, mark, chain, links, g, m) {
+    if !class_passes(f, s, memo, end, index, b, mark, chain, links, g, m) {
         return false;
     }
-    parents_pass(f, s, memo, end, b, mark, chain, links, h, n, left - 1)
+    parents_pass(f, s, memo, end, index, b, mark, chain, links, h, n, i)
 }
 
 // Question 20 of own class b, whose mark is one more than base and b together. For an interface nothing runs.
@@ -389,12 +415,14 @@ fn own_class_passes<'a>(
     s: &'a [u8],
     memo: &mut [u16; 21880],
     end: usize,
+    index: &[u16; 12288],
     base: usize,
     b: usize,
 ) -> bool
     requires { ⌜ OwnThere (now f) (now s) end b ⌝ }
     requires { ⌜ MemoBelow (base + b) (now memo) ⌝ }
     requires { ⌜ (length (now s) ≤ 65535) × (base ≤ 65000) ⌝ }
+    requires { ⌜ Indexed (now s) end (now index) ⌝ }
     ensures { λ r. ⌜ OwnPasses (now (f .entry)) (now (s .entry)) end b r ⌝ }
     ensures { λ r. ⌜ MemoBelow (base + b + 1) (now (memo .exit)) ⌝ }
 {
@@ -404,28 +432,30 @@ fn own_class_passes<'a>(
     }
     let mark = base + b + 1;
     let mut chain = [0usize; 64];
-    let links = find_chain(f, s, &mut chain, 0, h, b);
-    class_passes(f, s, memo, end, b, mark, &chain, links, h, b)
+    let links = find_chain(f, s, end, index, &mut chain, 0, h, b);
+    class_passes(f, s, memo, end, index, b, mark, &chain, links, h, b)
 }
 
-// Question 20 of a file, over the entries of the store that end at a place. No number in the memo passes base before.
+// Question 20 of a file, over the entries of the store that end at a place, and their index. No number in the memo passes base before.
 pub fn running_ok<'a>(
     f: &'a [u8],
     s: &'a [u8],
     end: usize,
+    index: &[u16; 12288],
     memo: &mut [u16; 21880],
     base: usize,
 ) -> bool
     requires { ⌜ JudgedThere (now f) (now s) end ⌝ }
     requires { ⌜ length (now s) ≤ 65535 ⌝ }
     requires { ⌜ MemoBelow base (now memo) × (base ≤ 65000) ⌝ }
+    requires { ⌜ Indexed (now s) end (now index) ⌝ }
     ensures { λ r. ⌜ RunningIs (now (f .entry)) (now (s .entry)) end r ⌝ }
     ensures { λ r. ⌜ MemoAfter (now (f .entry)) base (now (memo .exit)) ⌝ }
 {
     let count = wide(f[files::classes_at(f)]);
     let mut b = 0;
     while b < count {
-        if !own_class_passes(f, s, memo, end, base, b) {
+        if !own_class_passes(f, s, memo, end, index, base, b) {
             return false;
         }
         b += 1;

@@ -27,30 +27,30 @@ use Rattle.depths.proofs.told.Reads as told-reads
 use Rattle.depths.proofs.+class_depth+parents_depth.{statement}
 use Rattle.depths.proofs.+class_depth+parents_depth.Tie.{close}
 
-abbrev μ-class-depth : Measures 2 class-depth-kinds.ps ℕ
-μ-class-depth κs a = 512 * rank (a .1 .1 .1 .0) (a .1 .1 .1 .1 .0) + 511
+abbrev μ-class-depth : Measures 3 class-depth-kinds.ps ℕ
+μ-class-depth κs a = 512 * rank (a .1 .1 .1 .1 .0) (a .1 .1 .1 .1 .1 .0) + 511
 
-abbrev μ-parents-depth : Measures 2 parents-depth-kinds.ps ℕ
-μ-parents-depth κs a = 512 * rank (a .1 .1 .1 .0) (a .1 .1 .1 .1 .0) + (300 - a .1 .1 .1 .1 .1 .0)
+abbrev μ-parents-depth : Measures 3 parents-depth-kinds.ps ℕ
+μ-parents-depth κs a = 512 * rank (a .1 .1 .1 .1 .0) (a .1 .1 .1 .1 .1 .0) + (300 - a .1 .1 .1 .1 .1 .1 .0)
 
-abbrev class-depth-at : ℕ → In 2 class-depth-kinds.ps
+abbrev class-depth-at : ℕ → In 3 class-depth-kinds.ps
 class-depth-at t =
-    and 2 class-depth-kinds.ps (is 2 class-depth-kinds.ps μ-class-depth t) class-depth.Pre
+    and 3 class-depth-kinds.ps (is 3 class-depth-kinds.ps μ-class-depth t) class-depth.Pre
 
-abbrev class-depth-below : ℕ → In 2 class-depth-kinds.ps
+abbrev class-depth-below : ℕ → In 3 class-depth-kinds.ps
 class-depth-below t =
-    and 2 class-depth-kinds.ps (falls 2 class-depth-kinds.ps _<_ μ-class-depth t) class-depth.Pre
+    and 3 class-depth-kinds.ps (falls 3 class-depth-kinds.ps _<_ μ-class-depth t) class-depth.Pre
 
-abbrev parents-depth-at : ℕ → In 2 parents-depth-kinds.ps
+abbrev parents-depth-at : ℕ → In 3 parents-depth-kinds.ps
 parents-depth-at t =
-    and 2 parents-depth-kinds.ps (is 2 parents-depth-kinds.ps μ-parents-depth t) parents-depth.Pre
+    and 3 parents-depth-kinds.ps (is 3 parents-depth-kinds.ps μ-parents-depth t) parents-depth.Pre
 
-abbrev parents-depth-below : ℕ → In 2 parents-depth-kinds.ps
+abbrev parents-depth-below : ℕ → In 3 parents-depth-kinds.ps
 parents-depth-below t =
     and
-    2
+    3
     parents-depth-kinds.ps
-    (falls 2 parents-depth-kinds.ps _<_ μ-parents-depth t)
+    (falls 3 parents-depth-kinds.ps _<_ μ-parents-depth t)
     parents-depth.Pre
 
 class-depth-told-requires : (t : ℕ) → class-depth-lts.Need-told-requires (
@@ -63,7 +63,7 @@ class-depth-told-requires : (t : ℕ) → class-depth-lts.Need-told-requires (
   tell-reads.Asked,
   tell-reads.Learnt,
 ) (class-depth-at t) class-depth.Post
-class-depth-told-requires t c κs = (c .before .before .before .pre .1 .1 .1 .size, (memos.key-fits (now (c .before .before .before .args .f)) (now (c .before .before .before .args .s)) (c .before .before .before .args .end) (c .before .before .before .args .h) (c .before .before .before .args .n) (c .before .before .before .pre .1 .1 .0 .0) (c .before .before .before .pre .1 .0)))
+class-depth-told-requires t c κs = (c .before .before .before .pre .1 .1 .1 .0 .size, (memos.key-fits (now (c .before .before .before .args .f)) (now (c .before .before .before .args .s)) (c .before .before .before .args .end) (c .before .before .before .args .h) (c .before .before .before .args .n) (c .before .before .before .pre .1 .1 .0 .0) (c .before .before .before .pre .1 .0)))
 
 class-depth-returns : (t : ℕ) → class-depth-lts.Need-returns (
   told-reads.Asked,
@@ -75,7 +75,7 @@ class-depth-returns : (t : ℕ) → class-depth-lts.Need-returns (
   tell-reads.Asked,
   tell-reads.Learnt,
 ) (class-depth-at t) class-depth.Post
-class-depth-returns t c = (memos.memo-told (now (c .before .before .before .before .before .args .f)) (now (c .before .before .before .before .before .args .s)) (c .before .before .before .before .before .args .end) (c .before .before .before .before .before .args .h) (c .before .before .before .before .before .args .n) (c .before .before .before .before .before .args .base) (c .before .before .before .before .before .args .most) (now (c .before .before .before .before .before .args .memo)) (c .before .before .before .before .before .pre .1 .1 .1) (c .before .told .result) (c .before .told .ensures) (c .if1 .taken), c .before .before .before .before .before .pre .1 .1 .1)
+class-depth-returns t c = (memos.memo-told (now (c .before .before .before .before .before .args .f)) (now (c .before .before .before .before .before .args .s)) (c .before .before .before .before .before .args .end) (c .before .before .before .before .before .args .h) (c .before .before .before .before .before .args .n) (c .before .before .before .before .before .args .base) (c .before .before .before .before .before .args .most) (now (c .before .before .before .before .before .args .memo)) (c .before .before .before .before .before .pre .1 .1 .1 .0) (c .before .told .result) (c .before .told .ensures) (c .if1 .taken), c .before .before .before .before .before .pre .1 .1 .1 .0)
 
 class-depth-parents-depth-requires : (t : ℕ) → class-depth-lts.Need-parents-depth-requires (
   told-reads.Asked,
@@ -123,7 +123,7 @@ class-depth-returns-2 : (t : ℕ) → class-depth-lts.Need-returns-2 (
   tell-reads.Asked,
   tell-reads.Learnt,
 ) (class-depth-at t) class-depth.Post
-class-depth-returns-2 t c = ((walk.depth-is (now (c .before .before .before .before .before .before .before .before .before .before .args .f)) (now (c .before .before .before .before .before .before .before .before .before .before .args .s)) (c .before .before .before .before .before .before .before .before .before .before .args .end) (c .before .before .before .before .before .before .before .before .before .before .args .h) (c .before .before .before .before .before .before .before .before .before .before .args .n) (c .before .before .before .before .before .before .before .before .before .before .args .most) (c .before .before .before .parents-depth .result) (c .before .before .one-more .result) (c .before .before .before .before .before .before .before .before .before .before .pre .1 .1 .0 .1) (c .before .before .before .parents-depth .ensures .0) (c .before .before .one-more .ensures .0)), subst (says.MemoIs (now (c .before .before .before .before .before .before .before .before .before .before .args .f)) (now (c .before .before .before .before .before .before .before .before .before .before .args .s)) (c .before .before .before .before .before .before .before .before .before .before .args .end) (c .before .before .before .before .before .before .before .before .before .before .args .base) (c .before .before .before .before .before .before .before .before .before .before .args .most)) (sym (c .tell .ensures)) (memos.memo-set (now (c .before .before .before .before .before .before .before .before .before .before .args .f)) (now (c .before .before .before .before .before .before .before .before .before .before .args .s)) (c .before .before .before .before .before .before .before .before .before .before .args .end) (c .before .before .before .before .before .before .before .before .before .before .args .h) (c .before .before .before .before .before .before .before .before .before .before .args .n) (c .before .before .before .before .before .before .before .before .before .before .args .base) (c .before .before .before .before .before .before .before .before .before .before .args .most) (c .before .before .before .parents-depth .last .1 .1 .1 .1 .1 .1 .1 .0) (c .before .before .before .parents-depth .ensures .1) (c .before .before .one-more .result) (memos.key-fits (now (c .before .before .before .before .before .before .before .before .before .before .args .f)) (now (c .before .before .before .before .before .before .before .before .before .before .args .s)) (c .before .before .before .before .before .before .before .before .before .before .args .end) (c .before .before .before .before .before .before .before .before .before .before .args .h) (c .before .before .before .before .before .before .before .before .before .before .args .n) (c .before .before .before .before .before .before .before .before .before .before .pre .1 .1 .0 .0) (c .before .before .before .before .before .before .before .before .before .before .pre .1 .0)) (c .before .before .before .before .before .before .before .before .before .before .pre .1 .0) (walk.depth-is (now (c .before .before .before .before .before .before .before .before .before .before .args .f)) (now (c .before .before .before .before .before .before .before .before .before .before .args .s)) (c .before .before .before .before .before .before .before .before .before .before .args .end) (c .before .before .before .before .before .before .before .before .before .before .args .h) (c .before .before .before .before .before .before .before .before .before .before .args .n) (c .before .before .before .before .before .before .before .before .before .before .args .most) (c .before .before .before .parents-depth .result) (c .before .before .one-more .result) (c .before .before .before .before .before .before .before .before .before .before .pre .1 .1 .0 .1) (c .before .before .before .parents-depth .ensures .0) (c .before .before .one-more .ensures .0)) (c .before .before .one-more .ensures .1)))
+class-depth-returns-2 t c = ((walk.depth-is (now (c .before .before .before .before .before .before .before .before .before .before .args .f)) (now (c .before .before .before .before .before .before .before .before .before .before .args .s)) (c .before .before .before .before .before .before .before .before .before .before .args .end) (c .before .before .before .before .before .before .before .before .before .before .args .h) (c .before .before .before .before .before .before .before .before .before .before .args .n) (c .before .before .before .before .before .before .before .before .before .before .args .most) (c .before .before .before .parents-depth .result) (c .before .before .one-more .result) (c .before .before .before .before .before .before .before .before .before .before .pre .1 .1 .0 .1) (c .before .before .before .parents-depth .ensures .0) (c .before .before .one-more .ensures .0)), subst (says.MemoIs (now (c .before .before .before .before .before .before .before .before .before .before .args .f)) (now (c .before .before .before .before .before .before .before .before .before .before .args .s)) (c .before .before .before .before .before .before .before .before .before .before .args .end) (c .before .before .before .before .before .before .before .before .before .before .args .base) (c .before .before .before .before .before .before .before .before .before .before .args .most)) (sym (c .tell .ensures)) (memos.memo-set (now (c .before .before .before .before .before .before .before .before .before .before .args .f)) (now (c .before .before .before .before .before .before .before .before .before .before .args .s)) (c .before .before .before .before .before .before .before .before .before .before .args .end) (c .before .before .before .before .before .before .before .before .before .before .args .h) (c .before .before .before .before .before .before .before .before .before .before .args .n) (c .before .before .before .before .before .before .before .before .before .before .args .base) (c .before .before .before .before .before .before .before .before .before .before .args .most) (c .before .before .before .parents-depth .last .1 .1 .1 .1 .1 .1 .1 .1 .0) (c .before .before .before .parents-depth .ensures .1) (c .before .before .one-more .result) (memos.key-fits (now (c .before .before .before .before .before .before .before .before .before .before .args .f)) (now (c .before .before .before .before .before .before .before .before .before .before .args .s)) (c .before .before .before .before .before .before .before .before .before .before .args .end) (c .before .before .before .before .before .before .before .before .before .before .args .h) (c .before .before .before .before .before .before .before .before .before .before .args .n) (c .before .before .before .before .before .before .before .before .before .before .pre .1 .1 .0 .0) (c .before .before .before .before .before .before .before .before .before .before .pre .1 .0)) (c .before .before .before .before .before .before .before .before .before .before .pre .1 .0) (walk.depth-is (now (c .before .before .before .before .before .before .before .before .before .before .args .f)) (now (c .before .before .before .before .before .before .before .before .before .before .args .s)) (c .before .before .before .before .before .before .before .before .before .before .args .end) (c .before .before .before .before .before .before .before .before .before .before .args .h) (c .before .before .before .before .before .before .before .before .before .before .args .n) (c .before .before .before .before .before .before .before .before .before .before .args .most) (c .before .before .before .parents-depth .result) (c .before .before .one-more .result) (c .before .before .before .before .before .before .before .before .before .before .pre .1 .1 .0 .1) (c .before .before .before .parents-depth .ensures .0) (c .before .before .one-more .ensures .0)) (c .before .before .one-more .ensures .1)))
 
 parents-depth-nth-parent-requires : (t : ℕ) → parents-depth-lts.Need-nth-parent-requires (
   nth-parent-reads.Asked,
@@ -135,7 +135,7 @@ parents-depth-nth-parent-requires : (t : ℕ) → parents-depth-lts.Need-nth-par
   larger-reads.Asked,
   larger-reads.Learnt,
 ) (parents-depth-at t) parents-depth.Post
-parents-depth-nth-parent-requires t c κs = (c .before .before .pre .1 .0)
+parents-depth-nth-parent-requires t c κs = (c .before .before .pre .1 .0, c .before .before .pre .1 .1 .1 .1)
 
 parents-depth-enum-known-g : (t : ℕ) → parents-depth-lts.Need-enum-known-g (
   nth-parent-reads.Asked,
@@ -183,7 +183,7 @@ parents-depth-parents-depth-requires : (t : ℕ) → parents-depth-lts.Need-pare
   larger-reads.Asked,
   larger-reads.Learnt,
 ) (parents-depth-at t) parents-depth.Post
-parents-depth-parents-depth-requires t c κs = (omega (arith, c .before .before .before .before .before .before .before .before .before .pre .0, (subst (says.ParentIs (now (c .before .before .before .before .before .before .before .before .before .args .f)) (now (c .before .before .before .before .before .before .before .before .before .args .s)) (c .before .before .before .before .before .before .before .before .before .args .end) (c .before .before .before .before .before .before .before .before .before .args .h) (c .before .before .before .before .before .before .before .before .before .args .n) (c .before .before .before .before .before .before .before .before .before .args .i)) (c .before .before .before .before .g .given .1) (c .before .before .before .before .before .before .nth-parent .ensures)) .1), ((c .before .before .before .before .before .before .before .before .before .pre .1 .0), ((c .before .before .before .before .before .before .before .before .before .pre .1 .1 .0), c .before .class-depth .ensures .1)))
+parents-depth-parents-depth-requires t c κs = (omega (arith, c .before .before .before .before .before .before .before .before .before .pre .0, (subst (says.ParentIs (now (c .before .before .before .before .before .before .before .before .before .args .f)) (now (c .before .before .before .before .before .before .before .before .before .args .s)) (c .before .before .before .before .before .before .before .before .before .args .end) (c .before .before .before .before .before .before .before .before .before .args .h) (c .before .before .before .before .before .before .before .before .before .args .n) (c .before .before .before .before .before .before .before .before .before .args .i)) (c .before .before .before .before .g .given .1) (c .before .before .before .before .before .before .nth-parent .ensures)) .1), ((c .before .before .before .before .before .before .before .before .before .pre .1 .0), ((c .before .before .before .before .before .before .before .before .before .pre .1 .1 .0), (c .before .class-depth .ensures .1, c .before .before .before .before .before .before .before .before .before .pre .1 .1 .1 .1))))
 
 parents-depth-larger-requires : (t : ℕ) → parents-depth-lts.Need-larger-requires (
   nth-parent-reads.Asked,
@@ -231,7 +231,7 @@ parents-depth-returns-2 : (t : ℕ) → parents-depth-lts.Need-returns-2 (
   larger-reads.Asked,
   larger-reads.Learnt,
 ) (parents-depth-at t) parents-depth.Post
-parents-depth-returns-2 t c = (walk.deepest-end (now (c .before .before .before .before .before .args .f)) (now (c .before .before .before .before .before .args .s)) (c .before .before .before .before .before .args .end) (c .before .before .before .before .before .args .h) (c .before .before .before .before .before .args .n) (c .before .before .before .before .before .args .i) (subst (says.ParentIs (now (c .before .before .before .before .before .args .f)) (now (c .before .before .before .before .before .args .s)) (c .before .before .before .before .before .args .end) (c .before .before .before .before .before .args .h) (c .before .before .before .before .before .args .n) (c .before .before .before .before .before .args .i)) (c .enum-told .given .1) (c .before .before .nth-parent .ensures)), (c .before .before .before .before .before .pre .1 .1 .1))
+parents-depth-returns-2 t c = (walk.deepest-end (now (c .before .before .before .before .before .args .f)) (now (c .before .before .before .before .before .args .s)) (c .before .before .before .before .before .args .end) (c .before .before .before .before .before .args .h) (c .before .before .before .before .before .args .n) (c .before .before .before .before .before .args .i) (subst (says.ParentIs (now (c .before .before .before .before .before .args .f)) (now (c .before .before .before .before .before .args .s)) (c .before .before .before .before .before .args .end) (c .before .before .before .before .before .args .h) (c .before .before .before .before .before .args .n) (c .before .before .before .before .before .args .i)) (c .enum-told .given .1) (c .before .before .nth-parent .ensures)), (c .before .before .before .before .before .pre .1 .1 .1 .0))
 
 pub +class-depth+parents-depth-spec : {M : Type 1} → statement M
 +class-depth+parents-depth-spec = close μ-class-depth μ-parents-depth (λ t. class-depth-lts.spec (

@@ -12,19 +12,19 @@ use Rattle.depths.proofs.depths_ok.Statement.{statement}
 use Rattle.depths.proofs.depths_ok.Tie as tie
 
 abbrev Inv-loop : tie.InvT-loop
-Inv-loop f s end most memo₀ base k n₀ figure₀ memo n figure = says.MemoIs f s end base most memo × figures.DepthsLeft f s end n figure
+Inv-loop f s end index most memo₀ base k n₀ figure₀ memo n figure = says.MemoIs f s end base most memo × figures.DepthsLeft f s end n figure
 
 abbrev μ-loop : tie.MeasureT-loop
-μ-loop f s end most memo₀ base k n₀ figure₀ memo n figure = k - n
+μ-loop f s end index most memo₀ base k n₀ figure₀ memo n figure = k - n
 
 class-count-requires : tie.Need-class-count-requires Inv-loop μ-loop
 class-count-requires c κs = counts.parents-read (now (c .before .before .args .f)) (now (c .before .before .args .s)) (c .before .before .args .end) (c .before .before .pre .0)
 
 loop-holds : tie.Need-loop-holds Inv-loop μ-loop
-loop-holds c = (memos.memo-start (now (c .before .before .before .args .f)) (now (c .before .before .before .args .s)) (c .before .before .before .args .end) (c .before .before .before .args .base) (c .before .before .before .args .most) (now (c .before .before .before .args .memo)) (c .before .before .before .pre .1 .1), figures.depths-start (now (c .before .before .before .args .f)) (now (c .before .before .before .args .s)) (c .before .before .before .args .end))
+loop-holds c = (memos.memo-start (now (c .before .before .before .args .f)) (now (c .before .before .before .args .s)) (c .before .before .before .args .end) (c .before .before .before .args .base) (c .before .before .before .args .most) (now (c .before .before .before .args .memo)) (c .before .before .before .pre .1 .1 .0), figures.depths-start (now (c .before .before .before .args .f)) (now (c .before .before .before .args .s)) (c .before .before .before .args .end))
 
 class-depth-requires : tie.Need-class-depth-requires Inv-loop μ-loop
-class-depth-requires c κs = (kinds.own-class (now (c .before .before .before .before .before .before .args .f)) (now (c .before .before .before .before .before .before .args .s)) (c .before .before .before .before .before .before .args .end) (c .before .before .before .class-count .result) (c .before .before .before .class-count .ensures .0) (c .before .before .loop .n) (c .before .loop-test .taken) (c .before .before .before .before .before .before .pre .0), (c .before .before .before .before .before .before .pre .1 .0, c .before .before .loop .inv .0))
+class-depth-requires c κs = (kinds.own-class (now (c .before .before .before .before .before .before .args .f)) (now (c .before .before .before .before .before .before .args .s)) (c .before .before .before .before .before .before .args .end) (c .before .before .before .class-count .result) (c .before .before .before .class-count .ensures .0) (c .before .before .loop .n) (c .before .loop-test .taken) (c .before .before .before .before .before .before .pre .0), (c .before .before .before .before .before .before .pre .1 .0, (c .before .before .loop .inv .0, c .before .before .before .before .before .before .pre .1 .1 .1)))
 
 returns : tie.Need-returns Inv-loop μ-loop
 returns c = (figures.depths-bad (now (c .before .before .before .before .before .before .before .before .args .f)) (now (c .before .before .before .before .before .before .before .before .args .s)) (c .before .before .before .before .before .before .before .before .args .end) (c .before .before .before .before .before .class-count .result) (c .before .before .before .before .before .class-count .ensures .0) (c .before .before .before .before .loop .n) (c .before .before .before .before .loop .figure) (c .before .before .before .before .loop .inv .1) (c .before .before .before .before .before .before .before .before .args .most) (c .before .before .before .before .before .before .before .before .pre .1 .0 .1) (c .before .before .before .loop-test .taken) (c .before .class-depth .result) (c .before .class-depth .ensures .0) (c .if1 .taken), memos.memo-end (now (c .before .before .before .before .before .before .before .before .args .f)) (now (c .before .before .before .before .before .before .before .before .args .s)) (c .before .before .before .before .before .before .before .before .args .end) (c .before .before .before .before .before .before .before .before .args .base) (c .before .before .before .before .before .before .before .before .args .most) _ (c .before .class-depth .ensures .1))

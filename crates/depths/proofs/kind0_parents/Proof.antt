@@ -10,10 +10,10 @@ use Rattle.depths.proofs.kind0_parents.Statement.{statement}
 use Rattle.depths.proofs.kind0_parents.Tie as tie
 
 abbrev Inv-loop : tie.InvT-loop
-Inv-loop f s end h n i₀ found₀ i found = (found ≤ i) × (i ≤ 256) × kinds.Kinds f s end h n i found
+Inv-loop f s end index h n i₀ found₀ i found = (found ≤ i) × (i ≤ 256) × kinds.Kinds f s end h n i found
 
 abbrev μ-loop : tie.MeasureT-loop
-μ-loop f s end h n i₀ found₀ i found = 300 - i
+μ-loop f s end index h n i₀ found₀ i found = 300 - i
 
 loop-holds : tie.Need-loop-holds Inv-loop μ-loop
 loop-holds c = (omega arith, omega arith, kinds.kinds-start (now (c .before .before .args .f)) (now (c .before .before .args .s)) (c .before .before .args .end) (c .before .before .args .h) (c .before .before .args .n))
@@ -25,7 +25,7 @@ enum-known-g : tie.Need-enum-known-g Inv-loop μ-loop
 enum-known-g c = search needs
 
 kind0-requires : tie.Need-kind0-requires Inv-loop μ-loop
-kind0-requires c κs = kinds.parent-class (now (c .before .before .before .before .before .before .before .args .f)) (now (c .before .before .before .before .before .before .before .args .s)) (c .before .before .before .before .before .before .before .args .end) (c .before .before .before .before .before .before .before .args .h) (c .before .before .before .before .before .before .before .args .n) (c .before .before .before .before .loop .i) (c .before .g .given .0 .0) (c .before .g .given .0 .1 .0) (subst (says.ParentIs (now (c .before .before .before .before .before .before .before .args .f)) (now (c .before .before .before .before .before .before .before .args .s)) (c .before .before .before .before .before .before .before .args .end) (c .before .before .before .before .before .before .before .args .h) (c .before .before .before .before .before .before .before .args .n) (c .before .before .before .before .loop .i)) (c .before .g .given .1) (c .before .before .before .nth-parent .ensures)) (c .before .before .before .before .before .before .before .pre)
+kind0-requires c κs = kinds.parent-class (now (c .before .before .before .before .before .before .before .args .f)) (now (c .before .before .before .before .before .before .before .args .s)) (c .before .before .before .before .before .before .before .args .end) (c .before .before .before .before .before .before .before .args .h) (c .before .before .before .before .before .before .before .args .n) (c .before .before .before .before .loop .i) (c .before .g .given .0 .0) (c .before .g .given .0 .1 .0) (subst (says.ParentIs (now (c .before .before .before .before .before .before .before .args .f)) (now (c .before .before .before .before .before .before .before .args .s)) (c .before .before .before .before .before .before .before .args .end) (c .before .before .before .before .before .before .before .args .h) (c .before .before .before .before .before .before .before .args .n) (c .before .before .before .before .loop .i)) (c .before .g .given .1) (c .before .before .before .nth-parent .ensures)) (c .before .before .before .before .before .before .before .pre .0)
 
 add-found : tie.Need-add-found Inv-loop μ-loop
 add-found c = omega (arith, c .before .before .before .before .before .loop .inv .0, c .before .before .before .before .before .loop .inv .1, c .kind0 .ensures .1)

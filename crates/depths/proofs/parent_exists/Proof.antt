@@ -7,19 +7,20 @@ use lib.Dec.{eqb, ltb}
 use denote.Ref.{now}
 use mathlib.Core.Path.{refl, subst}
 use mathlib.Core.Bool.{true, false}
+use native.Mathlib.Omega.{arith}
 use borrow.Author.Tests.{eq-eqb, ne-eqb}
 use borrow.Author.Needs.{needs}
 use Rattle.depths.proofs.parent_exists.Statement.{statement}
 use Rattle.depths.proofs.parent_exists.Tie as tie
 
 numbered-requires : tie.Need-numbered-requires
-numbered-requires c κs = exist.own-there (now (c .before .before .args .f)) (now (c .before .before .args .s)) (c .before .before .args .end) (c .before .before .pre)
+numbered-requires c κs = (exist.own-there (now (c .before .before .args .f)) (now (c .before .before .args .s)) (c .before .before .args .end) (c .before .before .pre .0), (c .before .before .pre .1, omega arith))
 
 enum-known-g : tie.Need-enum-known-g
 enum-known-g c = search needs
 
 has-class-requires : tie.Need-has-class-requires
-has-class-requires c κs = exist.found-there (now (c .before .before .before .before .before .before .args .f)) (now (c .before .before .before .before .before .before .args .s)) (c .before .before .before .before .before .before .args .end) (c .before .before .before .before .before .before .args .n) (c .before .before .before .before .before .before .args .p) (c .before .before .before .before .before .before .args .c) (c .before .g .given .0 .0) (subst (NumberedIs (now (c .before .before .before .before .before .before .args .f)) (now (c .before .before .before .before .before .before .args .s)) (ownHome (c .before .before .before .before .before .before .args .end)) (c .before .before .before .before .before .before .args .p)) (c .before .g .given .1) (c .before .before .before .numbered .ensures)) (c .before .before .before .before .before .before .pre)
+has-class-requires c κs = exist.found-there (now (c .before .before .before .before .before .before .args .f)) (now (c .before .before .before .before .before .before .args .s)) (c .before .before .before .before .before .before .args .end) (c .before .before .before .before .before .before .args .n) (c .before .before .before .before .before .before .args .p) (c .before .before .before .before .before .before .args .c) (c .before .g .given .0 .0) (subst (NumberedIs (now (c .before .before .before .before .before .before .args .f)) (now (c .before .before .before .before .before .before .args .s)) (ownHome (c .before .before .before .before .before .before .args .end)) (c .before .before .before .before .before .before .args .p)) (c .before .g .given .1) (c .before .before .before .numbered .ensures)) (c .before .before .before .before .before .before .pre .0)
 
 returns : tie.Need-returns
 returns c = exist.exists-as (now (c .before .before .before .before .before .before .before .before .args .f)) (now (c .before .before .before .before .before .before .before .before .args .s)) (c .before .before .before .before .before .before .before .before .args .end) (c .before .before .before .before .before .before .before .before .args .n) (c .before .before .before .before .before .before .before .before .args .p) (c .before .before .before .before .before .before .before .before .args .c) (c .before .before .before .g .given .0 .0) (subst (NumberedIs (now (c .before .before .before .before .before .before .before .before .args .f)) (now (c .before .before .before .before .before .before .before .before .args .s)) (ownHome (c .before .before .before .before .before .before .before .before .args .end)) (c .before .before .before .before .before .before .before .before .args .p)) (c .before .before .before .g .given .1) (c .before .before .before .before .before .numbered .ensures)) false (eqb (c .before .before .before .before .before .before .before .before .args .p) 0) false (subst (says.HasClass (now (c .before .before .before .before .before .before .before .before .args .f)) (now (c .before .before .before .before .before .before .before .before .args .s)) (c .before .before .before .g .given .0 .0) (c .before .before .before .before .before .before .before .before .args .c)) (not-true _ (c .if1 .taken)) (c .before .has-class .ensures)) refl refl

@@ -12,19 +12,19 @@ use Rattle.depths.proofs.parent_kinds.Statement.{statement}
 use Rattle.depths.proofs.parent_kinds.Tie as tie
 
 abbrev Inv-loop : tie.InvT-loop
-Inv-loop f s end k n₀ n = kinds.KindsLeft f s end n
+Inv-loop f s end index k n₀ n = kinds.KindsLeft f s end n
 
 abbrev μ-loop : tie.MeasureT-loop
-μ-loop f s end k n₀ n = k - n
+μ-loop f s end index k n₀ n = k - n
 
 class-count-requires : tie.Need-class-count-requires Inv-loop μ-loop
-class-count-requires c κs = (counts.parents-read (now (c .before .before .args .f)) (now (c .before .before .args .s)) (c .before .before .args .end) (c .before .before .pre))
+class-count-requires c κs = (counts.parents-read (now (c .before .before .args .f)) (now (c .before .before .args .s)) (c .before .before .args .end) (c .before .before .pre .0))
 
 loop-holds : tie.Need-loop-holds Inv-loop μ-loop
 loop-holds c = kinds.left-start (now (c .before .before .before .args .f)) (now (c .before .before .before .args .s)) (c .before .before .before .args .end)
 
 kinds-ok-requires : tie.Need-kinds-ok-requires Inv-loop μ-loop
-kinds-ok-requires c κs = kinds.own-class (now (c .before .before .before .before .before .args .f)) (now (c .before .before .before .before .before .args .s)) (c .before .before .before .before .before .args .end) (c .before .before .class-count .result) (c .before .before .class-count .ensures .0) (c .before .loop .n) (c .loop-test .taken) (c .before .before .before .before .before .pre)
+kinds-ok-requires c κs = (kinds.own-class (now (c .before .before .before .before .before .args .f)) (now (c .before .before .before .before .before .args .s)) (c .before .before .before .before .before .args .end) (c .before .before .class-count .result) (c .before .before .class-count .ensures .0) (c .before .loop .n) (c .loop-test .taken) (c .before .before .before .before .before .pre .0), c .before .before .before .before .before .pre .1)
 
 returns : tie.Need-returns Inv-loop μ-loop
 returns c = kinds.left-no (now (c .before .before .before .before .before .before .before .args .f)) (now (c .before .before .before .before .before .before .before .args .s)) (c .before .before .before .before .before .before .before .args .end) (c .before .before .before .before .class-count .result) (c .before .before .before .before .class-count .ensures .0) (c .before .before .before .loop .n) (c .before .before .before .loop .inv) (c .before .before .loop-test .taken) (subst (says.KindsIs (now (c .before .before .before .before .before .before .before .args .f)) (now (c .before .before .before .before .before .before .before .args .s)) (c .before .before .before .before .before .before .before .args .end) (ownHome (c .before .before .before .before .before .before .before .args .end)) (c .before .before .before .loop .n)) (not-true _ (c .if1 .taken)) (c .before .kinds-ok .ensures))

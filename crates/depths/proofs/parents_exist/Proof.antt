@@ -11,19 +11,19 @@ use Rattle.depths.proofs.parents_exist.Statement.{statement}
 use Rattle.depths.proofs.parents_exist.Tie as tie
 
 abbrev Inv-loop : tie.InvT-loop
-Inv-loop f s end k n₀ n = exist.ClassesLeft f s end n
+Inv-loop f s end index k n₀ n = exist.ClassesLeft f s end n
 
 abbrev μ-loop : tie.MeasureT-loop
-μ-loop f s end k n₀ n = k - n
+μ-loop f s end index k n₀ n = k - n
 
 class-count-requires : tie.Need-class-count-requires Inv-loop μ-loop
-class-count-requires c κs = (counts.imports-read (now (c .before .before .args .f)) (now (c .before .before .args .s)) (c .before .before .args .end) (c .before .before .pre))
+class-count-requires c κs = (counts.imports-read (now (c .before .before .args .f)) (now (c .before .before .args .s)) (c .before .before .args .end) (c .before .before .pre .0))
 
 loop-holds : tie.Need-loop-holds Inv-loop μ-loop
 loop-holds c = exist.classes-start (now (c .before .before .before .args .f)) (now (c .before .before .before .args .s)) (c .before .before .before .args .end)
 
 class-parents-exist-requires : tie.Need-class-parents-exist-requires Inv-loop μ-loop
-class-parents-exist-requires c κs = exist.own-class (now (c .before .before .before .before .before .args .f)) (now (c .before .before .before .before .before .args .s)) (c .before .before .before .before .before .args .end) (c .before .before .class-count .result) (c .before .before .class-count .ensures .0) (c .before .loop .n) (c .loop-test .taken) (c .before .before .before .before .before .pre)
+class-parents-exist-requires c κs = (exist.own-class (now (c .before .before .before .before .before .args .f)) (now (c .before .before .before .before .before .args .s)) (c .before .before .before .before .before .args .end) (c .before .before .class-count .result) (c .before .before .class-count .ensures .0) (c .before .loop .n) (c .loop-test .taken) (c .before .before .before .before .before .pre .0), c .before .before .before .before .before .pre .1)
 
 returns : tie.Need-returns Inv-loop μ-loop
 returns c = exist.classes-bad (now (c .before .before .before .before .before .before .before .args .f)) (now (c .before .before .before .before .before .before .before .args .s)) (c .before .before .before .before .before .before .before .args .end) (c .before .before .before .before .class-count .result) (c .before .before .before .before .class-count .ensures .0) (c .before .before .before .loop .n) (c .before .before .before .loop .inv) (c .before .before .loop-test .taken) (subst (says.AllExist (now (c .before .before .before .before .before .before .before .args .f)) (now (c .before .before .before .before .before .before .before .args .s)) (c .before .before .before .before .before .before .before .args .end) (c .before .before .before .loop .n)) (not-true _ (c .if1 .taken)) (c .before .class-parents-exist .ensures))

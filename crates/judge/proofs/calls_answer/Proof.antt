@@ -16,11 +16,11 @@ use Rattle.judge.proofs.calls_answer.Tie as tie
 calls-ok-requires : tie.Need-calls-ok-requires
 calls-ok-requires c κs = (stages.judged (now (c .before .before .before .args .s)) (c .before .before .before .args .end) (now (c .before .before .before .args .domain)) (now (c .before .before .before .args .file)) (c .before .before .before .pre .0 .0), (c .before .before .before .pre .0 .1, c .before .before .before .pre .1 .1 .0))
 
-cast-t12 : tie.Need-cast-t12
-cast-t12 c = omega (arith, stages.calls-small (now (c .before .before .before .before .before .args .s)) (c .before .before .before .before .before .args .end) (now (c .before .before .before .before .before .args .domain)) (now (c .before .before .before .before .before .args .file)) (c .before .calls-ok .result) (c .before .before .before .before .before .pre .0 .0) (c .before .calls-ok .ensures))
+cast-t13 : tie.Need-cast-t13
+cast-t13 c = omega (arith, stages.calls-small (now (c .before .before .before .before .before .args .s)) (c .before .before .before .before .before .args .end) (now (c .before .before .before .before .before .args .domain)) (now (c .before .before .before .before .before .args .file)) (c .before .calls-ok .result) (c .before .before .before .before .before .pre .0 .0) (c .before .calls-ok .ensures))
 
 returns : tie.Need-returns
-returns c = (stages.stage-18-19 (now (c .before .before .before .before .before .args .s)) (c .before .before .before .before .before .args .end) (now (c .before .before .before .before .before .args .domain)) (now (c .before .before .before .before .before .args .file)) (c .before .before .before .before .before .args .depth) (c .before .calls-ok .result) (c .before .calls-ok .ensures) (c .if1 .taken), entered.memo-stays (now (c .before .before .before .before .before .args .file)) (c .before .before .before .before .before .args .base) (now (c .before .before .before .before .before .args .memo)) (c .before .before .before .before .before .pre .1 .1 .1 .0))
+returns c = (stages.stage-18-19 (now (c .before .before .before .before .before .args .s)) (c .before .before .before .before .before .args .end) (now (c .before .before .before .before .before .args .domain)) (now (c .before .before .before .before .before .args .file)) (c .before .before .before .before .before .args .depth) (c .before .calls-ok .result) (c .before .calls-ok .ensures) (c .if1 .taken), entered.memo-stays (now (c .before .before .before .before .before .args .file)) (c .before .before .before .before .before .args .base) (now (c .before .before .before .before .before .args .memo)) (c .before .before .before .before .before .pre .1 .1 .1 .0 .0))
 
 running-ok-requires : tie.Need-running-ok-requires
 running-ok-requires c κs = (stages.judged-there (now (c .before .before .before .before .before .before .args .s)) (c .before .before .before .before .before .before .args .end) (now (c .before .before .before .before .before .before .args .domain)) (now (c .before .before .before .before .before .before .args .file)) (c .before .before .before .before .before .before .pre .0 .0), (c .before .before .before .before .before .before .pre .1 .0, c .before .before .before .before .before .before .pre .1 .1 .1))
@@ -42,7 +42,7 @@ calls-answer-spec =
     tie.close
     (tie.spec
     calls-ok-requires
-    cast-t12
+    cast-t13
     returns
     running-ok-requires
     returns-2

@@ -30,7 +30,7 @@ sub-base : tie.Need-sub-base
 sub-base c = omega arith
 
 parents-ok-requires : tie.Need-parents-ok-requires
-parents-ok-requires c κs = (stages.imports-there (now (c .before .before .before .before .before .before .before .before .before .before .args .s)) (c .before .before .before .before .before .before .before .before .before .before .args .end) (now (c .before .before .before .before .before .before .before .before .before .before .args .domain)) (now (c .before .before .before .before .before .before .before .before .before .before .args .file)) (c .before .before .before .before .before .before .before .before .before .before .pre .0) (subst (ImportsIs (now (c .before .before .before .before .before .before .before .before .before .before .args .file)) (now (c .before .before .before .before .before .before .before .before .before .before .args .s)) (c .before .before .before .before .before .before .before .before .before .before .args .end)) (not-false (c .before .before .imports-there .result) (c .before .if2 .left)) (c .before .before .imports-there .ensures .0)), (c .before .before .before .before .before .before .before .before .before .before .pre .1 .0, (entered.limits-depth (now (c .before .before .before .before .before .before .before .before .before .before .args .s)) (limitsOf (c .before .before .before .before .before .before .before .before .before .before .args .limits)) (c .before .before .before .before .before .before .before .before .before .before .pre .1 .1 .0 .2), (c .before .before .before .before .before .before .before .before .before .before .pre .1 .1 .1 .1, omega (arith, c .before .before .before .before .before .before .before .before .before .before .pre .1 .0, creation.over-to (now (c .before .before .before .before .before .before .before .before .before .before .args .s)) (c .before .before .before .before .before .before .before .before .before .before .args .end) ((c .before .before .before .before .before .before .before .before .before .before .pre .0) .0, (c .before .before .before .before .before .before .before .before .before .before .pre .0) .2))))))
+parents-ok-requires c κs = (stages.imports-there (now (c .before .before .before .before .before .before .before .before .before .before .args .s)) (c .before .before .before .before .before .before .before .before .before .before .args .end) (now (c .before .before .before .before .before .before .before .before .before .before .args .domain)) (now (c .before .before .before .before .before .before .before .before .before .before .args .file)) (c .before .before .before .before .before .before .before .before .before .before .pre .0) (subst (ImportsIs (now (c .before .before .before .before .before .before .before .before .before .before .args .file)) (now (c .before .before .before .before .before .before .before .before .before .before .args .s)) (c .before .before .before .before .before .before .before .before .before .before .args .end)) (not-false (c .before .before .imports-there .result) (c .before .if2 .left)) (c .before .before .imports-there .ensures .0)), (c .before .before .before .before .before .before .before .before .before .before .pre .1 .0, (entered.limits-depth (now (c .before .before .before .before .before .before .before .before .before .before .args .s)) (limitsOf (c .before .before .before .before .before .before .before .before .before .before .args .limits)) (c .before .before .before .before .before .before .before .before .before .before .pre .1 .1 .0 .2), ((c .before .before .before .before .before .before .before .before .before .before .pre .1 .1 .1 .1, omega (arith, c .before .before .before .before .before .before .before .before .before .before .pre .1 .0, creation.over-to (now (c .before .before .before .before .before .before .before .before .before .before .args .s)) (c .before .before .before .before .before .before .before .before .before .before .args .end) ((c .before .before .before .before .before .before .before .before .before .before .pre .0) .0, (c .before .before .before .before .before .before .before .before .before .before .pre .0) .2))), entered.indexed (now (c .before .before .before .before .before .before .before .before .before .before .args .s)) (c .before .before .before .before .before .before .before .before .before .before .args .end) _ ((c .before .before .before .before .before .before .before .before .before .before .pre .0) .0, (c .before .before .before .before .before .before .before .before .before .before .pre .0) .2) (c .before .before .before .before .before .before .before .before .before .before .pre .1 .1 .1 .0)))))
 
 enum-known-depth : tie.Need-enum-known-depth
 enum-known-depth c = search needs
@@ -42,7 +42,7 @@ add-inside-answer-2 : tie.Need-add-inside-answer-2
 add-inside-answer-2 c = omega (arith, c .before .before .before .before .before .before .before .before .before .before .before .before .before .before .before .before .before .pre .1 .0, creation.over-to (now (c .before .before .before .before .before .before .before .before .before .before .before .before .before .before .before .before .before .args .s)) (c .before .before .before .before .before .before .before .before .before .before .before .before .before .before .before .before .before .args .end) ((c .before .before .before .before .before .before .before .before .before .before .before .before .before .before .before .before .before .pre .0) .0, (c .before .before .before .before .before .before .before .before .before .before .before .before .before .before .before .before .before .pre .0) .2), entered.depth-limit (now (c .before .before .before .before .before .before .before .before .before .before .before .before .before .before .before .before .before .args .s)) (limitsOf (c .before .before .before .before .before .before .before .before .before .before .before .before .before .before .before .before .before .args .limits)) (c .before .before .before .before .before .before .before .before .before .before .before .before .before .before .before .before .before .pre .1 .1 .0 .2))
 
 inside-answer-requires : tie.Need-inside-answer-requires
-inside-answer-requires c κs = (stages.inside-some (now (c .before .before .before .before .before .before .before .before .before .before .before .before .before .before .before .before .before .args .s)) (c .before .before .before .before .before .before .before .before .before .before .before .before .before .before .before .before .before .args .end) (now (c .before .before .before .before .before .before .before .before .before .before .before .before .before .before .before .before .before .args .domain)) (now (c .before .before .before .before .before .before .before .before .before .before .before .before .before .before .before .before .before .args .file)) (c .before .before .before .before .depth .given .0 .0) (c .before .before .before .before .before .before .before .before .before .before .before .before .before .before .before .before .before .pre .0) (subst (ImportsIs (now (c .before .before .before .before .before .before .before .before .before .before .before .before .before .before .before .before .before .args .file)) (now (c .before .before .before .before .before .before .before .before .before .before .before .before .before .before .before .before .before .args .s)) (c .before .before .before .before .before .before .before .before .before .before .before .before .before .before .before .before .before .args .end)) (not-false (c .before .before .before .before .before .before .before .before .before .imports-there .result) (c .before .before .before .before .before .before .before .before .if2 .left)) (c .before .before .before .before .before .before .before .before .before .imports-there .ensures .0)) (subst (ParentedIs (now (c .before .before .before .before .before .before .before .before .before .before .before .before .before .before .before .before .before .args .file)) (now (c .before .before .before .before .before .before .before .before .before .before .before .before .before .before .before .before .before .args .s)) (c .before .before .before .before .before .before .before .before .before .before .before .before .before .before .before .before .before .args .end)) (c .before .before .before .before .depth .given .1) (c .before .before .before .before .before .before .parents-ok .ensures .0)), (c .before .before .before .before .before .before .before .before .before .before .before .before .before .before .before .before .before .pre .1 .0, ((c .before .before .before .before .before .before .before .before .before .before .before .before .before .before .before .before .before .pre .1 .1 .0 .0, entered.code-limit (now (c .before .before .before .before .before .before .before .before .before .before .before .before .before .before .before .before .before .args .s)) (limitsOf (c .before .before .before .before .before .before .before .before .before .before .before .before .before .before .before .before .before .args .limits)) _ (c .before .before .before .before .before .before .before .before .before .before .before .before .before .before .before .before .before .pre .1 .1 .0 .2) (c .before .before .before .before .before .before .before .before .before .before .before .before .before .before .before .before .before .pre .1 .1 .0 .1)), (c .before .before .before .before .before .before .before .before .before .imports-there .ensures .1, (c .before .before .before .before .before .before .parents-ok .ensures .1, omega (arith, c .before .before .before .before .before .before .before .before .before .before .before .before .before .before .before .before .before .pre .1 .0, creation.over-to (now (c .before .before .before .before .before .before .before .before .before .before .before .before .before .before .before .before .before .args .s)) (c .before .before .before .before .before .before .before .before .before .before .before .before .before .before .before .before .before .args .end) ((c .before .before .before .before .before .before .before .before .before .before .before .before .before .before .before .before .before .pre .0) .0, (c .before .before .before .before .before .before .before .before .before .before .before .before .before .before .before .before .before .pre .0) .2), entered.depth-limit (now (c .before .before .before .before .before .before .before .before .before .before .before .before .before .before .before .before .before .args .s)) (limitsOf (c .before .before .before .before .before .before .before .before .before .before .before .before .before .before .before .before .before .args .limits)) (c .before .before .before .before .before .before .before .before .before .before .before .before .before .before .before .before .before .pre .1 .1 .0 .2)))))))
+inside-answer-requires c κs = (stages.inside-some (now (c .before .before .before .before .before .before .before .before .before .before .before .before .before .before .before .before .before .args .s)) (c .before .before .before .before .before .before .before .before .before .before .before .before .before .before .before .before .before .args .end) (now (c .before .before .before .before .before .before .before .before .before .before .before .before .before .before .before .before .before .args .domain)) (now (c .before .before .before .before .before .before .before .before .before .before .before .before .before .before .before .before .before .args .file)) (c .before .before .before .before .depth .given .0 .0) (c .before .before .before .before .before .before .before .before .before .before .before .before .before .before .before .before .before .pre .0) (subst (ImportsIs (now (c .before .before .before .before .before .before .before .before .before .before .before .before .before .before .before .before .before .args .file)) (now (c .before .before .before .before .before .before .before .before .before .before .before .before .before .before .before .before .before .args .s)) (c .before .before .before .before .before .before .before .before .before .before .before .before .before .before .before .before .before .args .end)) (not-false (c .before .before .before .before .before .before .before .before .before .imports-there .result) (c .before .before .before .before .before .before .before .before .if2 .left)) (c .before .before .before .before .before .before .before .before .before .imports-there .ensures .0)) (subst (ParentedIs (now (c .before .before .before .before .before .before .before .before .before .before .before .before .before .before .before .before .before .args .file)) (now (c .before .before .before .before .before .before .before .before .before .before .before .before .before .before .before .before .before .args .s)) (c .before .before .before .before .before .before .before .before .before .before .before .before .before .before .before .before .before .args .end)) (c .before .before .before .before .depth .given .1) (c .before .before .before .before .before .before .parents-ok .ensures .0)), (c .before .before .before .before .before .before .before .before .before .before .before .before .before .before .before .before .before .pre .1 .0, ((c .before .before .before .before .before .before .before .before .before .before .before .before .before .before .before .before .before .pre .1 .1 .0 .0, entered.code-limit (now (c .before .before .before .before .before .before .before .before .before .before .before .before .before .before .before .before .before .args .s)) (limitsOf (c .before .before .before .before .before .before .before .before .before .before .before .before .before .before .before .before .before .args .limits)) _ (c .before .before .before .before .before .before .before .before .before .before .before .before .before .before .before .before .before .pre .1 .1 .0 .2) (c .before .before .before .before .before .before .before .before .before .before .before .before .before .before .before .before .before .pre .1 .1 .0 .1)), (c .before .before .before .before .before .before .before .before .before .imports-there .ensures .1, ((c .before .before .before .before .before .before .parents-ok .ensures .1, omega (arith, c .before .before .before .before .before .before .before .before .before .before .before .before .before .before .before .before .before .pre .1 .0, creation.over-to (now (c .before .before .before .before .before .before .before .before .before .before .before .before .before .before .before .before .before .args .s)) (c .before .before .before .before .before .before .before .before .before .before .before .before .before .before .before .before .before .args .end) ((c .before .before .before .before .before .before .before .before .before .before .before .before .before .before .before .before .before .pre .0) .0, (c .before .before .before .before .before .before .before .before .before .before .before .before .before .before .before .before .before .pre .0) .2), entered.depth-limit (now (c .before .before .before .before .before .before .before .before .before .before .before .before .before .before .before .before .before .args .s)) (limitsOf (c .before .before .before .before .before .before .before .before .before .before .before .before .before .before .before .before .before .args .limits)) (c .before .before .before .before .before .before .before .before .before .before .before .before .before .before .before .before .before .pre .1 .1 .0 .2))), entered.indexed (now (c .before .before .before .before .before .before .before .before .before .before .before .before .before .before .before .before .before .args .s)) (c .before .before .before .before .before .before .before .before .before .before .before .before .before .before .before .before .before .args .end) _ ((c .before .before .before .before .before .before .before .before .before .before .before .before .before .before .before .before .before .pre .0) .0, (c .before .before .before .before .before .before .before .before .before .before .before .before .before .before .before .before .before .pre .0) .2) (c .before .before .before .before .before .before .before .before .before .before .before .before .before .before .before .before .before .pre .1 .1 .1 .0))))))
 
 enum-told : tie.Need-enum-told
 enum-told c = search needs

@@ -26,34 +26,34 @@ use Rattle.running.proofs.set_mark.Reads as set-mark-reads
 use Rattle.running.proofs.+class_passes+parents_pass.{statement}
 use Rattle.running.proofs.+class_passes+parents_pass.Tie.{close}
 
-abbrev μ-class-passes : Measures 3 class-passes-kinds.ps ℕ
-μ-class-passes κs a = 16 * (256 * a .1 .1 .1 .1 .1 .1 .1 .1 .0 .before + a .1 .1 .1 .1 .1 .1 .1 .1 .1 .0) + 15
+abbrev μ-class-passes : Measures 4 class-passes-kinds.ps ℕ
+μ-class-passes κs a = 16 * (256 * a .1 .1 .1 .1 .1 .1 .1 .1 .1 .0 .before + a .1 .1 .1 .1 .1 .1 .1 .1 .1 .1 .0) + 15
 
-abbrev μ-parents-pass : Measures 3 parents-pass-kinds.ps ℕ
-μ-parents-pass κs a = 16 * (256 * a .1 .1 .1 .1 .1 .1 .1 .1 .0 .before + a .1 .1 .1 .1 .1 .1 .1 .1 .1 .0) + a .1 .1 .1 .1 .1 .1 .1 .1 .1 .1 .0
+abbrev μ-parents-pass : Measures 4 parents-pass-kinds.ps ℕ
+μ-parents-pass κs a = 16 * (256 * a .1 .1 .1 .1 .1 .1 .1 .1 .1 .0 .before + a .1 .1 .1 .1 .1 .1 .1 .1 .1 .1 .0) + a .1 .1 .1 .1 .1 .1 .1 .1 .1 .1 .1 .0
 
-abbrev class-passes-at : ℕ → In 3 class-passes-kinds.ps
+abbrev class-passes-at : ℕ → In 4 class-passes-kinds.ps
 class-passes-at t =
-    and 3 class-passes-kinds.ps (is 3 class-passes-kinds.ps μ-class-passes t) class-passes.Pre
+    and 4 class-passes-kinds.ps (is 4 class-passes-kinds.ps μ-class-passes t) class-passes.Pre
 
-abbrev class-passes-below : ℕ → In 3 class-passes-kinds.ps
+abbrev class-passes-below : ℕ → In 4 class-passes-kinds.ps
 class-passes-below t =
     and
-    3
+    4
     class-passes-kinds.ps
-    (falls 3 class-passes-kinds.ps _<_ μ-class-passes t)
+    (falls 4 class-passes-kinds.ps _<_ μ-class-passes t)
     class-passes.Pre
 
-abbrev parents-pass-at : ℕ → In 3 parents-pass-kinds.ps
+abbrev parents-pass-at : ℕ → In 4 parents-pass-kinds.ps
 parents-pass-at t =
-    and 3 parents-pass-kinds.ps (is 3 parents-pass-kinds.ps μ-parents-pass t) parents-pass.Pre
+    and 4 parents-pass-kinds.ps (is 4 parents-pass-kinds.ps μ-parents-pass t) parents-pass.Pre
 
-abbrev parents-pass-below : ℕ → In 3 parents-pass-kinds.ps
+abbrev parents-pass-below : ℕ → In 4 parents-pass-kinds.ps
 parents-pass-below t =
     and
-    3
+    4
     parents-pass-kinds.ps
-    (falls 3 parents-pass-kinds.ps _<_ μ-parents-pass t)
+    (falls 4 parents-pass-kinds.ps _<_ μ-parents-pass t)
     parents-pass.Pre
 
 class-passes-add-at : (t : ℕ) → class-passes-lts.Need-add-at (
@@ -111,7 +111,7 @@ class-passes-class-methods-pass-requires :
       set-mark-reads.Asked,
       set-mark-reads.Learnt,
     ) (class-passes-at t) class-passes.Post
-class-passes-class-methods-pass-requires t c κs = ((c .before .before .before .before .before .before .pre .1 .0), (c .before .before .before .before .before .before .pre .1 .1 .1 .1))
+class-passes-class-methods-pass-requires t c κs = ((c .before .before .before .before .before .before .pre .1 .0), (c .before .before .before .before .before .before .pre .1 .1 .1 .1 .0))
 
 class-passes-returns-2 : (t : ℕ) → class-passes-lts.Need-returns-2 (
   is-marked-reads.Asked,
@@ -207,7 +207,7 @@ parents-pass-returns : (t : ℕ) → parents-pass-lts.Need-returns (
 ) (parents-pass-at t) parents-pass.Post
 parents-pass-returns t c = (walk.parents-none (now (c .before .before .before .args .f)) (now (c .before .before .before .args .s)) (c .before .before .before .args .end) (c .before .before .before .args .b) (c .before .before .before .args .h) (c .before .before .before .args .n) (c .before .before .before .args .left) (c .if1 .taken), (c .before .before .before .pre .1 .1 .0))
 
-parents-pass-sub-parent-at : (t : ℕ) → parents-pass-lts.Need-sub-parent-at (
+parents-pass-sub-i : (t : ℕ) → parents-pass-lts.Need-sub-i (
   parent-at-reads.Asked,
   parent-at-reads.Learnt,
   class-passes-below t,
@@ -215,7 +215,7 @@ parents-pass-sub-parent-at : (t : ℕ) → parents-pass-lts.Need-sub-parent-at (
   parents-pass-below t,
   parents-pass.Post,
 ) (parents-pass-at t) parents-pass.Post
-parents-pass-sub-parent-at t c = omega arith
+parents-pass-sub-i t c = omega arith
 
 parents-pass-parent-at-requires : (t : ℕ) → parents-pass-lts.Need-parent-at-requires (
   parent-at-reads.Asked,
@@ -225,7 +225,7 @@ parents-pass-parent-at-requires : (t : ℕ) → parents-pass-lts.Need-parent-at-
   parents-pass-below t,
   parents-pass.Post,
 ) (parents-pass-at t) parents-pass.Post
-parents-pass-parent-at-requires t c κs = walk.last-there (now (c .before .before .before .args .f)) (now (c .before .before .before .args .s)) (c .before .before .before .args .end) (c .before .before .before .args .b) (c .before .before .before .args .h) (c .before .before .before .args .n) (c .before .before .before .args .left) (c .if1 .left) (c .before .before .before .pre .1 .0)
+parents-pass-parent-at-requires t c κs = (walk.last-there (now (c .before .before .before .args .f)) (now (c .before .before .before .args .s)) (c .before .before .before .args .end) (c .before .before .before .args .b) (c .before .before .before .args .h) (c .before .before .before .args .n) (c .before .before .before .args .left) (c .if1 .left) (c .before .before .before .pre .1 .0), (c .before .before .before .pre .1 .1 .1 .1 .1, walk.walk-below (now (c .before .before .before .args .f)) (now (c .before .before .before .args .s)) (c .before .before .before .args .end) (c .before .before .before .args .b) (c .before .before .before .args .h) (c .before .before .before .args .n) (c .before .before .before .pre .1 .0 .class)))
 
 parents-pass-class-passes-requires : (t : ℕ) → parents-pass-lts.Need-class-passes-requires (
   parent-at-reads.Asked,
@@ -246,16 +246,6 @@ parents-pass-returns-2 : (t : ℕ) → parents-pass-lts.Need-returns-2 (
   parents-pass.Post,
 ) (parents-pass-at t) parents-pass.Post
 parents-pass-returns-2 t c = (walk.parents-no (now (c .before .before .before .before .before .before .before .before .args .f)) (now (c .before .before .before .before .before .before .before .before .args .s)) (c .before .before .before .before .before .before .before .before .args .end) (c .before .before .before .before .before .before .before .before .args .b) (c .before .before .before .before .before .before .before .before .args .h) (c .before .before .before .before .before .before .before .before .args .n) (c .before .before .before .before .before .before .before .before .args .left) (c .before .before .before .before .before .if1 .left) (c .before .before .before .before .parent-at .result) (c .before .before .before .before .parent-at .ensures) (c .before .before .before .before .before .before .before .before .pre .1 .0) (subst (λ (v : Bool). ClassPasses (now (c .before .before .before .before .before .before .before .before .args .f)) (now (c .before .before .before .before .before .before .before .before .args .s)) (c .before .before .before .before .before .before .before .before .args .end) (c .before .before .before .before .before .before .before .before .args .b) ((c .before .before .before .before .parent-at .result) .home) ((c .before .before .before .before .parent-at .result) .number) v) (not-true (c .before .class-passes .result) (c .if2 .taken)) (c .before .class-passes .ensures .0)), c .before .class-passes .ensures .1)
-
-parents-pass-sub-parents-pass : (t : ℕ) → parents-pass-lts.Need-sub-parents-pass (
-  parent-at-reads.Asked,
-  parent-at-reads.Learnt,
-  class-passes-below t,
-  class-passes.Post,
-  parents-pass-below t,
-  parents-pass.Post,
-) (parents-pass-at t) parents-pass.Post
-parents-pass-sub-parents-pass t c = omega arith
 
 parents-pass-parents-pass-requires : (t : ℕ) → parents-pass-lts.Need-parents-pass-requires (
   parent-at-reads.Asked,
@@ -313,10 +303,9 @@ pub +class-passes+parents-pass-spec : {M : Type 1} → statement M
     (parents-pass-at t)
     parents-pass.Post
     (parents-pass-returns t)
-    (parents-pass-sub-parent-at t)
+    (parents-pass-sub-i t)
     (parents-pass-parent-at-requires t)
     (parents-pass-class-passes-requires t)
     (parents-pass-returns-2 t)
-    (parents-pass-sub-parents-pass t)
     (parents-pass-parents-pass-requires t)
     (parents-pass-returns-3 t)

@@ -18,16 +18,16 @@ use Rattle.running.proofs.set_link.Reads as set-link-reads
 use Rattle.running.proofs.+find_chain.{statement}
 use Rattle.running.proofs.+find_chain.Tie.{close}
 
-abbrev μ-find-chain : Measures 2 find-chain-kinds.ps ℕ
-μ-find-chain κs a = 16 - a .1 .1 .1 .0
+abbrev μ-find-chain : Measures 3 find-chain-kinds.ps ℕ
+μ-find-chain κs a = 16 - a .1 .1 .1 .1 .1 .0
 
-abbrev find-chain-at : ℕ → In 2 find-chain-kinds.ps
+abbrev find-chain-at : ℕ → In 3 find-chain-kinds.ps
 find-chain-at t =
-    and 2 find-chain-kinds.ps (is 2 find-chain-kinds.ps μ-find-chain t) find-chain.Pre
+    and 3 find-chain-kinds.ps (is 3 find-chain-kinds.ps μ-find-chain t) find-chain.Pre
 
-abbrev find-chain-below : ℕ → In 2 find-chain-kinds.ps
+abbrev find-chain-below : ℕ → In 3 find-chain-kinds.ps
 find-chain-below t =
-    and 2 find-chain-kinds.ps (falls 2 find-chain-kinds.ps _<_ μ-find-chain t) find-chain.Pre
+    and 3 find-chain-kinds.ps (falls 3 find-chain-kinds.ps _<_ μ-find-chain t) find-chain.Pre
 
 find-chain-record-at-requires : (t : ℕ) → find-chain-lts.Need-record-at-requires (
   record-at-reads.Asked,
@@ -39,7 +39,7 @@ find-chain-record-at-requires : (t : ℕ) → find-chain-lts.Need-record-at-requ
   find-chain-below t,
   find-chain.Post,
 ) (find-chain-at t) find-chain.Post
-find-chain-record-at-requires t c κs = c .before .before .pre .1 .0 .class
+find-chain-record-at-requires t c κs = (c .before .before .args .end, c .before .before .pre .1 .0 .class)
 
 find-chain-set-link-requires : (t : ℕ) → find-chain-lts.Need-set-link-requires (
   record-at-reads.Asked,
@@ -51,7 +51,7 @@ find-chain-set-link-requires : (t : ℕ) → find-chain-lts.Need-set-link-requir
   find-chain-below t,
   find-chain.Post,
 ) (find-chain-at t) find-chain.Post
-find-chain-set-link-requires t c κs = (c .before .before .before .before .pre .1 .1, chains.room-inside (now (c .before .before .before .before .args .f)) (now (c .before .before .before .before .args .s)) (c .before .before .before .before .args .i) (c .before .before .before .before .args .h) (c .before .before .before .before .args .n) (c .before .before .before .before .pre .1 .0))
+find-chain-set-link-requires t c κs = (c .before .before .before .before .pre .1 .1 .0, chains.room-inside (now (c .before .before .before .before .args .f)) (now (c .before .before .before .before .args .s)) (c .before .before .before .before .args .end) (c .before .before .before .before .args .i) (c .before .before .before .before .args .h) (c .before .before .before .before .args .n) (c .before .before .before .before .pre .1 .0))
 
 find-chain-kind0-parent-requires : (t : ℕ) → find-chain-lts.Need-kind0-parent-requires (
   record-at-reads.Asked,
@@ -63,7 +63,7 @@ find-chain-kind0-parent-requires : (t : ℕ) → find-chain-lts.Need-kind0-paren
   find-chain-below t,
   find-chain.Post,
 ) (find-chain-at t) find-chain.Post
-find-chain-kind0-parent-requires t c κs = c .before .before .before .before .before .pre .1 .0 .class
+find-chain-kind0-parent-requires t c κs = ((c .before .before .before .before .before .args .end, c .before .before .before .before .before .pre .1 .0 .class), (c .before .before .before .before .before .pre .1 .1 .1, chains.room-below (now (c .before .before .before .before .before .args .f)) (now (c .before .before .before .before .before .args .s)) (c .before .before .before .before .before .args .end) (c .before .before .before .before .before .args .i) (c .before .before .before .before .before .args .h) (c .before .before .before .before .before .args .n) (c .before .before .before .before .before .pre .1 .0)))
 
 find-chain-enum-known-d : (t : ℕ) → find-chain-lts.Need-enum-known-d (
   record-at-reads.Asked,
@@ -87,7 +87,7 @@ find-chain-add-find-chain : (t : ℕ) → find-chain-lts.Need-add-find-chain (
   find-chain-below t,
   find-chain.Post,
 ) (find-chain-at t) find-chain.Post
-find-chain-add-find-chain t c = omega (arith, chains.room-inside (now (c .before .before .before .before .before .before .before .before .before .before .before .args .f)) (now (c .before .before .before .before .before .before .before .before .before .before .before .args .s)) (c .before .before .before .before .before .before .before .before .before .before .before .args .i) (c .before .before .before .before .before .before .before .before .before .before .before .args .h) (c .before .before .before .before .before .before .before .before .before .before .before .args .n) (c .before .before .before .before .before .before .before .before .before .before .before .pre .1 .0))
+find-chain-add-find-chain t c = omega (arith, chains.room-inside (now (c .before .before .before .before .before .before .before .before .before .before .before .args .f)) (now (c .before .before .before .before .before .before .before .before .before .before .before .args .s)) (c .before .before .before .before .before .before .before .before .before .before .before .args .end) (c .before .before .before .before .before .before .before .before .before .before .before .args .i) (c .before .before .before .before .before .before .before .before .before .before .before .args .h) (c .before .before .before .before .before .before .before .before .before .before .before .args .n) (c .before .before .before .before .before .before .before .before .before .before .before .pre .1 .0))
 
 find-chain-find-chain-requires : (t : ℕ) → find-chain-lts.Need-find-chain-requires (
   record-at-reads.Asked,
@@ -99,7 +99,7 @@ find-chain-find-chain-requires : (t : ℕ) → find-chain-lts.Need-find-chain-re
   find-chain-below t,
   find-chain.Post,
 ) (find-chain-at t) find-chain.Post
-find-chain-find-chain-requires t c κs = (omega (arith, c .before .before .before .before .before .before .before .before .before .before .before .pre .0, chains.room-inside (now (c .before .before .before .before .before .before .before .before .before .before .before .args .f)) (now (c .before .before .before .before .before .before .before .before .before .before .before .args .s)) (c .before .before .before .before .before .before .before .before .before .before .before .args .i) (c .before .before .before .before .before .before .before .before .before .before .before .args .h) (c .before .before .before .before .before .before .before .before .before .before .before .args .n) (c .before .before .before .before .before .before .before .before .before .before .before .pre .1 .0)), (chains.room-above (now (c .before .before .before .before .before .before .before .before .before .before .before .args .f)) (now (c .before .before .before .before .before .before .before .before .before .before .before .args .s)) (c .before .before .before .before .before .before .before .before .before .before .before .args .i) (c .before .before .before .before .before .before .before .before .before .before .before .args .h) (c .before .before .before .before .before .before .before .before .before .before .before .args .n) (c .before .before .before .before .before .before .before .before .before .before .before .pre .1 .0) (c .before .before .before .d .given .0 .0) (subst (λ (v : ClassFound). Kind0ParentIs (now (c .before .before .before .before .before .before .before .before .before .before .before .args .f)) (now (c .before .before .before .before .before .before .before .before .before .before .before .args .s)) (c .before .before .before .before .before .before .before .before .before .before .before .args .h) (c .before .before .before .before .before .before .before .before .before .before .before .args .n) v) (c .before .before .before .d .given .1) (c .before .before .before .before .before .kind0-parent .ensures)), chains.mid-size (now (c .before .before .before .before .before .before .before .before .before .before .before .args .f)) (now (c .before .before .before .before .before .before .before .before .before .before .before .args .s)) (c .before .before .before .before .before .before .before .before .before .before .before .args .i) (c .before .before .before .before .before .before .before .before .before .before .before .args .h) (c .before .before .before .before .before .before .before .before .before .before .before .args .n) (c .before .before .before .before .before .before .before .before .before .before .before .pre .1 .0) (c .before .before .before .before .before .before .before .before .record-at .result) (c .before .before .before .before .before .before .before .before .record-at .ensures) (now (c .before .before .before .before .before .before .before .before .before .before .before .args .chain)) _ (c .before .before .before .before .before .before .before .before .before .before .before .pre .1 .1) (c .before .before .before .before .before .before .set-link .ensures)))
+find-chain-find-chain-requires t c κs = (omega (arith, c .before .before .before .before .before .before .before .before .before .before .before .pre .0, chains.room-inside (now (c .before .before .before .before .before .before .before .before .before .before .before .args .f)) (now (c .before .before .before .before .before .before .before .before .before .before .before .args .s)) (c .before .before .before .before .before .before .before .before .before .before .before .args .end) (c .before .before .before .before .before .before .before .before .before .before .before .args .i) (c .before .before .before .before .before .before .before .before .before .before .before .args .h) (c .before .before .before .before .before .before .before .before .before .before .before .args .n) (c .before .before .before .before .before .before .before .before .before .before .before .pre .1 .0)), (chains.room-above (now (c .before .before .before .before .before .before .before .before .before .before .before .args .f)) (now (c .before .before .before .before .before .before .before .before .before .before .before .args .s)) (c .before .before .before .before .before .before .before .before .before .before .before .args .end) (c .before .before .before .before .before .before .before .before .before .before .before .args .i) (c .before .before .before .before .before .before .before .before .before .before .before .args .h) (c .before .before .before .before .before .before .before .before .before .before .before .args .n) (c .before .before .before .before .before .before .before .before .before .before .before .pre .1 .0) (c .before .before .before .d .given .0 .0) (subst (λ (v : ClassFound). Kind0ParentIs (now (c .before .before .before .before .before .before .before .before .before .before .before .args .f)) (now (c .before .before .before .before .before .before .before .before .before .before .before .args .s)) (c .before .before .before .before .before .before .before .before .before .before .before .args .h) (c .before .before .before .before .before .before .before .before .before .before .before .args .n) v) (c .before .before .before .d .given .1) (c .before .before .before .before .before .kind0-parent .ensures)), (chains.mid-size (now (c .before .before .before .before .before .before .before .before .before .before .before .args .f)) (now (c .before .before .before .before .before .before .before .before .before .before .before .args .s)) (c .before .before .before .before .before .before .before .before .before .before .before .args .end) (c .before .before .before .before .before .before .before .before .before .before .before .args .i) (c .before .before .before .before .before .before .before .before .before .before .before .args .h) (c .before .before .before .before .before .before .before .before .before .before .before .args .n) (c .before .before .before .before .before .before .before .before .before .before .before .pre .1 .0) (c .before .before .before .before .before .before .before .before .record-at .result) (c .before .before .before .before .before .before .before .before .record-at .ensures) (now (c .before .before .before .before .before .before .before .before .before .before .before .args .chain)) _ (c .before .before .before .before .before .before .before .before .before .before .before .pre .1 .1 .0) (c .before .before .before .before .before .before .set-link .ensures), c .before .before .before .before .before .before .before .before .before .before .before .pre .1 .1 .1)))
 
 find-chain-enum-told : (t : ℕ) → find-chain-lts.Need-enum-told (
   record-at-reads.Asked,
@@ -123,7 +123,7 @@ find-chain-add-result : (t : ℕ) → find-chain-lts.Need-add-result (
   find-chain-below t,
   find-chain.Post,
 ) (find-chain-at t) find-chain.Post
-find-chain-add-result t c = omega (arith, chains.room-inside (now (c .before .before .before .before .before .before .before .before .args .f)) (now (c .before .before .before .before .before .before .before .before .args .s)) (c .before .before .before .before .before .before .before .before .args .i) (c .before .before .before .before .before .before .before .before .args .h) (c .before .before .before .before .before .before .before .before .args .n) (c .before .before .before .before .before .before .before .before .pre .1 .0))
+find-chain-add-result t c = omega (arith, chains.room-inside (now (c .before .before .before .before .before .before .before .before .args .f)) (now (c .before .before .before .before .before .before .before .before .args .s)) (c .before .before .before .before .before .before .before .before .args .end) (c .before .before .before .before .before .before .before .before .args .i) (c .before .before .before .before .before .before .before .before .args .h) (c .before .before .before .before .before .before .before .before .args .n) (c .before .before .before .before .before .before .before .before .pre .1 .0))
 
 find-chain-returns : (t : ℕ) → find-chain-lts.Need-returns (
   record-at-reads.Asked,
@@ -135,7 +135,7 @@ find-chain-returns : (t : ℕ) → find-chain-lts.Need-returns (
   find-chain-below t,
   find-chain.Post,
 ) (find-chain-at t) find-chain.Post
-find-chain-returns t c = chains.chain-more (now (c .before .before .before .before .before .before .before .before .before .before .before .before .args .f)) (now (c .before .before .before .before .before .before .before .before .before .before .before .before .args .s)) (c .before .before .before .before .before .before .before .before .before .before .before .before .args .i) (c .before .before .before .before .before .before .before .before .before .before .before .before .args .h) (c .before .before .before .before .before .before .before .before .before .before .before .before .args .n) (c .before .before .before .before .before .before .before .before .before .before .before .before .pre .1 .0) (c .before .before .before .before .before .before .before .before .before .record-at .result) (c .before .before .before .before .before .before .before .before .before .record-at .ensures) (now (c .before .before .before .before .before .before .before .before .before .before .before .before .args .chain)) _ (c .before .before .before .before .before .before .before .before .before .before .before .before .pre .1 .1) (c .before .before .before .before .before .before .before .set-link .ensures) (c .before .before .before .before .d .given .0 .0) (subst (λ (v : ClassFound). Kind0ParentIs (now (c .before .before .before .before .before .before .before .before .before .before .before .before .args .f)) (now (c .before .before .before .before .before .before .before .before .before .before .before .before .args .s)) (c .before .before .before .before .before .before .before .before .before .before .before .before .args .h) (c .before .before .before .before .before .before .before .before .before .before .before .before .args .n) v) (c .before .before .before .before .d .given .1) (c .before .before .before .before .before .before .kind0-parent .ensures)) _ (c .find-chain .result) (c .find-chain .ensures .0) (c .find-chain .ensures .1)
+find-chain-returns t c = chains.chain-more (now (c .before .before .before .before .before .before .before .before .before .before .before .before .args .f)) (now (c .before .before .before .before .before .before .before .before .before .before .before .before .args .s)) (c .before .before .before .before .before .before .before .before .before .before .before .before .args .end) (c .before .before .before .before .before .before .before .before .before .before .before .before .args .i) (c .before .before .before .before .before .before .before .before .before .before .before .before .args .h) (c .before .before .before .before .before .before .before .before .before .before .before .before .args .n) (c .before .before .before .before .before .before .before .before .before .before .before .before .pre .1 .0) (c .before .before .before .before .before .before .before .before .before .record-at .result) (c .before .before .before .before .before .before .before .before .before .record-at .ensures) (now (c .before .before .before .before .before .before .before .before .before .before .before .before .args .chain)) _ (c .before .before .before .before .before .before .before .before .before .before .before .before .pre .1 .1 .0) (c .before .before .before .before .before .before .before .set-link .ensures) (c .before .before .before .before .d .given .0 .0) (subst (λ (v : ClassFound). Kind0ParentIs (now (c .before .before .before .before .before .before .before .before .before .before .before .before .args .f)) (now (c .before .before .before .before .before .before .before .before .before .before .before .before .args .s)) (c .before .before .before .before .before .before .before .before .before .before .before .before .args .h) (c .before .before .before .before .before .before .before .before .before .before .before .before .args .n) v) (c .before .before .before .before .d .given .1) (c .before .before .before .before .before .before .kind0-parent .ensures)) _ (c .find-chain .result) (c .find-chain .ensures .0) (c .find-chain .ensures .1)
 
 find-chain-returns-2 : (t : ℕ) → find-chain-lts.Need-returns-2 (
   record-at-reads.Asked,
@@ -147,7 +147,7 @@ find-chain-returns-2 : (t : ℕ) → find-chain-lts.Need-returns-2 (
   find-chain-below t,
   find-chain.Post,
 ) (find-chain-at t) find-chain.Post
-find-chain-returns-2 t c = chains.chain-last (now (c .before .before .before .before .before .before .before .before .args .f)) (now (c .before .before .before .before .before .before .before .before .args .s)) (c .before .before .before .before .before .before .before .before .args .i) (c .before .before .before .before .before .before .before .before .args .h) (c .before .before .before .before .before .before .before .before .args .n) (c .before .before .before .before .before .before .before .before .pre .1 .0) (c .before .before .before .before .before .record-at .result) (c .before .before .before .before .before .record-at .ensures) (now (c .before .before .before .before .before .before .before .before .args .chain)) _ (c .before .before .before .before .before .before .before .before .pre .1 .1) (c .before .before .before .set-link .ensures) (subst (λ (v : ClassFound). Kind0ParentIs (now (c .before .before .before .before .before .before .before .before .args .f)) (now (c .before .before .before .before .before .before .before .before .args .s)) (c .before .before .before .before .before .before .before .before .args .h) (c .before .before .before .before .before .before .before .before .args .n) v) (c .enum-told .given .1) (c .before .before .kind0-parent .ensures))
+find-chain-returns-2 t c = chains.chain-last (now (c .before .before .before .before .before .before .before .before .args .f)) (now (c .before .before .before .before .before .before .before .before .args .s)) (c .before .before .before .before .before .before .before .before .args .end) (c .before .before .before .before .before .before .before .before .args .i) (c .before .before .before .before .before .before .before .before .args .h) (c .before .before .before .before .before .before .before .before .args .n) (c .before .before .before .before .before .before .before .before .pre .1 .0) (c .before .before .before .before .before .record-at .result) (c .before .before .before .before .before .record-at .ensures) (now (c .before .before .before .before .before .before .before .before .args .chain)) _ (c .before .before .before .before .before .before .before .before .pre .1 .1 .0) (c .before .before .before .set-link .ensures) (subst (λ (v : ClassFound). Kind0ParentIs (now (c .before .before .before .before .before .before .before .before .args .f)) (now (c .before .before .before .before .before .before .before .before .args .s)) (c .before .before .before .before .before .before .before .before .args .h) (c .before .before .before .before .before .before .before .before .args .n) v) (c .enum-told .given .1) (c .before .before .kind0-parent .ensures))
 
 pub +find-chain-spec : {M : Type 1} → statement M
 +find-chain-spec = close μ-find-chain λ t. find-chain-lts.spec (

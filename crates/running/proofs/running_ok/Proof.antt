@@ -13,10 +13,10 @@ use Rattle.running.proofs.running_ok.Statement.{statement}
 use Rattle.running.proofs.running_ok.Tie as tie
 
 abbrev Inv-loop : tie.InvT-loop
-Inv-loop f s end memo₀ base count b₀ memo b = whole.OwnLeft f s end count b × MemoBelow (base + b) memo
+Inv-loop f s end index memo₀ base count b₀ memo b = whole.OwnLeft f s end count b × MemoBelow (base + b) memo
 
 abbrev μ-loop : tie.MeasureT-loop
-μ-loop f s end memo₀ base count b₀ memo b = count - b
+μ-loop f s end index memo₀ base count b₀ memo b = count - b
 
 classes-at-requires : tie.Need-classes-at-requires Inv-loop μ-loop
 classes-at-requires c κs = whole.judged-reads (now (c .before .before .args .f)) (now (c .before .before .args .s)) (c .before .before .args .end) (c .before .before .pre .0)
@@ -28,10 +28,10 @@ wide-requires : tie.Need-wide-requires Inv-loop μ-loop
 wide-requires c κs = search needs
 
 loop-holds : tie.Need-loop-holds Inv-loop μ-loop
-loop-holds c = (whole.own-start (now (c .before .before .before .before .before .args .f)) (now (c .before .before .before .before .before .args .s)) (c .before .before .before .before .before .args .end) (c .before .before .classes-at .result) (c .before .before .classes-at .ensures) (c .wide .result) (c .wide .ensures .0), whole.below-more (c .before .before .before .before .before .args .base) ((c .before .before .before .before .before .args .base) + 0) (now (c .before .before .before .before .before .args .memo)) (omega arith) (c .before .before .before .before .before .pre .1 .1 .0))
+loop-holds c = (whole.own-start (now (c .before .before .before .before .before .args .f)) (now (c .before .before .before .before .before .args .s)) (c .before .before .before .before .before .args .end) (c .before .before .classes-at .result) (c .before .before .classes-at .ensures) (c .wide .result) (c .wide .ensures .0), whole.below-more (c .before .before .before .before .before .args .base) ((c .before .before .before .before .before .args .base) + 0) (now (c .before .before .before .before .before .args .memo)) (omega arith) (c .before .before .before .before .before .pre .1 .1 .0 .0))
 
 own-class-passes-requires : tie.Need-own-class-passes-requires Inv-loop μ-loop
-own-class-passes-requires c κs = (whole.own-there′ (now (c .before .before .before .before .before .before .before .before .args .f)) (now (c .before .before .before .before .before .before .before .before .args .s)) (c .before .before .before .before .before .before .before .before .args .end) (c .before .before .before .wide .result) (c .before .before .loop .b) (c .before .before .loop .inv .0) (c .before .loop-test .taken) (c .before .before .before .before .before .before .before .before .pre .0), (c .before .before .loop .inv .1, (c .before .before .before .before .before .before .before .before .pre .1 .0, c .before .before .before .before .before .before .before .before .pre .1 .1 .1)))
+own-class-passes-requires c κs = (whole.own-there′ (now (c .before .before .before .before .before .before .before .before .args .f)) (now (c .before .before .before .before .before .before .before .before .args .s)) (c .before .before .before .before .before .before .before .before .args .end) (c .before .before .before .wide .result) (c .before .before .loop .b) (c .before .before .loop .inv .0) (c .before .loop-test .taken) (c .before .before .before .before .before .before .before .before .pre .0), (c .before .before .loop .inv .1, ((c .before .before .before .before .before .before .before .before .pre .1 .0, c .before .before .before .before .before .before .before .before .pre .1 .1 .0 .1), c .before .before .before .before .before .before .before .before .pre .1 .1 .1)))
 
 returns : tie.Need-returns Inv-loop μ-loop
 returns c = (whole.own-no (now (c .before .before .before .before .before .before .before .before .before .before .args .f)) (now (c .before .before .before .before .before .before .before .before .before .before .args .s)) (c .before .before .before .before .before .before .before .before .before .before .args .end) (c .before .before .before .before .before .wide .result) (c .before .before .before .before .loop .b) (c .before .before .before .before .loop .inv .0) (c .before .before .before .loop-test .taken) (subst (λ (v : Bool). OwnPasses (now (c .before .before .before .before .before .before .before .before .before .before .args .f)) (now (c .before .before .before .before .before .before .before .before .before .before .args .s)) (c .before .before .before .before .before .before .before .before .before .before .args .end) (c .before .before .before .before .loop .b) v) (not-true (c .before .own-class-passes .result) (c .if1 .taken)) (c .before .own-class-passes .ensures .0)), whole.memo-after (now (c .before .before .before .before .before .before .before .before .before .before .args .f)) (now (c .before .before .before .before .before .before .before .before .before .before .args .s)) (c .before .before .before .before .before .before .before .before .before .before .args .end) (c .before .before .before .before .before .wide .result) (c .before .before .before .before .loop .b) (c .before .before .before .before .loop .inv .0) (c .before .before .before .before .before .before .before .before .before .before .args .base) ((c .before .before .before .before .before .before .before .before .before .before .args .base) + c .before .before .before .before .loop .b + 1) _ (omega (arith, c .before .before .before .loop-test .taken)) (c .before .own-class-passes .ensures .1))
