@@ -46,11 +46,11 @@
  * Peak stack in bytes, measured on x86-64:
  *
  *     loader_fresh      259
- *     loader_create     104,059
- *     loader_delete     104,043
- *     loader_load       104,155
- *     loader_remove     103,867
- *     loader_query      104,667
+ *     loader_create     85,627
+ *     loader_delete     85,611
+ *     loader_load       85,723
+ *     loader_remove     85,435
+ *     loader_query      86,235
  */
 #ifndef LOADER_H
 #define LOADER_H

@@ -6,8 +6,8 @@ use mathlib.Core.Bool.{Bool, true, false, _&&_, _||_, not}
 use mathlib.Core.List.{List, [], _∷_}
 use mathlib.Core.Option.{Option, none, some}
 use lib.Dec.{eqb}
-use lib.ListN.{length, getD}
-use Rattle.rules.specs.Bytes.{Bytes, at, someAnd, u1, aid, _andThen_}
+use lib.ListN.{length, take, drop, getD, length-drop}
+use Rattle.rules.specs.Bytes.{Bytes, pick, at, someAnd, u1, aid, _andThen_}
 use Rattle.rules.specs.Package.{Limits, storeLimits, mostImports, Reference, Method, Class, Package, method, class, readFile}
 use Rattle.rules.specs.Classes.{Installed, installed, ClassAt, packageNumbered, recordOf, declared}
 use Rattle.rules.specs.Questions.{Named, referenceNames, callForm}
@@ -26,8 +26,11 @@ use Rattle.codes.specs.declared.Calling.the-variants as kinds
 use Rattle.rules.specs.Store.{Entry}
 use Rattle.homes.specs.Homes.{Imports, fileOf, HomeIs, own, HomeThere, ClassPlaced}
 use Rattle.homes.specs.Found.{homeAt, ImportHomes}
+use Rattle.homes.specs.declared.Home.{Home}
+use Rattle.store.specs.Entries.{part}
+use Rattle.rules.specs.Code.{u2At}
 use Rattle.calls.specs.Named.{Judged, OfJudged, homeOf, ImportCount, NamedIs, NumbersName, ReferenceIs, OfNamed, SeenIs, FormIs, WellIs, CallNamedIs}
-use Rattle.calls.specs.Tables.{PackFits}
+use Rattle.calls.specs.Tables.{PackFits, PlacesFit}
 use Rattle.calls.specs.declared.NamedFound.{NamedFound}
 use Rattle.calls.specs.declared.NamedFound.the-variants as found
 
@@ -141,6 +144,29 @@ module _ {f s : Bytes} {end : ℕ} (t : List ℕ) (i k : ℕ) (a : ReferencesAt 
 pub pack-fits : {f s : Bytes} {end : ℕ} (t : List ℕ) (k : ℕ) (r : NamedFound) → Judged f s end → ReferenceIs f s end t k r → PackFits r
 pack-fits {f} {s} t k (found.Method p c m) g q = let z = q (g .0) (g .1) (g .2) in omega (arith, z .2 .number, imports-few (storeLimits s) f (g .1 .pack) (g .2 .setting .reads))
 pack-fits t k found.Nothing g q = tt
+
+-- the places of what is named lie in a file, and a file has fewer than 65,536 bytes
+take-short : (n : ℕ) (xs : Bytes) → length (take n xs) ≤ length xs
+take-short zero xs = omega arith
+take-short (suc n) [] = omega arith
+take-short (suc n) (x ∷ xs) = let h = take-short n xs in omega arith
+
+file-short : (f s : Bytes) (h : Home) → length f ≤ 65535 → length s ≤ 65535 → length (fileOf f s h) ≤ 65535
+file-short f s h a b = go (eqb (h .from) 0)
+  where
+    go : (z : Bool) → length (pick z f (part s (h .from) (h .to))) ≤ 65535
+    go true = a
+    go false = omega (arith, take-short (h .to - h .from) (drop (h .from) s), length-drop (h .from) s)
+
+pub file-size : {f s : Bytes} {end : ℕ} → Judged f s end → (6 < length f) × (u2At f 5 ≡ length f)
+file-size {f} {s} g = let t = file-parts (storeLimits s) f (g .1 .pack) (g .2 .setting .reads) in (omega (arith, t .named .from), t .size)
+
+pub places-fit : {f s : Bytes} {end : ℕ} (t : List ℕ) (k : ℕ) (r : NamedFound) → length f ≤ 65535 → length s ≤ 65535 → Judged f s end → ReferenceIs f s end t k r → PlacesFit r
+places-fit {f} {s} {end} t k (found.Method p c m) a b g q =
+    let z = q (g .0) (g .1) (g .2) in
+    let l = file-short f s (homeOf end t p) a b in
+    (omega (arith, l, z .2 .declaring .from), omega (arith, l, z .2 .method .from))
+places-fit t k found.Nothing a b g q = tt
 
 -- visible if imported
 module _ {g : Bytes} {m : ℕ} {b : Bool} where

@@ -3,7 +3,8 @@
 -- namedLength    == three places for each reference: one more than the package number, the place of the class record, that of the
 --                   method; 0 in the first where the reference names nothing
 -- toldBy t k     == what the table tells of reference k
--- kept t k r     == the table after r was written for reference k; PackFits r == its package number is at most the greatest
+-- kept t k r     == the table after r was written for reference k; PackFits r == its package number is at most the greatest;
+--                   PlacesFit r == its places are numbers of two bytes
 -- NamesTo f s end h i t == the table tells what each reference below i names, and nothing of the others
 -- NamedTable f s end h t == it tells what each reference names
 use Prim.Native.Nat.{ℕ, _+_, _-_, _*_, _<_, _≤_}
@@ -29,6 +30,11 @@ toldBy t k = pick (eqb (getD t (3 * k) 0) 0) Nothing (Method (getD t (3 * k) 0 -
 abbrev pub PackFits : NamedFound → Type 0
 PackFits (Method p c m) = p ≤ mostImports
 PackFits Nothing = Unit
+
+-- the places are below 65,536
+abbrev pub PlacesFit : NamedFound → Type 0
+PlacesFit (Method p c m) = (c < 65536) × (m < 65536)
+PlacesFit Nothing = Unit {0}
 
 -- the table after an answer was written for reference k
 abbrev pub kept : List ℕ → ℕ → NamedFound → List ℕ

@@ -16,6 +16,7 @@ use references::name_references;
 use references::named_at;
 use references::named_well;
 ghost use mathlib.Core.Path.{_≡_};
+ghost use Prim.Native.Nat.{_≤_};
 ghost use lib.ListN.{length};
 ghost use Rattle.codes.specs.Table.{TableIs};
 ghost use Rattle.policies.specs.Numbers.{tableSize};
@@ -67,7 +68,7 @@ fn call_number<'a>(
     s: &'a [u8],
     end: usize,
     homes: &[usize; 48],
-    named: &[usize; 3072],
+    named: &[u16; 3072],
     map: &[u8; 512],
     loading: usize,
     at: usize,
@@ -101,7 +102,7 @@ fn method_calls<'a>(
     end: usize,
     table: &[u8; 256],
     homes: &[usize; 48],
-    named: &[usize; 3072],
+    named: &[u16; 3072],
     map: &[u8; 512],
     loading: usize,
     at: usize,
@@ -139,7 +140,7 @@ fn class_calls<'a>(
     end: usize,
     table: &[u8; 256],
     homes: &[usize; 48],
-    named: &[usize; 3072],
+    named: &[u16; 3072],
     map: &[u8; 512],
     loading: usize,
     at: usize,
@@ -173,7 +174,7 @@ fn file_calls<'a>(
     end: usize,
     table: &[u8; 256],
     homes: &[usize; 48],
-    named: &[usize; 3072],
+    named: &[u16; 3072],
     map: &[u8; 512],
     loading: usize,
 ) -> u8
@@ -214,9 +215,10 @@ pub fn calls_ok<'a>(
     requires { ⌜ CodesSplit (now f) ⌝ }
     requires { ⌜ TableIs (now table) ⌝ }
     requires { ⌜ ImportHomes (now f) (now s) end (now homes) ⌝ }
+    requires { ⌜ length (now s) ≤ 65535 ⌝ }
     ensures { λ r. ⌜ CallsNumberIs (now (f .entry)) (now (s .entry)) end (now (domain .entry)) r ⌝ }
 {
-    let mut named = [0usize; 3072];
+    let mut named = [0u16; 3072];
     name_references(f, s, end, homes, &mut named);
     let mut map = [0u8; 512];
     let loading = map_packages(f, s, end, domain, homes, &mut map);

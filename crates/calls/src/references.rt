@@ -13,7 +13,7 @@ ghost use Rattle.rules.specs.Package.{mostImports, mostReferences};
 ghost use Rattle.files.specs.Say.{ClassThere, MethodThere, ReferencesAt};
 ghost use Rattle.homes.specs.Found.{tableLength, ImportHomes};
 ghost use Rattle.calls.specs.Named.{Judged, homeOf, ImportCount, NumbersName, ReferenceIs, SeenIs, FormIs, WellIs};
-ghost use Rattle.calls.specs.Tables.{namedLength, toldBy, PackFits, kept, NamesTo, NamedTable};
+ghost use Rattle.calls.specs.Tables.{namedLength, toldBy, PackFits, PlacesFit, kept, NamesTo, NamedTable};
 
 // The home of the package that a number stands for in the file being judged: 0 its own, k that of its k-th import.
 pub fn home_at(end: usize, homes: &[usize; 48], p: usize) -> Home
@@ -86,18 +86,25 @@ fn name_reference<'a>(
     }
 }
 
+// A number of two bytes.
+fn long(x: u16) -> usize
+    ensures { λ r. ⌜ (r ≡ x) × (r < 65536) ⌝ }
+{
+    x as usize
+}
+
 // Writes what a reference names to the table, where there are three places for each: 0 where it names nothing, else one more than the
 // package number, the place of the class record and that of the method.
-fn keep(named: &mut [usize; 3072], index: usize, found: NamedFound)
-    requires { ⌜ (length (now named) ≡ namedLength) × (index < mostReferences) × PackFits found ⌝ }
+fn keep(named: &mut [u16; 3072], index: usize, found: NamedFound)
+    requires { ⌜ (length (now named) ≡ namedLength) × (index < mostReferences) × PackFits found × PlacesFit found ⌝ }
     ensures { λ _. ⌜ now (named .exit) ≡ kept (now (named .entry)) index found ⌝ }
 {
     match found {
         NamedFound::Method(p, c, m) => {
             let i = 3 * index;
-            named[i] = p + 1;
-            named[i + 1] = c;
-            named[i + 2] = m;
+            named[i] = (p + 1) as u16;
+            named[i + 1] = c as u16;
+            named[i + 2] = m as u16;
         }
         NamedFound::Nothing => {}
     }
@@ -109,13 +116,15 @@ pub fn name_references<'a>(
     s: &'a [u8],
     end: usize,
     homes: &[usize; 48],
-    named: &mut [usize; 3072],
+    named: &mut [u16; 3072],
 )
     requires { ⌜ Judged (now f) (now s) end ⌝ }
     requires { ⌜ ImportHomes (now f) (now s) end (now homes) ⌝ }
     requires { ⌜ NamesTo (now f) (now s) end (now homes) 0 (now named) ⌝ }
+    requires { ⌜ length (now s) ≤ 65535 ⌝ }
     ensures { λ _. ⌜ NamedTable (now (f .entry)) (now (s .entry)) end (now (homes .entry)) (now (named .exit)) ⌝ }
 {
+    let size = u2_at(f, 5);
     let count = wide(f[files::imports_at(f)]);
     let references = files::references_at(f);
     let total = u2_at(f, references);
@@ -128,7 +137,7 @@ pub fn name_references<'a>(
 }
 
 // What the reference with a number names, by the table.
-pub fn named_at(named: &[usize; 3072], index: usize) -> NamedFound
+pub fn named_at(named: &[u16; 3072], index: usize) -> NamedFound
     requires { ⌜ length (now named) ≡ namedLength ⌝ }
     ensures { λ r. ⌜ r ≡ toldBy (now (named .entry)) index ⌝ }
 {
@@ -136,11 +145,11 @@ pub fn named_at(named: &[usize; 3072], index: usize) -> NamedFound
         return NamedFound::Nothing;
     }
     let i = 3 * index;
-    let p = named[i];
+    let p = long(named[i]);
     if p == 0 {
         return NamedFound::Nothing;
     }
-    NamedFound::Method(p - 1, named[i + 1], named[i + 2])
+    NamedFound::Method(p - 1, long(named[i + 1]), long(named[i + 2]))
 }
 
 // Is the method at m visible, if imported?

@@ -9,10 +9,10 @@ use Rattle.calls.proofs.calls_ok.Statement.{statement}
 use Rattle.calls.proofs.calls_ok.Tie as tie
 
 name-references-requires : tie.Need-name-references-requires
-name-references-requires c κs = (c .before .before .before .before .pre .0, (c .before .before .before .before .pre .1 .1 .1, tables.names-none 3072 refl))
+name-references-requires c κs = (c .before .before .before .before .pre .0, (c .before .before .before .before .pre .1 .1 .1 .0, (tables.names-none 3072 refl, c .before .before .before .before .pre .1 .1 .1 .1)))
 
 map-packages-requires : tie.Need-map-packages-requires
-map-packages-requires c κs = (c .before .before .before .before .before .before .pre .0, (c .before .before .before .before .before .before .pre .1 .1 .1, length-replicate {A = ℕ} 512 0))
+map-packages-requires c κs = (c .before .before .before .before .before .before .pre .0, (c .before .before .before .before .before .before .pre .1 .1 .1 .0, length-replicate {A = ℕ} 512 0))
 
 file-calls-requires : tie.Need-file-calls-requires
 file-calls-requires c κs = (c .before .before .before .before .before .before .before .before .before .pre .0, (c .before .before .before .before .before .before .before .before .before .pre .1 .0, (c .before .before .before .before .before .before .before .before .before .pre .1 .1 .0, (c .before .before .before .before .name-references .ensures, c .before .before .map-packages .ensures .1))))

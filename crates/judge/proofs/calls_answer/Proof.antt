@@ -14,7 +14,7 @@ use Rattle.judge.proofs.calls_answer.Statement.{statement}
 use Rattle.judge.proofs.calls_answer.Tie as tie
 
 calls-ok-requires : tie.Need-calls-ok-requires
-calls-ok-requires c κs = (stages.judged (now (c .before .before .before .args .s)) (c .before .before .before .args .end) (now (c .before .before .before .args .domain)) (now (c .before .before .before .args .file)) (c .before .before .before .pre .0 .0), (c .before .before .before .pre .0 .1, c .before .before .before .pre .1 .1 .0))
+calls-ok-requires c κs = (stages.judged (now (c .before .before .before .args .s)) (c .before .before .before .args .end) (now (c .before .before .before .args .domain)) (now (c .before .before .before .args .file)) (c .before .before .before .pre .0 .0), (c .before .before .before .pre .0 .1, (c .before .before .before .pre .1 .1 .0 .0, (c .before .before .before .pre .1 .1 .0 .1, c .before .before .before .pre .1 .0))))
 
 cast-t13 : tie.Need-cast-t13
 cast-t13 c = omega (arith, stages.calls-small (now (c .before .before .before .before .before .args .s)) (c .before .before .before .before .before .args .end) (now (c .before .before .before .before .before .args .domain)) (now (c .before .before .before .before .before .args .file)) (c .before .calls-ok .result) (c .before .before .before .before .before .pre .0 .0) (c .before .calls-ok .ensures))

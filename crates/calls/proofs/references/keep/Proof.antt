@@ -1,8 +1,7 @@
 -- `calls::references::keep` meets its contract: three places of the table, or none. Assumes nothing.
-use Rattle.calls.specs.Tables.{PackFits, kept}
-use mathlib.Core.Path.{ap}
 use denote.Ref.{now}
-use mathlib.Core.Path.{sym, subst}
+use Rattle.calls.specs.Tables.{PackFits, PlacesFit, kept}
+use mathlib.Core.Path.{sym, ap, subst}
 use native.Mathlib.Omega.{arith}
 use borrow.Author.Needs.{needs}
 use Rattle.calls.proofs.references.keep.Statement.{statement}
@@ -17,11 +16,17 @@ mul-i c = omega (arith, c .before .before .before .pre .0, c .before .before .be
 add-named : tie.Need-add-named
 add-named c = omega (arith, (subst PackFits (c .before .found .given .1) (c .before .before .before .pre .2)))
 
+cast-named : tie.Need-cast-named
+cast-named c = omega (arith, (subst PackFits (c .before .found .given .1) (c .before .before .before .pre .2)))
+
 mul-named : tie.Need-mul-named
 mul-named c = omega (arith, c .before .before .before .pre .0, c .before .before .before .pre .1)
 
 element-write-named : tie.Need-element-write-named
 element-write-named c = omega (arith, c .before .before .before .pre .0, c .before .before .before .pre .1)
+
+cast-named-2 : tie.Need-cast-named-2
+cast-named-2 c = omega (arith, (subst PlacesFit (c .before .found .given .1) (c .before .before .before .pre .3)) .0)
 
 add-named-2 : tie.Need-add-named-2
 add-named-2 c = omega (arith, c .before .before .before .pre .0, c .before .before .before .pre .1)
@@ -31,6 +36,9 @@ mul-named-2 c = omega (arith, c .before .before .before .pre .0, c .before .befo
 
 element-write-named-2 : tie.Need-element-write-named-2
 element-write-named-2 c = omega (arith, c .before .before .before .pre .0, c .before .before .before .pre .1)
+
+cast-named-3 : tie.Need-cast-named-3
+cast-named-3 c = omega (arith, (subst PlacesFit (c .before .found .given .1) (c .before .before .before .pre .3)) .1)
 
 add-named-3 : tie.Need-add-named-3
 add-named-3 c = omega (arith, c .before .before .before .pre .0, c .before .before .before .pre .1)
@@ -57,11 +65,14 @@ keep-spec =
     enum-known-found
     mul-i
     add-named
+    cast-named
     mul-named
     element-write-named
+    cast-named-2
     add-named-2
     mul-named-2
     element-write-named-2
+    cast-named-3
     add-named-3
     mul-named-3
     element-write-named-3
