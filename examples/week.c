@@ -15,6 +15,7 @@
 #include <string.h>
 
 #include "loader.h"
+#include "loader_text.h"
 #include "packages.h"
 
 /* The simulated card's store has as many bytes, so both count the same used. */
@@ -44,31 +45,6 @@ static uint8_t before[CARD_BYTES];
 static bool telling = true;
 static bool as_expected = true;
 
-static const char *const meaning[] = {
-    [LOADER_DONE] = "done",
-    [LOADER_STORE_SIZE] = "the store has not 64 to 65,535 bytes",
-    [LOADER_STORE_UNSOUND] = "the store is not sound",
-    [LOADER_AID_LENGTH] = "an AID has not 5 to 16 bytes",
-    [LOADER_DOMAIN_EXISTS] = "the domain exists already",
-    [LOADER_DOMAIN_UNKNOWN] = "the domain has not been created",
-    [LOADER_DOMAIN_OCCUPIED] = "a package lies in the domain",
-    [LOADER_PACKAGE_UNKNOWN] = "the package is not installed",
-    [LOADER_PACKAGE_IMPORTED] = "another package imports it",
-    [LOADER_METHOD_UNKNOWN] = "the package has no such class or method",
-    [LOADER_FILE_MARK] = "the file does not begin with mark and version",
-    [LOADER_FILE_LAYOUT] = "the file does not read as laid out",
-    [LOADER_PACKAGE_EXISTS] = "the package is installed already",
-    [LOADER_IMPORT_MISSING] = "an import is not installed",
-    [LOADER_CLASS_PARENTS] = "a class has a parent that it may not have, or is too deep",
-    [LOADER_METHOD_FORM] = "a method's name is taken, or its form is not that of its class",
-    [LOADER_CODE_SPLIT] = "a code does not split into instructions",
-    [LOADER_BRANCH_TARGET] = "a branch goes where no instruction starts",
-    [LOADER_CALL_REFERENCE] = "a call names no method that it may call",
-    [LOADER_CALL_POLICY] = "a method called does not allow all that it must",
-    [LOADER_RUNNING_POLICY] = "a method that runs does not allow all that it must",
-    [LOADER_STORE_FULL] = "the entry does not fit"
-};
-
 /* A sentence of the story. */
 static void say(const char *text)
 {
@@ -90,12 +66,6 @@ static void remember(struct store store)
     memcpy(before, store.bytes, store.length);
 }
 
-/* Used, as the store's bytes 5 and 6 say. */
-static unsigned used(struct store store)
-{
-    return store.bytes[5] * 256u + store.bytes[6];
-}
-
 /* A call with its answer: what was asked, number, used after it, remark. */
 static void row(struct store store, uint32_t answer, uint32_t expected, const char *remark,
                 const char *format, ...)
@@ -108,7 +78,7 @@ static void row(struct store store, uint32_t answer, uint32_t expected, const ch
     vsnprintf(asked, sizeof asked, format, arguments);
     va_end(arguments);
     if (number != LOADER_DONE) {
-        remark = number <= LOADER_STORE_FULL ? meaning[number] : "no number of the loader";
+        remark = loader_number_text(number);
         if (LOADER_FIGURE(answer) != 0 || memcmp(before, store.bytes, store.length) != 0) {
             unexpected(asked, "a refusal with a figure, or one that changed the store");
         }
@@ -117,7 +87,7 @@ static void row(struct store store, uint32_t answer, uint32_t expected, const ch
         unexpected(asked, remark);
     }
     if (telling) {
-        printf("  %-47s %2u   used %3u   %s\n", asked, (unsigned)number, used(store), remark);
+        printf("  %-47s %2u   used %3u   %s\n", asked, (unsigned)number, LOADER_USED(store.bytes), remark);
     }
 }
 
@@ -146,7 +116,7 @@ static void line(struct store store, char letter, const struct aid *aid, const s
 static void fresh(struct store store, uint32_t expected)
 {
     remember(store);
-    row(store, loader_fresh(store.bytes, store.length), expected, meaning[LOADER_DONE],
+    row(store, loader_fresh(store.bytes, store.length), expected, loader_number_text(LOADER_DONE),
         "fresh store of %u bytes", (unsigned)store.length);
 }
 
@@ -154,7 +124,7 @@ static void create(struct store store, const struct aid *domain, uint32_t expect
 {
     remember(store);
     row(store, loader_create(store.bytes, store.length, domain->bytes, domain->length), expected,
-        meaning[LOADER_DONE], "create domain %s", domain->name);
+        loader_number_text(LOADER_DONE), "create domain %s", domain->name);
     line(store, 'C', domain, NULL);
 }
 
@@ -162,7 +132,7 @@ static void delete_domain(struct store store, const struct aid *domain, uint32_t
 {
     remember(store);
     row(store, loader_delete(store.bytes, store.length, domain->bytes, domain->length), expected,
-        meaning[LOADER_DONE], "delete domain %s", domain->name);
+        loader_number_text(LOADER_DONE), "delete domain %s", domain->name);
     line(store, 'D', domain, NULL);
 }
 
@@ -170,7 +140,7 @@ static void remove_package(struct store store, const struct aid *package, uint32
 {
     remember(store);
     row(store, loader_remove(store.bytes, store.length, package->bytes, package->length), expected,
-        meaning[LOADER_DONE], "remove package %s", package->name);
+        loader_number_text(LOADER_DONE), "remove package %s", package->name);
     line(store, 'R', package, NULL);
 }
 

@@ -13,41 +13,15 @@ PATH="$PATH:${HOME:-/root}/.cargo/bin"
 
 seed=${1:-1}
 count=${2:-20000}
-out=target/differential
-library=${LOADER_LIBRARY:-target/staticlib/libloader.a}
-card=${CARD:-target/bin/card}
+test=differential out=target/differential
+. tests/lib/built.sh
 
-# fail WHAT [FILE]: says what went wrong, with what was written about it.
-fail() {
-    echo "differential: $1"
-    [ $# -lt 2 ] || cat "$2"
-    exit 1
-}
-
-# current FILE: it is there, and nothing that it is built from is newer.
-current() {
-    [ -f "$1" ] && [ -z "$(find crates crates.txt -newer "$1" | head -n 1)" ]
-}
-
-# run PROGRAM ARGUMENT..: a program of comparison/
-run() {
-    program=$1
-    shift
-    cargo run --offline --release -q --manifest-path comparison/Cargo.toml --bin "$program" -- "$@"
-}
-
-mkdir -p "$out" || exit 1
-
-if [ -z "${LOADER_LIBRARY:-}" ] && ! current "$library"; then
-    rt staticlib loader >"$out/staticlib.log" 2>&1 || fail "rt staticlib loader failed" "$out/staticlib.log"
-fi
+need_library
 LOADER_LIBRARY_DIR=$(CDPATH='' cd -- "$(dirname -- "$library")" && pwd) || fail "there is no $library"
 export LOADER_LIBRARY_DIR
 run differential "$seed" "$count" || fail "the library and the independent reader differ, or too little was reached"
 
-if [ -z "${CARD:-}" ] && ! current "$card"; then
-    rt check card >"$out/card.log" 2>&1 || fail "rt check card failed" "$out/card.log"
-fi
+need_card
 files=$((count / 20))
 run cards "$seed" "$files" "$card" || fail "the simulated card and the independent one differ"
 

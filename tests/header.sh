@@ -1,49 +1,66 @@
 #!/bin/sh
-# The C header: it compiles by itself as C99, C11 and C++17, has exactly one constant for each
-# number from 0 to 21 and no other, and the table in README.md has the same names.
+# header.sh: the C headers compile by themselves as C99, C11, C++98 and C++17, with other compilers at hand too, and where int has
+# 16 bits; each number from 0 to 21 has one constant; the static library exports the six operations and needs memset alone.
 #
 # Prints a line that begins with "ok", or what is wrong; exit status 0 only if all is right.
-# Writes only under target/.
 set -u
 CDPATH='' cd -- "$(dirname -- "$0")/.." || exit 1
+test=header out=target/header
+. tests/lib/built.sh
 
-out=target/header
-header=include/loader.h
-mkdir -p "$out" || exit 1
+# included twice, to try its guards too; each constant must fit where it is compared
+cat >"$out/alone.c" <<'C'
+#include "loader_text.h"
+#include "loader.h"
+#include "loader_text.h"
+#if LOADER_STORE_MOST != 65535u || LOADER_STORE_LEAST != 64u || LOADER_VERSION < 256u
+#error "a limit or the version is another"
+#endif
+extern unsigned used_of(const uint8_t *store);
+unsigned used_of(const uint8_t *store)
+{
+    return LOADER_USED(store);
+}
+C
 
-# compile COMPILER LANGUAGE STANDARD: included twice, to try its guard too.
-compile() {
-    printf '#include "loader.h"\n#include "loader.h"\n' |
-        "$1" -std="$3" -Wall -Wextra -Werror -pedantic -Iinclude -x "$2" -c - -o "$out/$3.o" || {
-        echo "header: $header does not compile as $3"
-        exit 1
-    }
+# alone NAME COMPILER WORDS..: the file by itself
+alone() {
+    name=$1
+    shift
+    "$@" -Wall -Wextra -Werror -pedantic -Iinclude -c "$out/alone.c" -o "$out/$name.o" >"$out/$name.log" 2>&1 ||
+        fail "the headers do not compile: $name" "$out/$name.log"
+    done=${done:+$done, }$name
 }
 
-compile gcc c c99
-compile gcc c c11
-compile g++ c++ c++17
+done=
+alone C99 gcc -std=c99
+alone C11 gcc -std=c11
+alone C++98 g++ -std=c++98 -x c++ -Wno-long-long
+alone C++17 g++ -std=c++17 -x c++
+alone text gcc -std=c99 -include include/loader_text.c
+# without a compiler for a machine of 16-bit int: the limits stay within 65,535 and no enumerator passes 32,767
+sed -n '/^enum /,/^};/s/.*= \([0-9][0-9]*\),\{0,1\}$/\1/p' include/loader.h | while read -r n; do
+    [ "$n" -le 32767 ] || echo "$n"
+done | grep . && fail "an enumerator does not fit an int of 16 bits"
+sed -n 's/^#define LOADER_[A-Z_]* \([0-9][0-9]*\)\(u*\)$/\1 \2/p' include/loader.h | while read -r n u; do
+    if [ "$u" != u ] || [ "$n" -gt 65535 ]; then echo "$n$u"; fi
+done | grep . && fail "a limit is no unsigned number of 16 bits"
+if command -v clang >/dev/null; then
+    alone clang clang -std=c99
+    if echo 'int x;' | clang --target=msp430 -x c -c - -o "$out/probe.o" 2>"$out/probe.log"; then
+        alone "16-bit int" clang --target=msp430 -std=c99
+        printf '#include "loader.h"\ntypedef char int_has_16_bits[sizeof(int) == 2 ? 1 : -1];\n' >"$out/sixteen.c"
+        clang --target=msp430 -Iinclude -c "$out/sixteen.c" -o "$out/sixteen.o" || fail "int has not 16 bits there"
+    fi
+fi
 
-# NUMBER NAME, in the header's order
-sed -n '/^enum loader_number {/,/^};/s/^ *\(LOADER_[A-Z_]*\) = \([0-9]*\),\{0,1\}$/\2 \1/p' "$header" >"$out/names"
-sed -n 's/^| *\([0-9][0-9]*\) *| *`\(LOADER_[A-Z_]*\)` *|.*/\1 \2/p' README.md >"$out/readme"
-i=0
-while [ "$i" -le 21 ]; do
-    echo "$i"
-    i=$((i + 1))
-done >"$out/numbers"
+sed -n '/^enum loader_number {/,/^};/s/^ *LOADER_[A-Z_]* = \([0-9]*\),\{0,1\}$/\1/p' include/loader.h >"$out/numbers"
+seq 0 21 | cmp -s - "$out/numbers" || fail "the numbers are not 0 to 21, each once" "$out/numbers"
 
-cut -d' ' -f1 "$out/names" | diff "$out/numbers" - || {
-    echo "header: the numbers are not 0 to 21, each once"
-    exit 1
-}
-cut -d' ' -f2 "$out/names" | sort | uniq -d | grep . && {
-    echo "header: a name stands for two numbers"
-    exit 1
-}
-diff "$out/names" "$out/readme" || {
-    echo "header: the table in README.md has other names or numbers"
-    exit 1
-}
+need_library
+nm -g "$library" | awk 'NF == 2 && $1 == "U" { print "needs " $2 } NF == 3 { print "has " $3 }' | sort >"$out/symbols"
+printf '%s\n' create delete fresh load query remove | sed 's/^/has loader_/' >"$out/symbols.expected"
+echo 'needs memset' >>"$out/symbols.expected"
+same "$out/symbols.expected" "$out/symbols"
 
-echo "ok header: C99, C11, C++17; 22 numbers, as in README.md"
+echo "ok header: $done; 22 numbers; the library needs memset alone"

@@ -4,7 +4,9 @@
 
 pub mod counts;
 pub mod fixed;
+pub mod frames;
 pub mod guarded;
+pub mod hostile;
 pub mod instructions;
 pub mod library;
 pub mod ordinary;

@@ -29,6 +29,7 @@ pub const LADDER_QUERY: &str = "query the store with the ladder";
 pub const AS_LARGE_QUERY: &str = "query the store with that package";
 pub const CODES: &str = "load a package of codes alone";
 pub const BELOW: &str = "query small packages below a ladder over seven packages";
+pub const EMPTY: &str = "query an empty store";
 
 /// All of them, in the order of the tables.
 pub fn all() -> Vec<Workload> {
@@ -54,6 +55,7 @@ pub fn all() -> Vec<Workload> {
     let codes = of_codes(0, 15, 4_000).bytes();
     found.extend(of_file(CODES, CODES, &codes).into_iter().take(1));
     found.push(below_ladder());
+    found.push(empty());
     found
 }
 
@@ -61,14 +63,14 @@ fn buffer_bytes(kb: usize) -> usize {
     (1024 * kb).min(65_535)
 }
 
-fn written(entries: &[Entry], length: usize) -> Vec<u8> {
+pub fn written(entries: &[Entry], length: usize) -> Vec<u8> {
     let mut ledger = Ledger::new(length);
     ledger.entries = entries.to_vec();
     ledger.written_out(length)
 }
 
 /// The bytes in use once these entries are written.
-fn used(entries: &[Entry]) -> usize {
+pub fn used(entries: &[Entry]) -> usize {
     let entry_bytes = |entry: &Entry| match entry {
         Entry::Domain(aid) => 3 + aid.len(),
         Entry::Package { domain, file } => 4 + domain.len() + file.len(),
@@ -214,5 +216,16 @@ fn below_ladder() -> Workload {
         store: written(&entries, 65_535),
         call: query(506),
         number: 9,
+    }
+}
+
+/// A store without entries, as small as one may be.
+fn empty() -> Workload {
+    Workload {
+        name: EMPTY,
+        size: "64 bytes".into(),
+        store: written(&[], 64),
+        call: query(0),
+        number: 7,
     }
 }

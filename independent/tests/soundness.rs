@@ -60,8 +60,13 @@ fn layout() {
     for used in [0, 6, 8, 15, 22, 24, 64, 65] {
         let mut store = good.clone();
         store[6] = used;
-        assert!(q2(&store).is_none() || used == 15, "{used}");
+        assert!(q2(&store).is_none(), "{used}");
     }
+    // Used 15 is the end of the first domain, and right where zeros follow it.
+    let mut store = good.clone();
+    store[6] = 15;
+    store[15..].fill(0);
+    assert!(q2(&store).is_some());
     let mut store = good;
     store[6] = 7;
     assert!(q2(&store).is_none());

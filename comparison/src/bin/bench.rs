@@ -1,7 +1,8 @@
 //! `bench ROUNDS DATE`: times of the library and the independent reader, and the
-//! library's peak stack. `bench instructions`: instructions of single calls, where
-//! valgrind is at hand.
+//! library's peak stack. `bench stack`: the peak stack alone. `bench instructions`:
+//! instructions of single calls, where valgrind is at hand.
 
+use comparison::hostile;
 use comparison::instructions;
 use comparison::stack::peaks;
 use comparison::tables::{print_stack, Measured};
@@ -20,6 +21,7 @@ fn main() -> ExitCode {
     let arguments: Vec<&str> = arguments.iter().map(String::as_str).collect();
     match arguments[..] {
         ["instructions"] => instructions::print(),
+        ["stack"] => stack(&workloads::all(), &hostile::all()),
         ["once", workload, reader, count] => instructions::once(workload, reader, count),
         [rounds, date] => match rounds.parse() {
             Ok(rounds) if rounds >= ROUNDS => bench(rounds, date),
@@ -31,17 +33,31 @@ fn main() -> ExitCode {
 }
 
 fn usage() -> ExitCode {
-    eprintln!("usage: bench ROUNDS DATE, with at least {ROUNDS} rounds; bench instructions");
+    eprintln!("usage: bench ROUNDS DATE, with at least {ROUNDS} rounds; bench stack; bench instructions");
     ExitCode::FAILURE
 }
+
+/// The rounds of a hostile vendor's stores: a call on one takes long.
+const HOSTILE_ROUNDS: usize = 5;
 
 fn bench(rounds: usize, date: &str) {
     println!("{}, {date}, {rounds} rounds.\n", processor());
     let workloads = workloads::all();
-    let stack = peaks(stack_sequences(&workloads));
     let times = measure(&workloads, rounds);
-    Measured { workloads, times }.print();
-    print_stack(&stack);
+    let ordinary = Measured { workloads, times };
+    ordinary.print();
+    let workloads = hostile::all();
+    let times = measure(&workloads, HOSTILE_ROUNDS);
+    let hostile = Measured { workloads, times };
+    hostile.print_hostile();
+    stack(&ordinary.workloads, &hostile.workloads);
+}
+
+/// The peak stack of each operation, on stores to 8,192 bytes and on larger ones.
+fn stack(ordinary: &[Workload], hostile: &[Workload]) {
+    let all = ordinary.iter().chain(hostile);
+    let (small, large) = stack_sequences(all).into_iter().partition(|s| s.start.len() <= 8_192);
+    print_stack(&peaks(small), &peaks(large));
 }
 
 /// The processor's name.
@@ -53,13 +69,13 @@ fn processor() -> String {
 }
 
 /// Calls that reach deep: limits, ladders, full stores, all that is timed, and others.
-fn stack_sequences(workloads: &[Workload]) -> Vec<Sequence> {
+fn stack_sequences<'a>(workloads: impl Iterator<Item = &'a Workload>) -> Vec<Sequence> {
     let mut found = special::lengths();
     found.push(special::limits());
     found.extend(special::full_stores());
     found.extend(special::hostile());
     found.extend((0..300).map(sequence));
-    found.extend(workloads.iter().map(|workload| Sequence {
+    found.extend(workloads.map(|workload| Sequence {
         start: workload.store.clone(),
         steps: vec![Step::Call(workload.call.clone())],
     }));

@@ -2,16 +2,16 @@
 use Prim.Native.Nat.{ℕ, _+_, _-_, _≤_, _<_}
 use native.Mathlib.Omega.{arith}
 use mathlib.Core.Path.{_≡_, sym, _∙_, ap, subst}
-use mathlib.Core.Bool.{Bool, true, false, _||_, not}
+use mathlib.Core.Bool.{Bool, true, false, _&&_, _||_, not}
 use mathlib.Core.List.{List, [], _∷_}
-use lib.Dec.{T, eqb}
+use lib.Dec.{T}
 use lib.ListN.{length, getD}
-use Rattle.rules.specs.Bytes.{Bytes, Aid, Reader, pick, all, u1, many, counted}
+use Rattle.rules.specs.Bytes.{Bytes, Aid, Reader, noneOr, all, u1, many, counted}
 use Rattle.rules.specs.Code.{Call, splitFrom, codeSplits, callsOf}
 use Rattle.rules.specs.Package.{Limits, storeLimits, mostMethods, mostClasses, Method, codeIf, method, class}
 use Rattle.rules.specs.Store.{Entry}
-use Rattle.rules.specs.Classes.{Installed}
-use Rattle.rules.specs.Questions.{q16-splits, q18-calls, q19-allowed, ownMethod}
+use Rattle.rules.specs.Classes.{Installed, installed, allows, allowsAllOf}
+use Rattle.rules.specs.Questions.{q16-splits, q18-calls, q19-allowed, ownMethod, methodNamed}
 use Rattle.rules.proofs.Tests.{and-l, and-r}
 use Rattle.places.specs.Reads.{Reads, EndsAt}
 use Rattle.places.proofs.Steady.{Steady, steady-u1, steady-method, steady-class}
@@ -23,12 +23,15 @@ use Rattle.codes.specs.Calls.{kindOf, SplitsFrom, callsFrom}
 use Rattle.codes.specs.declared.Calling.{Calling}
 use Rattle.codes.proofs.Calls.{calls-start, splits-start}
 use Rattle.homes.specs.Homes.{Imports, own}
-use Rattle.calls.specs.Codes.{codeTest, classTest, numberOf}
-use Rattle.calls.specs.Named.{Judged, CallNamedIs}
-use Rattle.calls.specs.Maps.{Numbering, DomainMap}
+use Rattle.refusals.specs.Order.{firstOf, Asks, noOf, noOfAll, numbers, rank, rising}
+use Rattle.refusals.proofs.Order.{first-more, first-start, first-zero, first-assoc, none-asked}
+use Rattle.refusals.proofs.Walks.{after, NumberLoop, numbers-start, numbers-on, numbers-done}
+use Rattle.named.specs.Named.{Judged}
+use Rattle.calls.specs.Codes.{codeTest, classTest}
+use Rattle.calls.specs.Named.{referenceNamed, CallNamedIs}
 use Rattle.calls.specs.Rights.{CallAllowedIs}
-use Rattle.calls.specs.Calls.{Asking, MethodOf, callNames, methodNames, classNames, callAllows, methodAllows, classAllows, Reading, OwnMethod, OwnClass, CodesSplit, CallNumberIs, MethodCallsAre, ClassCallsAre, FileCallsAre, CallsNumberIs}
-use Rattle.calls.proofs.Numbers.{allFrom-all, listNumber, number-first, number-on, NumberLoop, numbers-start, numbers-first, numbers-on, numbers-done}
+use Rattle.calls.specs.Calls.{Asking, MethodOf, callAsks, methodAsks, classAsks, callNames, methodNames, classNames, callAllows, methodAllows, classAllows, Reading, OwnMethod, OwnClass, CodesSplit, CallNumberIs, MethodCallsAre, ClassCallsAre, FileCallsAre, CallsNumberIs}
+use Rattle.calls.proofs.Numbers.{allFrom-all}
 
 -- a code that there is not, or that splits, splits from offset 0
 splits-from : (l : Limits) (s : Bytes) (i : ℕ) (b : Bool) (c : Bytes) (j : ℕ) → Reads (codeIf l b) s i c j → T (not b || codeSplits c) → SplitsFrom c 0
@@ -37,23 +40,34 @@ splits-from l s i false c j p t = let z = code-none l s i c j p in rw (← z .0)
 splits-from l s i true c j p t = splits-start c t
 
 -- one call
-module _ {f s : Bytes} {end : ℕ} {d : Numbering} {i index : ℕ} (kind : Calling) where
+module _ {f s : Bytes} {end : ℕ} {d : Aid} {i index : ℕ} (kind : Calling) where
   pub call-18 : CallNamedIs f s end kind index false → CallNumberIs f s end d i kind index 18
   call-18 h a m j p = rw (← h (a .es) (a .self) (a .imports))
 
+  -- what the caller may call, in terms of the own loading domain
+  told : {b : Bool} → CallAllowedIs f s end d i index b → (a : Asking f s end d) (m : Method) (j : ℕ) → MethodOf a i m j → callAllows a m (record { kind = kindOf kind; index = index }) ≡ b
+  told {b} g a m j p = go (a .loads) (g (a .es) (a .self) (a .imports) (a .loads) (ownMethod (a .self) 0 m) (record { lies = own; to = j; reads = p }))
+    where
+      go : a .self .domain ≡ d → b ≡ noneOr (referenceNamed (installed (storeLimits s) (a .es)) (a .self) index) (λ x. allows (methodNamed x) d && allowsAllOf (methodNamed x) (ownMethod (a .self) 0 m)) → callAllows a m (record { kind = kindOf kind; index = index }) ≡ b
+      go e q = sym (subst (λ (z : Aid). b ≡ noneOr (referenceNamed (installed (storeLimits s) (a .es)) (a .self) index) (λ x. allows (methodNamed x) z && allowsAllOf (methodNamed x) (ownMethod (a .self) 0 m))) (sym e) q)
+
   pub call-19 : CallNamedIs f s end kind index true → CallAllowedIs f s end d i index false → CallNumberIs f s end d i kind index 19
-  call-19 h g a m j p = rw (← h (a .es) (a .self) (a .imports), ← g (a .es) (a .self) (a .imports) (a .maps) (ownMethod (a .self) 0 m) (record { lies = own; to = j; reads = p }))
+  call-19 h g a m j p = rw (← h (a .es) (a .self) (a .imports), told g a m j p)
 
   pub call-0 : CallNamedIs f s end kind index true → CallAllowedIs f s end d i index true → CallNumberIs f s end d i kind index 0
-  call-0 h g a m j p = rw (← h (a .es) (a .self) (a .imports), ← g (a .es) (a .self) (a .imports) (a .maps) (ownMethod (a .self) 0 m) (record { lies = own; to = j; reads = p }))
+  call-0 h g a m j p = rw (← h (a .es) (a .self) (a .imports), told g a m j p)
+
+-- the order of the two questions
+rises : {A : Type 0} (p q : A → Bool) → T (rising (numbers ((18, p) ∷ (19, q) ∷ [])))
+unfolding rising rank
+rises p q = tt
 
 -- the calls of the method at i, of which those from an offset on are left after an earlier number
-pub record CallLoop (f s : Bytes) (end : ℕ) (d : Numbering) (i : ℕ) (code : Bytes) (from past : ℕ) : Type 0 where
+pub record CallLoop (f s : Bytes) (end : ℕ) (d : Aid) (i : ℕ) (code : Bytes) (from past : ℕ) : Type 0 where
   pub splits : SplitsFrom code from
-  pub left : (a : Asking f s end d) (m : Method) (j : ℕ) → MethodOf a i m j →
-      numberOf 18 19 0 (methodNames a m) (methodAllows a m) ≡ listNumber 18 19 (callNames a) (callAllows a m) past (callsFrom code from)
+  pub left : (a : Asking f s end d) (m : Method) (j : ℕ) → MethodOf a i m j → noOf (methodAsks a) m ≡ after (callAsks a m) past (callsFrom code from)
 
-module _ {f s : Bytes} {end : ℕ} {d : Numbering} {i : ℕ} (code : Bytes) where
+module _ {f s : Bytes} {end : ℕ} {d : Aid} {i : ℕ} (code : Bytes) where
   pub calls-begin : CodeIs f i code → OwnMethod f s end i → CallLoop f s end d i code 0 0
   calls-begin h g =
       let ds = g .1 .pack .domains in
@@ -61,31 +75,24 @@ module _ {f s : Bytes} {end : ℕ} {d : Numbering} {i : ℕ} (code : Bytes) wher
       let t = method-part (storeLimits s) ds f i m (g .3 .1) (g .3 .2) in
       record {
         splits = rw (h (storeLimits s) ds m (g .3 .1) (g .3 .2)) (splits-from (storeLimits s) f (t .middle) (m .implemented) (m .code) (g .3 .1) (t .code) (g .3 .3));
-        left = λ a m j p. ap (listNumber 18 19 (callNames a) (callAllows a m) 0) (ap callsOf (sym (h (storeLimits s) (a .self .pack .domains) m j p)) ∙ sym (calls-start code));
+        left = λ a m j p.
+            let e = ap callsOf (sym (h (storeLimits s) (a .self .pack .domains) m j p)) ∙ sym (calls-start code) in
+            ap (noOfAll (callAsks a m)) e ∙ sym (first-start (callAsks a m) (rises (callNames a) (callAllows a m)) (callsFrom code 0));
       }
 
   module _ (from past : ℕ) (t : CallLoop f s end d i code from past) where
     pub calls-end : callsFrom code from ≡ [] → MethodCallsAre f s end d i past
-    calls-end e a m j p = sym (t .left a m j p ∙ ap (listNumber 18 19 (callNames a) (callAllows a m) past) e)
+    calls-end e a m j p = sym (t .left a m j p ∙ ap (after (callAsks a m) past) e ∙ ap (firstOf past) (none-asked (callAsks a m)) ∙ first-zero past)
 
-    module _ (kind : Calling) (index to : ℕ) (e : callsFrom code from ≡ record { kind = kindOf kind; index = index } ∷ callsFrom code to) (n : ℕ) (h : CallNumberIs f s end d i kind index n) where
-      pub calls-18 : n ≡ 18 → MethodCallsAre f s end d i 18
-      calls-18 z a m j p =
+    pub calls-on : (kind : Calling) (index to : ℕ) → callsFrom code from ≡ record { kind = kindOf kind; index = index } ∷ callsFrom code to → (n : ℕ) → CallNumberIs f s end d i kind index n → SplitsFrom code to → (b : ℕ) → b ≡ firstOf past n → CallLoop f s end d i code to b
+    calls-on kind index to e n h k b w = record {
+      splits = k;
+      left = λ a m j p.
           let c : Call = record { kind = kindOf kind; index = index } in
-          let cs = callsFrom code to in
-          sym (t .left a m j p ∙ ap (listNumber 18 19 (callNames a) (callAllows a m) past) e
-          ∙ number-first 18 19 (omega arith) (omega arith) past n (callNames a c) (callAllows a m c) (all (callNames a) cs) (all (callAllows a m) cs) (h a m j p) z)
-
-      pub calls-on : (n ≡ 18 → ⊥) → SplitsFrom code to → (b : ℕ) → b ≡ pick (eqb n 0) past n → CallLoop f s end d i code to b
-      calls-on z k b w = record {
-        splits = k;
-        left = λ a m j p.
-            let c : Call = record { kind = kindOf kind; index = index } in
-            let cs = callsFrom code to in
-            t .left a m j p ∙ ap (listNumber 18 19 (callNames a) (callAllows a m) past) e
-            ∙ number-on 18 19 (omega arith) (omega arith) past n (callNames a c) (callAllows a m c) (all (callNames a) cs) (all (callAllows a m) cs) (h a m j p) z
-            ∙ ap (λ (x : ℕ). listNumber 18 19 (callNames a) (callAllows a m) x cs) (sym w);
-      }
+          t .left a m j p ∙ ap (after (callAsks a m) past) e ∙ ap (firstOf past) (first-more (callAsks a m) (rises (callNames a) (callAllows a m)) c (callsFrom code to))
+          ∙ first-assoc past (noOf (callAsks a m) c) (noOfAll (callAsks a m) (callsFrom code to))
+          ∙ ap (λ (x : ℕ). firstOf x (noOfAll (callAsks a m) (callsFrom code to))) (sym (w ∙ ap (firstOf past) (h a m j p)));
+    }
 
 -- of a list, each element of which passes a test
 module _ {A : Type 0} (r : Reader A) (steady : Steady r) (p : A → Bool) (s : Bytes) where
@@ -109,73 +116,66 @@ module _ {A : Type 0} (r : Reader A) (steady : Steady r) (p : A → Bool) (s : B
         (z .others, x .1, rw (e (z .one) (z .place) (z .reads)) (z .rest), and-r (p (z .one)) (all p (z .others)) t)
 
 -- The loop over the list at i of the file being judged, that a reader with its domains reads: `left` elements are still to be read
--- at c; each passes t, and the number of all of the list by P and Q is that of these after an earlier number.
-pub record AskLoop {A : Type 0} (R : List Aid → Reader A) (most : ℕ) (t : A → Bool) (f s : Bytes) (end : ℕ) (d : Numbering) (P Q : Asking f s end d → A → Bool) (i past left c : ℕ) : Type 0 where
+-- at c; each passes t, and the number of all of the list is that of these after an earlier number.
+pub record AskLoop {A : Type 0} (R : List Aid → Reader A) (most : ℕ) (t : A → Bool) (f s : Bytes) (end : ℕ) (d : Aid) (qs : Asking f s end d → Asks A) (i past left c : ℕ) : Type 0 where
   pub es : List Entry
   pub self : Installed
   pub imports : Imports f s end es self
   pub rest : Reading (many left (R (self .pack .domains))) (all t) f c
-  pub numbers : NumberLoop 18 19 (λ (a : Asking f s end d). R (a .self .pack .domains)) most P Q f i past left c
+  pub numbers : NumberLoop (λ (a : Asking f s end d). R (a .self .pack .domains)) most qs f i past left c
 
-module _ {A : Type 0} (R : List Aid → Reader A) (steady : (ds : List Aid) → Steady (R ds)) (most : ℕ) (t : A → Bool) {f s : Bytes} {end : ℕ} {d : Numbering} (P Q : Asking f s end d → A → Bool) (i : ℕ) where
+module _ {A : Type 0} (R : List Aid → Reader A) (steady : (ds : List Aid) → Steady (R ds)) (most : ℕ) (t : A → Bool) {f s : Bytes} {end : ℕ} {d : Aid} (qs : Asking f s end d → Asks A) (order : (a : Asking f s end d) → T (rising (numbers (qs a)))) (i : ℕ) where
   pub ask-begin : (es : List Entry) (self : Installed) → Imports f s end es self → Reading (counted most u1 (R (self .pack .domains))) (all t) f i → (n : ℕ) → n ≡ getD f i 0 →
-      AskLoop R most t f s end d P Q i 0 n (i + 1)
+      AskLoop R most t f s end d qs i 0 n (i + 1)
   ask-begin es self m x n h = record {
     es = es;
     self = self;
     imports = m;
     rest = reading-start (R (self .pack .domains)) (steady (self .pack .domains)) t f most i n h x;
-    numbers = numbers-start 18 19 (omega arith) (omega arith) (λ a. R (a .self .pack .domains)) (λ a. steady (a .self .pack .domains)) most P Q f i n h;
+    numbers = numbers-start (λ a. R (a .self .pack .domains)) (λ a. steady (a .self .pack .domains)) most qs order f i n h;
   }
 
-  module _ {past left c : ℕ} (l : AskLoop R most t f s end d P Q i past left c) where
+  module _ {past left c : ℕ} (l : AskLoop R most t f s end d qs i past left c) where
     module _ (h : 0 < left) where
       pub ask-one : (es : List Entry) × (self : Installed) × Imports f s end es self × Reading (R (self .pack .domains)) t f c
       ask-one = (l .es, l .self, l .imports, reading-one (R (l .self .pack .domains)) (steady (l .self .pack .domains)) t f left c h (l .rest))
 
-      module _ (n : ℕ) (b : (a : Asking f s end d) (x : A) (j : ℕ) → Reads (R (a .self .pack .domains)) f c x j → n ≡ numberOf 18 19 0 (P a x) (Q a x)) where
-        pub ask-18 : n ≡ 18 → (a : Asking f s end d) (xs : List A) (j : ℕ) → Reads (counted most u1 (R (a .self .pack .domains))) f i xs j → 18 ≡ listNumber 18 19 (P a) (Q a) 0 xs
-        ask-18 = numbers-first 18 19 (omega arith) (omega arith) (λ a. R (a .self .pack .domains)) (λ a. steady (a .self .pack .domains)) most P Q f i past left c (l .numbers) n h b
+      pub ask-on : (n : ℕ) → ((a : Asking f s end d) (x : A) (j : ℕ) → Reads (R (a .self .pack .domains)) f c x j → n ≡ noOf (qs a) x) → (m e : ℕ) → m ≡ firstOf past n → ((ds : List Aid) → EndsAt (R ds) f c e) → AskLoop R most t f s end d qs i m (left - 1) e
+      ask-on n b m e w k = record {
+        es = l .es;
+        self = l .self;
+        imports = l .imports;
+        rest = reading-on (R (l .self .pack .domains)) (steady (l .self .pack .domains)) t f left c h (l .rest) e (k (l .self .pack .domains));
+        numbers = numbers-on (λ a. R (a .self .pack .domains)) (λ a. steady (a .self .pack .domains)) most qs order f i past left c (l .numbers) n h b m e w (λ a. k (a .self .pack .domains));
+      }
 
-        pub ask-on : (n ≡ 18 → ⊥) → (m e : ℕ) → m ≡ pick (eqb n 0) past n → ((ds : List Aid) → EndsAt (R ds) f c e) → AskLoop R most t f s end d P Q i m (left - 1) e
-        ask-on z m e w k = record {
-          es = l .es;
-          self = l .self;
-          imports = l .imports;
-          rest = reading-on (R (l .self .pack .domains)) (steady (l .self .pack .domains)) t f left c h (l .rest) e (k (l .self .pack .domains));
-          numbers = numbers-on 18 19 (omega arith) (omega arith) (λ a. R (a .self .pack .domains)) (λ a. steady (a .self .pack .domains)) most P Q f i past left c (l .numbers) n h b z m e w (λ a. k (a .self .pack .domains));
-        }
-
-    pub ask-end : left ≤ 0 → (a : Asking f s end d) (xs : List A) (j : ℕ) → Reads (counted most u1 (R (a .self .pack .domains))) f i xs j → past ≡ listNumber 18 19 (P a) (Q a) 0 xs
-    ask-end = numbers-done 18 19 (omega arith) (omega arith) (λ a. R (a .self .pack .domains)) (λ a. steady (a .self .pack .domains)) most P Q f i past left c (l .numbers)
+    pub ask-end : left ≤ 0 → (a : Asking f s end d) (xs : List A) (j : ℕ) → Reads (counted most u1 (R (a .self .pack .domains))) f i xs j → past ≡ noOfAll (qs a) xs
+    ask-end = numbers-done (λ a. R (a .self .pack .domains)) (λ a. steady (a .self .pack .domains)) most qs order f i past left c (l .numbers)
 
 -- the methods of a class
-abbrev pub MethodsLoop : Bytes → Bytes → ℕ → Numbering → ℕ → ℕ → ℕ → ℕ → Type 0
-MethodsLoop f s end d i past left c = AskLoop (method (storeLimits s)) mostMethods (codeTest codeSplits) f s end d methodNames methodAllows i past left c
+abbrev pub MethodsLoop : Bytes → Bytes → ℕ → Aid → ℕ → ℕ → ℕ → ℕ → Type 0
+MethodsLoop f s end d i past left c = AskLoop (method (storeLimits s)) mostMethods (codeTest codeSplits) f s end d methodAsks i past left c
 
 -- the classes of a file
-abbrev pub ClassesLoop : Bytes → Bytes → ℕ → Numbering → ℕ → ℕ → ℕ → ℕ → Type 0
-ClassesLoop f s end d i past left c = AskLoop (class (storeLimits s)) mostClasses (classTest codeSplits) f s end d classNames classAllows i past left c
+abbrev pub ClassesLoop : Bytes → Bytes → ℕ → Aid → ℕ → ℕ → ℕ → ℕ → Type 0
+ClassesLoop f s end d i past left c = AskLoop (class (storeLimits s)) mostClasses (classTest codeSplits) f s end d classAsks i past left c
 
-module _ {f s : Bytes} {end : ℕ} {d : Numbering} where
+module _ {f s : Bytes} {end : ℕ} {d : Aid} where
   pub methods-begin : {i k n : ℕ} → OwnClass f s end i → MethodsAt f i k → n ≡ getD f k 0 → MethodsLoop f s end d k 0 n (k + 1)
   methods-begin {k = k} {n} g h e =
       let ds = g .1 .pack .domains in
-      ask-begin (method (storeLimits s)) (steady-method (storeLimits s)) mostMethods (codeTest codeSplits) methodNames methodAllows k (g .0) (g .1) (g .2)
+      ask-begin (method (storeLimits s)) (steady-method (storeLimits s)) mostMethods (codeTest codeSplits) methodAsks (λ a. rises (methodNames a) (methodAllows a)) k (g .0) (g .1) (g .2)
       (g .3 .0 .methods, g .3 .1, h (storeLimits s) ds (g .3 .0) (g .3 .1) (g .3 .2), g .3 .3) n e
 
   module _ (k past : ℕ) {left c : ℕ} (l : MethodsLoop f s end d k past left c) where
     pub methods-one : 0 < left → OwnMethod f s end c
-    methods-one h = ask-one (method (storeLimits s)) (steady-method (storeLimits s)) mostMethods (codeTest codeSplits) methodNames methodAllows k l h
+    methods-one h = ask-one (method (storeLimits s)) (steady-method (storeLimits s)) mostMethods (codeTest codeSplits) methodAsks (λ a. rises (methodNames a) (methodAllows a)) k l h
 
-    pub methods-18 : {i : ℕ} (n : ℕ) → 0 < left → MethodCallsAre f s end d c n → n ≡ 18 → MethodsAt f i k → ClassCallsAre f s end d i 18
-    methods-18 n h b z m a x j p = ask-18 (method (storeLimits s)) (steady-method (storeLimits s)) mostMethods (codeTest codeSplits) methodNames methodAllows k l h n b z a (x .methods) j (m (storeLimits s) (a .self .pack .domains) x j p)
-
-    pub methods-on : (n m e : ℕ) → 0 < left → MethodCallsAre f s end d c n → (n ≡ 18 → ⊥) → m ≡ pick (eqb n 0) past n → AfterMethod f c e → MethodsLoop f s end d k m (left - 1) e
-    methods-on n m e h b z w r = ask-on (method (storeLimits s)) (steady-method (storeLimits s)) mostMethods (codeTest codeSplits) methodNames methodAllows k l h n b z m e w (r (storeLimits s))
+    pub methods-on : (n m e : ℕ) → 0 < left → MethodCallsAre f s end d c n → m ≡ firstOf past n → AfterMethod f c e → MethodsLoop f s end d k m (left - 1) e
+    methods-on n m e h b w r = ask-on (method (storeLimits s)) (steady-method (storeLimits s)) mostMethods (codeTest codeSplits) methodAsks (λ a. rises (methodNames a) (methodAllows a)) k l h n b m e w (r (storeLimits s))
 
     pub methods-end : {i : ℕ} → left ≤ 0 → MethodsAt f i k → ClassCallsAre f s end d i past
-    methods-end h m a x j p = ask-end (method (storeLimits s)) (steady-method (storeLimits s)) mostMethods (codeTest codeSplits) methodNames methodAllows k l h a (x .methods) j (m (storeLimits s) (a .self .pack .domains) x j p)
+    methods-end h m a x j p = ask-end (method (storeLimits s)) (steady-method (storeLimits s)) mostMethods (codeTest codeSplits) methodAsks (λ a. rises (methodNames a) (methodAllows a)) k l h a (x .methods) j (m (storeLimits s) (a .self .pack .domains) x j p)
 
 -- each class of a file whose codes split
 classes-split : (f s : Bytes) (end i : ℕ) (g : Judged f s end) → CodesSplit f → ClassesAt f i → Reading (counted mostClasses u1 (class (storeLimits s) (g .1 .pack .domains))) (all (classTest codeSplits)) f i
@@ -185,31 +185,27 @@ classes-split f s end i g h k =
     let r = g .2 .setting .reads in
     (p .classes, length f, classes-read k (storeLimits s) p r, subst T (allFrom-all (classTest codeSplits) 0 (p .classes)) (h (storeLimits s) p r))
 
-module _ {f s : Bytes} {end : ℕ} {d : Numbering} where
+module _ {f s : Bytes} {end : ℕ} {d : Aid} where
   -- a file's number is that of its list of classes
-  file-calls : (n : ℕ) → ((a : Asking f s end d) → n ≡ listNumber 18 19 (classNames a) (classAllows a) 0 (a .self .pack .classes)) → FileCallsAre f s end d n
+  file-calls : (n : ℕ) → ((a : Asking f s end d) → n ≡ noOfAll (classAsks a) (a .self .pack .classes)) → FileCallsAre f s end d n
   unfolding q18-calls q19-allowed
   file-calls n h a = rw (allFrom-all (classNames a) 0 (a .self .pack .classes), allFrom-all (classAllows a) 0 (a .self .pack .classes)) (h a)
 
   pub classes-begin : {k n : ℕ} → Judged f s end → CodesSplit f → ClassesAt f k → n ≡ getD f k 0 → ClassesLoop f s end d k 0 n (k + 1)
   classes-begin {k} {n} g h m e =
-      ask-begin (class (storeLimits s)) (steady-class (storeLimits s)) mostClasses (classTest codeSplits) classNames classAllows k (g .0) (g .1) (g .2) (classes-split f s end k g h m) n e
+      ask-begin (class (storeLimits s)) (steady-class (storeLimits s)) mostClasses (classTest codeSplits) classAsks (λ a. rises (classNames a) (classAllows a)) k (g .0) (g .1) (g .2) (classes-split f s end k g h m) n e
 
   module _ (k past : ℕ) {left c : ℕ} (l : ClassesLoop f s end d k past left c) where
     pub classes-one : 0 < left → OwnClass f s end c
-    classes-one h = ask-one (class (storeLimits s)) (steady-class (storeLimits s)) mostClasses (classTest codeSplits) classNames classAllows k l h
+    classes-one h = ask-one (class (storeLimits s)) (steady-class (storeLimits s)) mostClasses (classTest codeSplits) classAsks (λ a. rises (classNames a) (classAllows a)) k l h
 
-    pub classes-18 : (n : ℕ) → 0 < left → ClassCallsAre f s end d c n → n ≡ 18 → ClassesAt f k → FileCallsAre f s end d 18
-    classes-18 n h b z m = file-calls 18 λ a.
-        ask-18 (class (storeLimits s)) (steady-class (storeLimits s)) mostClasses (classTest codeSplits) classNames classAllows k l h n b z a (a .self .pack .classes) (length f) (classes-read m (storeLimits s) (a .self .pack) (a .imports .setting .reads))
-
-    pub classes-on : (n m e : ℕ) → 0 < left → ClassCallsAre f s end d c n → (n ≡ 18 → ⊥) → m ≡ pick (eqb n 0) past n → AfterClass f c e → ClassesLoop f s end d k m (left - 1) e
-    classes-on n m e h b z w r = ask-on (class (storeLimits s)) (steady-class (storeLimits s)) mostClasses (classTest codeSplits) classNames classAllows k l h n b z m e w (r (storeLimits s))
+    pub classes-on : (n m e : ℕ) → 0 < left → ClassCallsAre f s end d c n → m ≡ firstOf past n → AfterClass f c e → ClassesLoop f s end d k m (left - 1) e
+    classes-on n m e h b w r = ask-on (class (storeLimits s)) (steady-class (storeLimits s)) mostClasses (classTest codeSplits) classAsks (λ a. rises (classNames a) (classAllows a)) k l h n b m e w (r (storeLimits s))
 
     pub classes-end : left ≤ 0 → ClassesAt f k → FileCallsAre f s end d past
     classes-end h m = file-calls past λ a.
-        ask-end (class (storeLimits s)) (steady-class (storeLimits s)) mostClasses (classTest codeSplits) classNames classAllows k l h a (a .self .pack .classes) (length f) (classes-read m (storeLimits s) (a .self .pack) (a .imports .setting .reads))
+        ask-end (class (storeLimits s)) (steady-class (storeLimits s)) mostClasses (classTest codeSplits) classAsks (λ a. rises (classNames a) (classAllows a)) k l h a (a .self .pack .classes) (length f) (classes-read m (storeLimits s) (a .self .pack) (a .imports .setting .reads))
 
--- with the tables for the loading domain
-pub calls-number : {f s : Bytes} {end : ℕ} (t : Numbering) (d : Aid) (n : ℕ) → DomainMap f s end d t → FileCallsAre f s end t n → CallsNumberIs f s end d n
-calls-number {f} {s} {end} t d n m h es self i e = h (record { es = es; self = self; imports = i; maps = subst (λ (x : Aid). DomainMap f s end x t) (sym e) m })
+-- in every setting with this loading domain
+pub calls-number : {f s : Bytes} {end : ℕ} (d : Aid) (n : ℕ) → FileCallsAre f s end d n → CallsNumberIs f s end d n
+calls-number d n h es self i e = h (record { es = es; self = self; imports = i; loads = e })

@@ -25,12 +25,12 @@ use Rattle.codes.specs.declared.Calling.{Calling}
 use Rattle.codes.specs.declared.Calling.the-variants as kinds
 use Rattle.rules.specs.Store.{Entry}
 use Rattle.homes.specs.Homes.{Imports, fileOf, HomeIs, own, HomeThere, ClassPlaced}
-use Rattle.homes.specs.Found.{homeAt, ImportHomes}
-use Rattle.homes.specs.declared.Home.{Home}
-use Rattle.store.specs.Entries.{part}
-use Rattle.rules.specs.Code.{u2At}
-use Rattle.calls.specs.Named.{Judged, OfJudged, homeOf, ImportCount, NamedIs, NumbersName, ReferenceIs, OfNamed, SeenIs, FormIs, WellIs, CallNamedIs}
-use Rattle.calls.specs.Tables.{PackFits, PlacesFit}
+use Rattle.homes.specs.Found.{ImportHomes}
+use Rattle.named.specs.Named.{Judged, OfJudged, homeOf, PackageThere}
+use Rattle.named.proofs.Numbers.{imports-few}
+use Rattle.named.proofs.Rows.{at-none}
+use Rattle.calls.specs.Named.{ImportCount, NamedIs, NumbersName, ReferenceIs, OfNamed, SeenIs, FormIs, WellIs, CallNamedIs}
+use Rattle.calls.specs.declared.Naming.{Naming}
 use Rattle.calls.specs.declared.NamedFound.{NamedFound}
 use Rattle.calls.specs.declared.NamedFound.the-variants as found
 
@@ -39,12 +39,6 @@ pub judged-reads : {f s : Bytes} {end : ℕ} → Judged f s end → Readable f
 judged-reads {s = s} g = (storeLimits s, g .1 .pack, g .2 .setting .reads)
 
 -- the number of imports
-pub imports-few : (l : Limits) (f : Bytes) (p : Package) → readFile l f ≡ some p → length (p .imports) ≤ mostImports
-imports-few l f p e =
-    let t = file-parts l f p e in
-    let c = reads-counted mostImports u1 aid steady-u1 f (t .importsAt) (p .imports) (t .referencesAt) (t .imports) in
-    omega (arith, c .small, many-length aid steady-aid (c .number) f (c .place) (p .imports) (t .referencesAt) (c .list))
-
 pub imports-count : {f : Bytes} {i : ℕ} (n : ℕ) → ImportsAt f i → n ≡ getD f i 0 → ImportCount f n
 imports-count {f} {i} n h e l p r =
     let t = imports-read h l p r in
@@ -55,16 +49,13 @@ imports-count {f} {i} n h e l p r =
 pub imports-in : {f : Bytes} {i : ℕ} → ImportsAt f i → Readable f → i < length f
 imports-in {f} {i} h r = let t = imports-read h (r .0) (r .1) (r .2) in counted-inside aid f mostImports i (r .1 .imports) (t .0) (t .1)
 
--- the home of an import
-pub home-import : (end : ℕ) (t : List ℕ) (p : ℕ) → (p ≡ 0 → ⊥) → homeAt t (p - 1) ≡ homeOf end t p
-home-import end t zero n = absurd (n refl)
-home-import end t (suc k) n = let e : suc k - 1 ≡ k = omega arith in rw e
+-- a package number up to the count
+pub package-there : (f : Bytes) {count p : ℕ} → ImportCount f count → p ≤ count → PackageThere f p
+package-there f k h l q e = omega (arith, k l q e)
 
--- behind the end of a list
-at-none : {A : Type 0} (xs : List A) (k : ℕ) → length xs ≤ k → at xs k ≡ none
-at-none [] k h = refl
-at-none (x ∷ xs) zero h = absurd (omega arith)
-at-none (x ∷ xs) (suc k) h = at-none xs k (omega arith)
+-- a reference's numbers and name
+abbrev pub naming : ℕ → ℕ → ℕ → Naming
+naming p c n = record { pack = p; class = c; name = n }
 
 -- the method of a name that a class declares
 abbrev declaredAs : Bool → ClassAt → ℕ → Option Named
@@ -72,7 +63,7 @@ declaredAs i c n = recordOf c andThen λ k. declared k n andThen λ m. some (rec
 
 -- the package that a number stands for in the file being judged
 module _ {f s : Bytes} {end : ℕ} (t : List ℕ) where
-  pub numbered-none : (p c n : ℕ) {count : ℕ} → ImportCount f count → count < p → NumbersName f s end t p c n found.Nothing
+  pub numbered-none : (p c n : ℕ) {count : ℕ} → ImportCount f count → count < p → NumbersName f s end t (naming p c n) found.Nothing
   numbered-none zero c n k h es self m = absurd (omega arith)
   numbered-none (suc p) c n k h es self m =
       let e = at-none (self .pack .imports) p (omega (arith, k (storeLimits s) (self .pack) (m .setting .reads))) in
@@ -91,13 +82,13 @@ module _ {f s : Bytes} {end : ℕ} (t : List ℕ) where
         -- what the class declares is what the numbers and the name name
         numbers-name : (r : NamedFound) →
             ((es : List Entry) (self : Installed) → Imports f s end es self → (y : Installed) → HomeIs f s end es self (homeOf end t p) y →
-            NamedIs f s end t es self (declaredAs (not (eqb p 0)) (record { home = y; number = c }) n) r) → NumbersName f s end t p c n r
+            NamedIs f s end t es self (declaredAs (not (eqb p 0)) (record { home = y; number = c }) n) r) → NumbersName f s end t (naming p c n) r
         numbers-name r d es self m =
             let z = numbered-at p h es self m in
             subst (λ (o : Option Installed). NamedIs f s end t es self ((o andThen λ y. some (record { home = y; number = c })) andThen λ x. declaredAs (not (eqb p 0)) x n) r) (sym (z .1))
             (d es self m (z .0) (z .2))
 
-        pub class-missing : ClassPlaced f s (homeOf end t p) c Nothing → NumbersName f s end t p c n found.Nothing
+        pub class-missing : ClassPlaced f s (homeOf end t p) c Nothing → NumbersName f s end t (naming p c n) found.Nothing
         class-missing q = numbers-name found.Nothing λ es self m y l. let e = placed-none (q end es self m y l) in rw e
 
         module _ (o : ℕ) (q : ClassPlaced f s (homeOf end t p) c (At o)) (g : Bytes) (e : g ≡ fileOf f s (homeOf end t p)) where
@@ -107,14 +98,14 @@ module _ {f s : Bytes} {end : ℕ} (t : List ℕ) where
               let z = placed-at (q end (j .0) (j .1) (j .2) (y .0) (y .2)) in
               rw e (storeLimits s, y .0 .pack .domains, (z .0, z .1, z .3))
 
-          pub method-missing : DeclaredPlaced g o n Nothing → NumbersName f s end t p c n found.Nothing
+          pub method-missing : DeclaredPlaced g o n Nothing → NumbersName f s end t (naming p c n) found.Nothing
           method-missing d = numbers-name found.Nothing λ es self m y l.
               let z = placed-at (q end es self m y l) in
               let b = subst (λ (v : Bytes). DeclaredPlaced v o n Nothing) e d in
               let w = placed-none (b (storeLimits s) (y .pack .domains) (z .0) (z .1) (z .3)) in
               rw (z .2, w)
 
-          pub method-found : (v : ℕ) → DeclaredPlaced g o n (At v) → NumbersName f s end t p c n (found.Method p o v)
+          pub method-found : (v : ℕ) → DeclaredPlaced g o n (At v) → NumbersName f s end t (naming p c n) (found.Method p o v)
           method-found v d = numbers-name (found.Method p o v) λ es self m y l.
               let b = not (eqb p 0) in
               let z = placed-at (q end es self m y l) in
@@ -132,7 +123,7 @@ module _ {f s : Bytes} {end : ℕ} (t : List ℕ) (i k : ℕ) (a : ReferencesAt 
   reference-is : (r : Referenced) → ReferenceNth f i k r → OfJudged f s end λ es self. at (self .pack .references) k ≡ referenced r
   reference-is r q es self m = let z = references-read a (storeLimits s) (self .pack) (m .setting .reads) in sym (q (self .pack .references) (z .0) (z .1))
 
-  pub reference-named : (p c n : ℕ) → ReferenceNth f i k (referenced′.To p c n) → (r : NamedFound) → NumbersName f s end t p c n r → ReferenceIs f s end t k r
+  pub reference-named : (p c n : ℕ) → ReferenceNth f i k (referenced′.To p c n) → (r : NamedFound) → NumbersName f s end t (naming p c n) r → ReferenceIs f s end t k r
   reference-named p c n q r d es self m =
       let e = reference-is (referenced′.To p c n) q es self m in
       subst (λ (o : Option Reference). NamedIs f s end t es self (o andThen referenceNames (installed (storeLimits s) es) self) r) (sym e) (d es self m)
@@ -141,32 +132,8 @@ module _ {f s : Bytes} {end : ℕ} (t : List ℕ) (i k : ℕ) (a : ReferencesAt 
   reference-none q es self m = rw (reference-is referenced′.Nothing q es self m)
 
 -- the package number of what is named
-pub pack-fits : {f s : Bytes} {end : ℕ} (t : List ℕ) (k : ℕ) (r : NamedFound) → Judged f s end → ReferenceIs f s end t k r → PackFits r
-pack-fits {f} {s} t k (found.Method p c m) g q = let z = q (g .0) (g .1) (g .2) in omega (arith, z .2 .number, imports-few (storeLimits s) f (g .1 .pack) (g .2 .setting .reads))
-pack-fits t k found.Nothing g q = tt
-
--- the places of what is named lie in a file, and a file has fewer than 65,536 bytes
-take-short : (n : ℕ) (xs : Bytes) → length (take n xs) ≤ length xs
-take-short zero xs = omega arith
-take-short (suc n) [] = omega arith
-take-short (suc n) (x ∷ xs) = let h = take-short n xs in omega arith
-
-file-short : (f s : Bytes) (h : Home) → length f ≤ 65535 → length s ≤ 65535 → length (fileOf f s h) ≤ 65535
-file-short f s h a b = go (eqb (h .from) 0)
-  where
-    go : (z : Bool) → length (pick z f (part s (h .from) (h .to))) ≤ 65535
-    go true = a
-    go false = omega (arith, take-short (h .to - h .from) (drop (h .from) s), length-drop (h .from) s)
-
-pub file-size : {f s : Bytes} {end : ℕ} → Judged f s end → (6 < length f) × (u2At f 5 ≡ length f)
-file-size {f} {s} g = let t = file-parts (storeLimits s) f (g .1 .pack) (g .2 .setting .reads) in (omega (arith, t .named .from), t .size)
-
-pub places-fit : {f s : Bytes} {end : ℕ} (t : List ℕ) (k : ℕ) (r : NamedFound) → length f ≤ 65535 → length s ≤ 65535 → Judged f s end → ReferenceIs f s end t k r → PlacesFit r
-places-fit {f} {s} {end} t k (found.Method p c m) a b g q =
-    let z = q (g .0) (g .1) (g .2) in
-    let l = file-short f s (homeOf end t p) a b in
-    (omega (arith, l, z .2 .declaring .from), omega (arith, l, z .2 .method .from))
-places-fit t k found.Nothing a b g q = tt
+pub named-few : {f s : Bytes} {end : ℕ} (t : List ℕ) (k p c m : ℕ) → Judged f s end → ReferenceIs f s end t k (found.Method p c m) → p ≤ mostImports
+named-few {f} {s} t k p c m g q = let z = q (g .0) (g .1) (g .2) in omega (arith, z .2 .number, imports-few (storeLimits s) f (g .1 .pack) (g .2 .setting .reads))
 
 -- visible if imported
 module _ {g : Bytes} {m : ℕ} {b : Bool} where

@@ -1,11 +1,12 @@
 -- Questions 18 and 19, of a call, of a method, of a class and of a file. Assumes nothing.
 --
--- Asking f s end t    == a setting in which they are asked of the file f, with the tables t for its loading domain
+-- Asking f s end d    == a setting in which they are asked of the file f, loaded in the domain d
 -- callNames a c, callAllows a m c == their answers for the call c in the method m; methodNames, classNames, .. == for all calls there
 -- OwnMethod, OwnClass == in the file being judged a method or class whose codes split stands at a place
 -- CodesSplit f        == question 16 of the file was answered yes
+-- callAsks, ..        == the two questions with their numbers
 -- callsNumber s es self == the number of the first no of a file, 0 where there is none
--- CallNumberIs, MethodCallsAre, ClassCallsAre, FileCallsAre, CallsNumberIs == the answer is the number of the first no of whatever stands there
+-- CallNumberIs, FoundNumberIs, MethodCallsAre, ClassCallsAre, FileCallsAre, CallsNumberIs == the answer is the number of the first no of whatever stands there
 use Prim.Native.Nat.{ℕ}
 use mathlib.Core.Path.{_≡_}
 use mathlib.Core.Bool.{Bool}
@@ -17,48 +18,50 @@ use Rattle.rules.specs.Code.{Call, codeSplits, callsOf}
 use Rattle.rules.specs.Package.{Limits, storeLimits, Method, Class, Package, method, class, readFile}
 use Rattle.rules.specs.Store.{Entry}
 use Rattle.rules.specs.Classes.{Installed, installed}
-use Rattle.rules.specs.Questions.{q16-splits, q18-calls, q19-allowed, ownMethod, callNamesWell, callAllowed}
+use Rattle.rules.specs.Questions.{q16-splits, q18-calls, q19-allowed, ownMethod, callNamesMethod, callAllowed}
 use Rattle.rules.specs.Operations.{firstNo}
 use Rattle.places.specs.Reads.{Reads}
 use Rattle.codes.specs.Calls.{kindOf}
 use Rattle.codes.specs.declared.Calling.{Calling}
 use Rattle.homes.specs.Homes.{Imports}
-use Rattle.calls.specs.Codes.{codeTest, classTest, numberOf}
-use Rattle.calls.specs.Named.{OfJudged}
-use Rattle.calls.specs.Maps.{Numbering, DomainMap}
+use Rattle.refusals.specs.Order.{Asks, noOf}
+use Rattle.named.specs.Named.{OfJudged}
+use Rattle.calls.specs.Codes.{codeTest, classTest}
+use Rattle.calls.specs.Named.{CalledIs}
+use Rattle.calls.specs.declared.NamedFound.{NamedFound}
 
--- a setting in which the file f is asked, with the tables for its loading domain
-pub record Asking (f s : Bytes) (end : ℕ) (t : Numbering) : Type 0 where
+-- a setting in which the file f is asked, loaded in d
+pub record Asking (f s : Bytes) (end : ℕ) (d : Aid) : Type 0 where
   pub es : List Entry
   pub self : Installed
   pub imports : Imports f s end es self
-  pub maps : DomainMap f s end (self .domain) t
+  pub loads : self .domain ≡ d
 
 -- a reader's value at a place, in the setting's own file
-abbrev pub MethodOf : {f s : Bytes} {end : ℕ} {t : Numbering} → Asking f s end t → ℕ → Method → ℕ → Type 0
+abbrev pub MethodOf : {f s : Bytes} {end : ℕ} {d : Aid} → Asking f s end d → ℕ → Method → ℕ → Type 0
 MethodOf {f} {s} a i m j = Reads (method (storeLimits s) (a .self .pack .domains)) f i m j
 
-abbrev pub ClassOf : {f s : Bytes} {end : ℕ} {t : Numbering} → Asking f s end t → ℕ → Class → ℕ → Type 0
+abbrev pub ClassOf : {f s : Bytes} {end : ℕ} {d : Aid} → Asking f s end d → ℕ → Class → ℕ → Type 0
 ClassOf {f} {s} a i k j = Reads (class (storeLimits s) (a .self .pack .domains)) f i k j
 
 -- the answers of 18
-abbrev pub callNames : {f s : Bytes} {end : ℕ} {t : Numbering} → Asking f s end t → Call → Bool
-callNames {f} {s} a c = callNamesWell (installed (storeLimits s) (a .es)) (a .self) c
+abbrev pub callNames : {f s : Bytes} {end : ℕ} {d : Aid} → Asking f s end d → Call → Bool
+callNames {f} {s} a c = callNamesMethod (installed (storeLimits s) (a .es)) (a .self) c
 
-abbrev pub methodNames : {f s : Bytes} {end : ℕ} {t : Numbering} → Asking f s end t → Method → Bool
+abbrev pub methodNames : {f s : Bytes} {end : ℕ} {d : Aid} → Asking f s end d → Method → Bool
 methodNames a m = all (callNames a) (callsOf (m .code))
 
-abbrev pub classNames : {f s : Bytes} {end : ℕ} {t : Numbering} → Asking f s end t → Class → Bool
+abbrev pub classNames : {f s : Bytes} {end : ℕ} {d : Aid} → Asking f s end d → Class → Bool
 classNames a k = all (methodNames a) (k .methods)
 
 -- the answers of 19; none goes by the number of the caller's class
-abbrev pub callAllows : {f s : Bytes} {end : ℕ} {t : Numbering} → Asking f s end t → Method → Call → Bool
+abbrev pub callAllows : {f s : Bytes} {end : ℕ} {d : Aid} → Asking f s end d → Method → Call → Bool
 callAllows {f} {s} a m c = callAllowed (installed (storeLimits s) (a .es)) (a .self) (ownMethod (a .self) 0 m) c
 
-abbrev pub methodAllows : {f s : Bytes} {end : ℕ} {t : Numbering} → Asking f s end t → Method → Bool
+abbrev pub methodAllows : {f s : Bytes} {end : ℕ} {d : Aid} → Asking f s end d → Method → Bool
 methodAllows a m = all (callAllows a m) (callsOf (m .code))
 
-abbrev pub classAllows : {f s : Bytes} {end : ℕ} {t : Numbering} → Asking f s end t → Class → Bool
+abbrev pub classAllows : {f s : Bytes} {end : ℕ} {d : Aid} → Asking f s end d → Class → Bool
 classAllows a k = all (methodAllows a) (k .methods)
 
 -- something that passes a test is read at a place
@@ -80,19 +83,32 @@ CodesSplit f = (l : Limits) (p : Package) → readFile l f ≡ some p → T (q16
 abbrev pub callsNumber : Bytes → List Entry → Installed → ℕ
 callsNumber s es self = firstNo ((18, q18-calls (installed (storeLimits s) es) self) ∷ (19, q19-allowed (installed (storeLimits s) es) self) ∷ [])
 
+-- the two questions, of a call, a method, a class
+abbrev pub callAsks : {f s : Bytes} {end : ℕ} {d : Aid} → Asking f s end d → Method → Asks Call
+callAsks a m = (18, callNames a) ∷ (19, callAllows a m) ∷ []
+
+abbrev pub methodAsks : {f s : Bytes} {end : ℕ} {d : Aid} → Asking f s end d → Asks Method
+methodAsks a = (18, methodNames a) ∷ (19, methodAllows a) ∷ []
+
+abbrev pub classAsks : {f s : Bytes} {end : ℕ} {d : Aid} → Asking f s end d → Asks Class
+classAsks a = (18, classNames a) ∷ (19, classAllows a) ∷ []
+
 -- the numbers
-abbrev pub CallNumberIs : Bytes → Bytes → ℕ → Numbering → ℕ → Calling → ℕ → ℕ → Type 0
-CallNumberIs f s end t i kind index r = (a : Asking f s end t) (m : Method) (j : ℕ) → MethodOf a i m j →
-    r ≡ numberOf 18 19 0 (callNames a (record { kind = kindOf kind; index = index })) (callAllows a m (record { kind = kindOf kind; index = index }))
+abbrev pub CallNumberIs : Bytes → Bytes → ℕ → Aid → ℕ → Calling → ℕ → ℕ → Type 0
+CallNumberIs f s end d i kind index r = (a : Asking f s end d) (m : Method) (j : ℕ) → MethodOf a i m j → r ≡ noOf (callAsks a m) (record { kind = kindOf kind; index = index })
 
-abbrev pub MethodCallsAre : Bytes → Bytes → ℕ → Numbering → ℕ → ℕ → Type 0
-MethodCallsAre f s end t i r = (a : Asking f s end t) (m : Method) (j : ℕ) → MethodOf a i m j → r ≡ numberOf 18 19 0 (methodNames a m) (methodAllows a m)
+-- of every call that calls what was found
+abbrev pub FoundNumberIs : Bytes → Bytes → ℕ → Aid → List ℕ → ℕ → NamedFound → ℕ → Type 0
+FoundNumberIs f s end d t i x r = (kind : Calling) (index : ℕ) → CalledIs f s end t kind index x → CallNumberIs f s end d i kind index r
 
-abbrev pub ClassCallsAre : Bytes → Bytes → ℕ → Numbering → ℕ → ℕ → Type 0
-ClassCallsAre f s end t i r = (a : Asking f s end t) (k : Class) (j : ℕ) → ClassOf a i k j → r ≡ numberOf 18 19 0 (classNames a k) (classAllows a k)
+abbrev pub MethodCallsAre : Bytes → Bytes → ℕ → Aid → ℕ → ℕ → Type 0
+MethodCallsAre f s end d i r = (a : Asking f s end d) (m : Method) (j : ℕ) → MethodOf a i m j → r ≡ noOf (methodAsks a) m
 
-abbrev pub FileCallsAre : Bytes → Bytes → ℕ → Numbering → ℕ → Type 0
-FileCallsAre f s end t r = (a : Asking f s end t) → r ≡ callsNumber s (a .es) (a .self)
+abbrev pub ClassCallsAre : Bytes → Bytes → ℕ → Aid → ℕ → ℕ → Type 0
+ClassCallsAre f s end d i r = (a : Asking f s end d) (k : Class) (j : ℕ) → ClassOf a i k j → r ≡ noOf (classAsks a) k
+
+abbrev pub FileCallsAre : Bytes → Bytes → ℕ → Aid → ℕ → Type 0
+FileCallsAre f s end d r = (a : Asking f s end d) → r ≡ callsNumber s (a .es) (a .self)
 
 -- of the file, in every setting with this loading domain
 abbrev pub CallsNumberIs : Bytes → Bytes → ℕ → Aid → ℕ → Type 0

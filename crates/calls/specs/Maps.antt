@@ -1,37 +1,53 @@
--- The numbers of the domains that a file and its imports list. Assumes nothing.
+-- What a walk over the calls of a file carries. Assumes nothing.
 --
--- Numbering                == the tables that question 19 goes by: the homes of the imports, the numbers of the domains, 32 entries for
---                             each package number, and the number of the loading domain
--- numbering h m n          == these three together
--- Mapped f s end u d h m p == the table m has the numbers of the domains of package number p
--- DomainMap f s end d t    == t has the numbers in the file's own list of domains with the loading domain d behind it
-use Prim.Native.Nat.{ℕ, _*_, _≤_}
-use mathlib.Core.List.{List}
-use lib.ListN.{length}
+-- askerAt a i             == the same at another place
+-- domainsOf s g           == the domains that the file g lists, read within the limits of the store s
+-- mapNumber f s end d h k == the number in the domains of f, d behind them, of domain k % 32 of package number k / 32; h has the homes of the imports
+-- LoadingIs f s d a       == a tells the number of the loading domain d
+-- AskerTrue f s d a       == all that a tells of the file being judged
+-- MapTrue f s end d h m   == each number in the table m is true, where it is known
+-- TablesTrue f s end d h r m == the tables of homes, of places of classes and of numbers are true
+use Prim.Native.Nat.{ℕ, _/_, _%_}
+use mathlib.Core.Path.{_≡_}
+use mathlib.Core.List.{List, [], _∷_, _++_}
+use mathlib.Core.Option.{Option, none, some}
+use lib.ListN.{length, getD}
 use Rattle.rules.specs.Bytes.{Bytes, Aid}
-use Rattle.files.specs.Say.{DomainsAt}
-use Rattle.policies.specs.Numbers.{NumberIs, MapIs}
+use Rattle.rules.specs.Package.{storeLimits, Package, readFile}
+use Rattle.policies.specs.Numbers.{numberIn}
+use Rattle.policies.specs.Rows.{Known}
 use Rattle.homes.specs.Homes.{fileOf}
-use Rattle.calls.specs.Named.{OfJudged, homeOf}
+use Rattle.homes.specs.Found.{ImportHomes}
+use Rattle.named.specs.Named.{homeOf, RowsTrue}
+use Rattle.calls.specs.Named.{FileIs}
+use Rattle.calls.specs.declared.Asker.{Asker}
 
--- the tables that question 19 goes by
-pub record Numbering : Type 0 where
-  pub homes : List ℕ
-  pub map : List ℕ
-  pub loading : ℕ
+abbrev pub askerAt : Asker → ℕ → Asker
+askerAt a i = record { end = a .end; imports = a .imports; references = a .references; loading = a .loading; at = i }
 
--- these three together
-abbrev pub numbering : List ℕ → List ℕ → ℕ → Numbering
-numbering h m n = record { homes = h; map = m; loading = n }
+-- the domains of what is read
+abbrev pub listed : Option Package → List Aid
+listed none = []
+listed (some p) = p .domains
 
--- the domains listed at j of the file of package number p are numbered
-abbrev pub Mapped : Bytes → Bytes → ℕ → ℕ → Aid → List ℕ → List ℕ → ℕ → Type 0
-Mapped f s end u d h m p = (j : ℕ) × DomainsAt (fileOf f s (homeOf end h p)) j × MapIs f u d (fileOf f s (homeOf end h p)) j (32 * p) m
+abbrev pub domainsOf : Bytes → Bytes → List Aid
+domainsOf s g = listed (readFile (storeLimits s) g)
 
--- the own list stands at a place, and it and those of the imports are mapped
-pub record DomainMap (f s : Bytes) (end : ℕ) (d : Aid) (t : Numbering) : Type 0 where
-  pub place : ℕ
-  pub stands : DomainsAt f place
-  pub own : MapIs f place d f place 0 (t .map)
-  pub loads : NumberIs f place d d (t .loading)
-  pub maps : OfJudged f s end λ es self. (p : ℕ) → p ≤ length (self .pack .imports) → Mapped f s end place d (t .homes) (t .map) p
+abbrev pub mapNumber : Bytes → Bytes → ℕ → Aid → List ℕ → ℕ → ℕ
+mapNumber f s end d h k = numberIn (domainsOf s f ++ d ∷ []) (getD (domainsOf s (fileOf f s (homeOf end h (k / 32)))) (k % 32) [])
+
+abbrev pub LoadingIs : Bytes → Bytes → Aid → Asker → Type 0
+LoadingIs f s d a = a .loading ≡ numberIn (domainsOf s f ++ d ∷ []) d
+
+pub record AskerTrue (f s : Bytes) (d : Aid) (a : Asker) : Type 0 where
+  pub file : FileIs f a
+  pub loading : LoadingIs f s d a
+
+pub record MapTrue (f s : Bytes) (end : ℕ) (d : Aid) (h m : List ℕ) : Type 0 where
+  pub size : length m ≡ 512
+  pub known : Known (mapNumber f s end d h) m
+
+pub record TablesTrue (f s : Bytes) (end : ℕ) (d : Aid) (h r m : List ℕ) : Type 0 where
+  pub homes : ImportHomes f s end h
+  pub rows : RowsTrue f s end h r
+  pub map : MapTrue f s end d h m

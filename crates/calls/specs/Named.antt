@@ -1,16 +1,17 @@
 -- What a reference names, and where that stands. Assumes nothing.
 --
--- Judged f s end      == the file f is judged over the entries of s that end there; OfJudged == a fact of every such setting
--- t                   == the table of the homes of the file's imports; homeOf end t p == the home of package number p
+-- t                   == the table of the homes of the file's imports
 -- ImportCount f n     == the file has n imports
+-- FileIs f a          == a tells how many imports the file has and where its references stand
 -- NamedAt             == what is named is of a package number: its class record stands at one place, the method at another
 -- NamedIs             == an answer tells what is named, if anything is
 -- ReferenceIs f s end t k r == r tells what reference k of the file names
 -- SeenIs, FormIs, WellIs  == visible if imported; of the call's form; both
 -- CallNamedIs         == the answer of question 18 for a call
-use Prim.Native.Nat.{ℕ, zero, suc, _≤_}
+-- CalledIs            == what a call calls is told where it is answered yes, nothing where it is answered no
+use Prim.Native.Nat.{ℕ, _≤_}
 use mathlib.Core.Path.{_≡_}
-use mathlib.Core.Bool.{Bool, _&&_, _||_, not}
+use mathlib.Core.Bool.{Bool, true, false, _&&_, _||_, not}
 use mathlib.Core.List.{List}
 use mathlib.Core.Option.{Option, none, some}
 use lib.Dec.{eqb}
@@ -19,33 +20,25 @@ use Rattle.rules.specs.Bytes.{Bytes, Aid, at, _andThen_}
 use Rattle.rules.specs.Package.{Limits, storeLimits, Package, method, class, readFile}
 use Rattle.rules.specs.Store.{Entry}
 use Rattle.rules.specs.Classes.{Installed, installed}
-use Rattle.rules.specs.Questions.{Named, referenceNames, callForm, callNamesWell}
+use Rattle.rules.specs.Questions.{Named, referenceNames, callForm, callNamesMethod}
 use Rattle.places.specs.Reads.{Reads}
-use Rattle.files.specs.Say.{OfMethod}
+use Rattle.files.specs.Say.{OfMethod, ReferencesAt}
 use Rattle.codes.specs.Calls.{kindOf}
 use Rattle.codes.specs.declared.Calling.{Calling}
-use Rattle.homes.specs.Homes.{Imports, ownHome, fileOf, HomeIs}
-use Rattle.homes.specs.Found.{homeAt}
-use Rattle.homes.specs.declared.Home.{Home}
+use Rattle.homes.specs.Homes.{fileOf, HomeIs}
+use Rattle.named.specs.Named.{OfJudged, homeOf}
+use Rattle.calls.specs.declared.Asker.{Asker}
+use Rattle.calls.specs.declared.Naming.{Naming}
 use Rattle.calls.specs.declared.NamedFound.{NamedFound}
 use Rattle.calls.specs.declared.NamedFound.the-variants as found
-
--- a file judged over the entries that end at a place
-abbrev pub Judged : Bytes → Bytes → ℕ → Type 0
-Judged f s end = (es : List Entry) × (self : Installed) × Imports f s end es self
-
--- a fact of every such setting
-abbrev pub OfJudged : Bytes → Bytes → ℕ → (List Entry → Installed → Type 0) → Type 0
-OfJudged f s end q = (es : List Entry) (self : Installed) → Imports f s end es self → q es self
-
--- the home of the package that a number stands for, by the table of the imports' homes
-abbrev pub homeOf : ℕ → List ℕ → ℕ → Home
-homeOf end t zero = ownHome end
-homeOf end t (suc k) = homeAt t k
 
 -- so many imports
 abbrev pub ImportCount : Bytes → ℕ → Type 0
 ImportCount f n = (l : Limits) (p : Package) → readFile l f ≡ some p → n ≡ length (p .imports)
+
+-- what is told of the file
+abbrev pub FileIs : Bytes → Asker → Type 0
+FileIs f a = ImportCount f (a .imports) × ReferencesAt f (a .references)
 
 -- what reference k names
 abbrev pub referenceNamed : List Installed → Installed → ℕ → Option Named
@@ -66,9 +59,9 @@ abbrev pub NamedIs : Bytes → Bytes → ℕ → List ℕ → List Entry → Ins
 NamedIs f s end t es self o (found.Method p c m) = (x : Named) × (o ≡ some x) × NamedAt f s end t es self p c m x
 NamedIs f s end t es self o found.Nothing = o ≡ none
 
--- the method that package number p, class number c and name n name
-abbrev pub NumbersName : Bytes → Bytes → ℕ → List ℕ → ℕ → ℕ → ℕ → NamedFound → Type 0
-NumbersName f s end t p c n r = OfJudged f s end λ es self. NamedIs f s end t es self (referenceNames (installed (storeLimits s) es) self (record { class = record { pack = p; class = c }; name = n })) r
+-- the method that a package number, a class number and a name name
+abbrev pub NumbersName : Bytes → Bytes → ℕ → List ℕ → Naming → NamedFound → Type 0
+NumbersName f s end t x r = OfJudged f s end λ es self. NamedIs f s end t es self (referenceNames (installed (storeLimits s) es) self (record { class = record { pack = x .pack; class = x .class }; name = x .name })) r
 
 abbrev pub ReferenceIs : Bytes → Bytes → ℕ → List ℕ → ℕ → NamedFound → Type 0
 ReferenceIs f s end t k r = OfJudged f s end λ es self. NamedIs f s end t es self (referenceNamed (installed (storeLimits s) es) self k) r
@@ -91,4 +84,12 @@ WellIs g c m i k r = OfNamed g c m λ x. x .imported ≡ i → r ≡ ((not (x .i
 
 -- question 18 of a call
 abbrev pub CallNamedIs : Bytes → Bytes → ℕ → Calling → ℕ → Bool → Type 0
-CallNamedIs f s end kind index r = OfJudged f s end λ es self. r ≡ callNamesWell (installed (storeLimits s) es) self (record { kind = kindOf kind; index = index })
+CallNamedIs f s end kind index r = OfJudged f s end λ es self. r ≡ callNamesMethod (installed (storeLimits s) es) self (record { kind = kindOf kind; index = index })
+
+abbrev pub CalledIs : Bytes → Bytes → ℕ → List ℕ → Calling → ℕ → NamedFound → Type 0
+CalledIs f s end t kind index (found.Method p c m) = CallNamedIs f s end kind index true × ReferenceIs f s end t index (found.Method p c m)
+CalledIs f s end t kind index found.Nothing = CallNamedIs f s end kind index false
+
+-- some call calls it
+abbrev pub CalledThere : Bytes → Bytes → ℕ → List ℕ → NamedFound → Type 0
+CalledThere f s end t r = (kind : Calling) × (index : ℕ) × CalledIs f s end t kind index r

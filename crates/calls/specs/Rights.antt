@@ -3,7 +3,6 @@
 -- Stands f s end es self h m x == the method x of an installed package stands at place m of the file at home h
 -- StandsThere, OfStanding  == what a function over such a method requires, and how it ensures
 -- RightsAt f s h m r       == r tells where the policy stands that is that method's rights, and the domains that its indexes count
--- CoversIs                 == the answer is that of `allows` for the loading domain and of `allowsAllOf`
 -- CallAllowedIs            == the answer of question 19 for a call
 use Prim.Native.Nat.{ℕ}
 use mathlib.Core.Path.{_≡_}
@@ -16,11 +15,10 @@ use Rattle.rules.specs.Classes.{Installed, installed, MethodAt, rights, allows,
 use Rattle.rules.specs.Questions.{methodNamed}
 use Rattle.places.specs.Reads.{Reads}
 use Rattle.files.specs.Say.{DomainsAt}
-use Rattle.policies.specs.Numbers.{NumberIs, MapIs}
 use Rattle.homes.specs.Homes.{Imports, ownHome, fileOf, HomeIs}
 use Rattle.homes.specs.declared.Home.{Home}
-use Rattle.calls.specs.Named.{OfJudged, referenceNamed}
-use Rattle.calls.specs.Maps.{Numbering, DomainMap}
+use Rattle.named.specs.Named.{OfJudged}
+use Rattle.calls.specs.Named.{referenceNamed}
 use Rattle.calls.specs.declared.RightsPlace.{RightsPlace}
 
 -- a method stands at place m of the file at home h
@@ -40,13 +38,7 @@ abbrev pub RightsAt : Bytes → Bytes → Home → ℕ → RightsPlace → Type 
 RightsAt f s h m r = DomainsAt (fileOf f s h) (r .domains)
     × (OfStanding f s h m λ x. (j : ℕ) × Reads (policy (x .class .home .pack .domains)) (fileOf f s h) (r .policy) (rights x) j)
 
--- the method at place i of the file at home h allows the loading domain and all that the one at place j of the file being judged
--- allows, by the numbers of the domains in the table m: those of that file from b on, and n of the loading domain
-abbrev pub CoversIs : Bytes → Bytes → ℕ → List ℕ → ℕ → Home → ℕ → ℕ → ℕ → Bool → Type 0
-CoversIs f s end m n h b i j r = (u t : ℕ) (d : Aid) → DomainsAt f u → DomainsAt (fileOf f s h) t → MapIs f u d f u 0 m → MapIs f u d (fileOf f s h) t b m → NumberIs f u d d n →
-    OfStanding f s h i λ x. OfStanding f s (ownHome end) j λ y. r ≡ (allows x d && allowsAllOf x y)
-
--- question 19 of a call in the method at place i of the file being judged
-abbrev pub CallAllowedIs : Bytes → Bytes → ℕ → Numbering → ℕ → ℕ → Bool → Type 0
-CallAllowedIs f s end t i index r = OfJudged f s end λ es self. DomainMap f s end (self .domain) t → (y : MethodAt) → Stands f s end es self (ownHome end) i y →
-    r ≡ noneOr (referenceNamed (installed (storeLimits s) es) self index) (λ x. allows (methodNamed x) (self .domain) && allowsAllOf (methodNamed x) y)
+-- question 19 of a call in the method at place i of the file being judged, loaded in d
+abbrev pub CallAllowedIs : Bytes → Bytes → ℕ → Aid → ℕ → ℕ → Bool → Type 0
+CallAllowedIs f s end d i index r = OfJudged f s end λ es self. self .domain ≡ d → (y : MethodAt) → Stands f s end es self (ownHome end) i y →
+    r ≡ noneOr (referenceNamed (installed (storeLimits s) es) self index) (λ x. allows (methodNamed x) d && allowsAllOf (methodNamed x) y)

@@ -1,19 +1,18 @@
 // The rights of methods, and question 19 of a call by the numbers of domains.
+use super::Asker;
+use super::NamedFound;
 use super::RightsPlace;
-use super::references::home_at;
-use fields::wide;
 use homes::Home;
-ghost use mathlib.Core.Path.{_≡_};
-ghost use lib.ListN.{length};
-ghost use Rattle.policies.specs.Numbers.{tableSize, HasRoom};
-ghost use Rattle.homes.specs.Homes.{ownHome};
+use policies::Asked;
+use policies::TwoLists;
 ghost use Rattle.homes.specs.Found.{ImportHomes};
-ghost use Rattle.calls.specs.Named.{Judged};
-ghost use Rattle.calls.specs.Maps.{numbering, DomainMap};
-ghost use Rattle.calls.specs.Rights.{StandsThere, RightsAt, CoversIs};
+ghost use Rattle.calls.specs.Named.{CalledThere};
+ghost use Rattle.calls.specs.Maps.{LoadingIs, MapTrue};
+ghost use Rattle.calls.specs.Rights.{StandsThere, RightsAt};
+ghost use Rattle.calls.specs.Calls.{OwnMethod, FoundNumberIs};
 
 // Where the rights of the method at place m of the file at a home stand.
-fn rights_of<'a>(f: &'a [u8], s: &'a [u8], h: Home, m: usize) -> RightsPlace
+pub fn rights_of<'a>(f: &'a [u8], s: &'a [u8], h: Home, m: usize) -> RightsPlace
     requires { ⌜ StandsThere (now f) (now s) h m ⌝ }
     ensures { λ r. ⌜ RightsAt (now (f .entry)) (now (s .entry)) h m r ⌝ }
 {
@@ -24,58 +23,42 @@ fn rights_of<'a>(f: &'a [u8], s: &'a [u8], h: Home, m: usize) -> RightsPlace
     }
 }
 
-// Writes the number of each domain that the file being judged and its imports list to the table, 32 entries for each package number.
-// The number of the loading domain.
-pub fn map_packages<'a>(
+// Questions 18 and 19 of a call in the method at a place of the file being judged, by what it calls: the number of the first no, or 0.
+pub fn call_number<'a>(
     f: &'a [u8],
     s: &'a [u8],
-    end: usize,
     domain: &[u8],
+    a: Asker,
     homes: &[usize; 48],
-    map: &mut [u8; 512],
-) -> usize
-    requires { ⌜ Judged (now f) (now s) end ⌝ }
-    requires { ⌜ ImportHomes (now f) (now s) end (now homes) ⌝ }
-    requires { ⌜ length (now map) ≡ tableSize ⌝ }
-    ensures { λ r. ⌜ DomainMap (now (f .entry)) (now (s .entry)) end (now (domain .entry)) (numbering (now (homes .entry)) (now (map .exit)) r) ⌝ }
-    ensures { λ _. ⌜ length (now (map .exit)) ≡ tableSize ⌝ }
+    map: &mut [u8],
+    found: NamedFound,
+) -> u8
+    requires { ⌜ OwnMethod (now f) (now s) (a .end) (a .at) × CalledThere (now f) (now s) (a .end) (now homes) found ⌝ }
+    requires { ⌜ LoadingIs (now f) (now s) (now domain) a × ImportHomes (now f) (now s) (a .end) (now homes) ⌝ }
+    requires { ⌜ MapTrue (now f) (now s) (a .end) (now domain) (now homes) (now map) ⌝ }
+    ensures { λ r. ⌜ FoundNumberIs (now (f .entry)) (now (s .entry)) (a .end) (now (domain .entry)) (now (homes .entry)) (a .at) found r ⌝ }
+    ensures { λ _. ⌜ MapTrue (now (f .entry)) (now (s .entry)) (a .end) (now (domain .entry)) (now (homes .entry)) (now (map .exit)) ⌝ }
 {
-    let count = wide(f[files::imports_at(f)]);
-    let own = files::domains_at(f);
-    let mut p = 0;
-    while p <= count {
-        let g = homes::file_of(f, s, home_at(end, homes, p));
-        policies::map_domains(f, own, domain, g, files::domains_at(g), map, 32 * p);
-        p += 1;
+    match found {
+        NamedFound::Method(p, c, m) => {
+            let h = named::home_at(a.end, homes, p);
+            let q = rights_of(f, s, named::home_at(a.end, homes, 0), a.at);
+            let r = rights_of(f, s, h, m);
+            let l = TwoLists {
+                own: q.domains,
+                other: r.domains,
+                base: 32 * p,
+            };
+            let x = Asked {
+                caller: q.policy,
+                called: r.policy,
+                loading: a.loading,
+            };
+            if !policies::rows::covers(f, domain, homes::file_of(f, s, h), l, x, map) {
+                return 19;
+            }
+            0
+        }
+        NamedFound::Nothing => 18,
     }
-    policies::number_of(f, own, domain, domain)
-}
-
-// Does that method allow the loading domain, and all that the method at a place of the file being judged allows? The table has the
-// numbers of the domains of its file from base on.
-pub fn covers<'a>(
-    f: &'a [u8],
-    s: &'a [u8],
-    end: usize,
-    map: &[u8; 512],
-    loading: usize,
-    h: Home,
-    base: usize,
-    m: usize,
-    at: usize,
-) -> bool
-    requires { ⌜ StandsThere (now f) (now s) h m ⌝ }
-    requires { ⌜ StandsThere (now f) (now s) (ownHome end) at ⌝ }
-    requires { ⌜ HasRoom (now map) base ⌝ }
-    ensures { λ r. ⌜ CoversIs (now (f .entry)) (now (s .entry)) end (now (map .entry)) loading h base m at r ⌝ }
-{
-    let own = Home {
-        from: 0,
-        to: 0,
-        before: end,
-    };
-    let g = homes::file_of(f, s, h);
-    let q = rights_of(f, s, own, at);
-    let r = rights_of(f, s, h, m);
-    policies::covers(f, q.policy, g, r.policy, map, base, loading)
 }

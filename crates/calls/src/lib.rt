@@ -1,31 +1,22 @@
-// The codes of a file and its calls: questions 16 and 17 of all codes, what a reference names, questions 18 and 19.
+// The calls of a file: what a reference names, questions 18 and 19.
 mod allowed;
-mod code_numbers;
 mod references;
 
-use allowed::covers;
-use allowed::map_packages;
-use code_numbers::class_number;
-use code_numbers::later;
+use allowed::call_number;
 use codes::Calling;
 use codes::CodeOffset;
 use codes::NextCall;
 use fields::wide;
-use references::home_at;
-use references::name_references;
-use references::named_at;
-use references::named_well;
+use references::called;
+use refusals::first_no;
 ghost use mathlib.Core.Path.{_≡_};
-ghost use Prim.Native.Nat.{_≤_};
-ghost use lib.ListN.{length};
 ghost use Rattle.codes.specs.Table.{TableIs};
-ghost use Rattle.policies.specs.Numbers.{tableSize};
+ghost use Rattle.rules.specs.Bytes.{Bytes};
+ghost use Rattle.files.specs.Say.{Readable};
 ghost use Rattle.homes.specs.Found.{ImportHomes};
-ghost use Rattle.calls.specs.Codes.{FileHere, FileNumberIs};
-ghost use Rattle.calls.specs.Named.{Judged};
-ghost use Rattle.calls.specs.Tables.{NamedTable};
-ghost use Rattle.calls.specs.Maps.{numbering};
-ghost use Rattle.calls.specs.Calls.{OwnMethod, OwnClass, CodesSplit, CallNumberIs, MethodCallsAre, ClassCallsAre, FileCallsAre, CallsNumberIs};
+ghost use Rattle.named.specs.Named.{Judged};
+ghost use Rattle.calls.specs.Maps.{askerAt, AskerTrue, TablesTrue};
+ghost use Rattle.calls.specs.Calls.{OwnMethod, OwnClass, CodesSplit, MethodCallsAre, ClassCallsAre, FileCallsAre, CallsNumberIs};
 
 // What a reference names: the number of the package, the places of the class record and of the method in that package's file; or
 // nothing.
@@ -40,90 +31,61 @@ pub struct RightsPlace {
     pub policy: usize,
 }
 
-// Questions 16 and 17 of a file: the number of the first no, or 0.
-pub fn codes_ok(f: &[u8], table: &[u8; 256], marks: &mut [bool]) -> u8
-    requires { ⌜ FileHere (now f) (now marks) ⌝ }
-    requires { ⌜ TableIs (now table) ⌝ }
-    ensures { λ r. ⌜ FileNumberIs (now (f .entry)) r ⌝ }
-{
-    let start = files::classes_at(f);
-    let mut left = wide(f[start]);
-    let mut c = start + 1;
-    let mut number = 0;
-    while 0 < left {
-        let n = class_number(f, table, marks, c);
-        if n == 16 {
-            return 16;
-        }
-        number = later(number, n);
-        c = files::after_class(f, c);
-        left -= 1;
-    }
-    number
+// What a walk over the calls of the file being judged carries: where the earlier entries end, how many imports the file has, where its
+// references stand, the number of the loading domain among its domains, and the place of the method or class at hand.
+pub struct Asker {
+    pub end: usize,
+    pub imports: usize,
+    pub references: usize,
+    pub loading: usize,
+    pub at: usize,
 }
 
-// Questions 18 and 19 of a call in the method at a place of the file being judged: the number of the first no, or 0.
-fn call_number<'a>(
-    f: &'a [u8],
-    s: &'a [u8],
-    end: usize,
-    homes: &[usize; 48],
-    named: &[u16; 3072],
-    map: &[u8; 512],
-    loading: usize,
-    at: usize,
-    kind: Calling,
-    index: usize,
-) -> u8
-    requires { ⌜ OwnMethod (now f) (now s) end at ⌝ }
-    requires { ⌜ NamedTable (now f) (now s) end (now homes) (now named) ⌝ }
-    requires { ⌜ length (now map) ≡ tableSize ⌝ }
-    ensures { λ r. ⌜ CallNumberIs (now (f .entry)) (now (s .entry)) end (numbering (now (homes .entry)) (now (map .entry)) loading) at kind index r ⌝ }
+// A package number, a class number and a name.
+pub struct Naming {
+    pub pack: usize,
+    pub class: usize,
+    pub name: usize,
+}
+
+// The same, at another place.
+fn asker_at(a: Asker, at: usize) -> Asker
+    ensures { λ r. ⌜ r ≡ askerAt a at ⌝ }
 {
-    match named_at(named, index) {
-        NamedFound::Method(p, c, m) => {
-            let h = home_at(end, homes, p);
-            if !named_well(homes::file_of(f, s, h), c, m, p != 0, kind) {
-                return 18;
-            }
-            if !covers(f, s, end, map, loading, h, 32 * p, m, at) {
-                return 19;
-            }
-            0
-        }
-        NamedFound::Nothing => 18,
+    Asker {
+        end: a.end,
+        imports: a.imports,
+        references: a.references,
+        loading: a.loading,
+        at,
     }
 }
 
-// Of the calls of that method: 18 of every call before 19 of any.
+// Questions 18 and 19 of the calls of the method at a place: the number of the first no, or 0.
 fn method_calls<'a>(
     f: &'a [u8],
     s: &'a [u8],
-    end: usize,
+    domain: &[u8],
     table: &[u8; 256],
+    a: Asker,
     homes: &[usize; 48],
-    named: &[u16; 3072],
-    map: &[u8; 512],
-    loading: usize,
-    at: usize,
+    rows: &mut [u16],
+    map: &mut [u8],
 ) -> u8
-    requires { ⌜ OwnMethod (now f) (now s) end at ⌝ }
-    requires { ⌜ TableIs (now table) ⌝ }
-    requires { ⌜ NamedTable (now f) (now s) end (now homes) (now named) ⌝ }
-    requires { ⌜ length (now map) ≡ tableSize ⌝ }
-    ensures { λ r. ⌜ MethodCallsAre (now (f .entry)) (now (s .entry)) end (numbering (now (homes .entry)) (now (map .entry)) loading) at r ⌝ }
+    requires { ⌜ OwnMethod (now f) (now s) (a .end) (a .at) × TableIs (now table) ⌝ }
+    requires { ⌜ AskerTrue (now f) (now s) (now domain) a ⌝ }
+    requires { ⌜ TablesTrue (now f) (now s) (a .end) (now domain) (now homes) (now rows) (now map) ⌝ }
+    ensures { λ r. ⌜ MethodCallsAre (now (f .entry)) (now (s .entry)) (a .end) (now (domain .entry)) (a .at) r ⌝ }
+    ensures { λ _. ⌜ TablesTrue (now (f .entry)) (now (s .entry)) (a .end) (now (domain .entry)) (now (homes .entry)) (now (rows .exit)) (now (map .exit)) ⌝ }
 {
-    let code = files::code_of(f, at);
+    let code = files::code_of(f, a.at);
     let mut from = 0;
     let mut number = 0;
     loop {
         match codes::next_call(table, code, CodeOffset(from)) {
             NextCall::Call { kind, index, next } => {
-                let n = call_number(f, s, end, homes, named, map, loading, at, kind, index);
-                if n == 18 {
-                    return 18;
-                }
-                number = later(number, n);
+                let found = called(f, s, a, homes, rows, kind, index);
+                number = first_no(number, call_number(f, s, domain, a, homes, map, found));
                 from = next.0;
             }
             NextCall::Nothing => {
@@ -137,30 +99,28 @@ fn method_calls<'a>(
 fn class_calls<'a>(
     f: &'a [u8],
     s: &'a [u8],
-    end: usize,
+    domain: &[u8],
     table: &[u8; 256],
+    a: Asker,
     homes: &[usize; 48],
-    named: &[u16; 3072],
-    map: &[u8; 512],
-    loading: usize,
-    at: usize,
+    rows: &mut [u16],
+    map: &mut [u8],
 ) -> u8
-    requires { ⌜ OwnClass (now f) (now s) end at ⌝ }
-    requires { ⌜ TableIs (now table) ⌝ }
-    requires { ⌜ NamedTable (now f) (now s) end (now homes) (now named) ⌝ }
-    requires { ⌜ length (now map) ≡ tableSize ⌝ }
-    ensures { λ r. ⌜ ClassCallsAre (now (f .entry)) (now (s .entry)) end (numbering (now (homes .entry)) (now (map .entry)) loading) at r ⌝ }
+    requires { ⌜ OwnClass (now f) (now s) (a .end) (a .at) × TableIs (now table) ⌝ }
+    requires { ⌜ AskerTrue (now f) (now s) (now domain) a ⌝ }
+    requires { ⌜ TablesTrue (now f) (now s) (a .end) (now domain) (now homes) (now rows) (now map) ⌝ }
+    ensures { λ r. ⌜ ClassCallsAre (now (f .entry)) (now (s .entry)) (a .end) (now (domain .entry)) (a .at) r ⌝ }
+    ensures { λ _. ⌜ TablesTrue (now (f .entry)) (now (s .entry)) (a .end) (now (domain .entry)) (now (homes .entry)) (now (rows .exit)) (now (map .exit)) ⌝ }
 {
-    let start = files::methods_of(f, at);
+    let start = files::methods_of(f, a.at);
     let mut left = wide(f[start]);
     let mut c = start + 1;
     let mut number = 0;
     while 0 < left {
-        let n = method_calls(f, s, end, table, homes, named, map, loading, c);
-        if n == 18 {
-            return 18;
-        }
-        number = later(number, n);
+        number = first_no(
+            number,
+            method_calls(f, s, domain, table, asker_at(a, c), homes, rows, map),
+        );
         c = files::after_method(f, c);
         left -= 1;
     }
@@ -171,34 +131,46 @@ fn class_calls<'a>(
 fn file_calls<'a>(
     f: &'a [u8],
     s: &'a [u8],
-    end: usize,
+    domain: &[u8],
     table: &[u8; 256],
+    a: Asker,
     homes: &[usize; 48],
-    named: &[u16; 3072],
-    map: &[u8; 512],
-    loading: usize,
+    rows: &mut [u16],
+    map: &mut [u8],
 ) -> u8
-    requires { ⌜ Judged (now f) (now s) end ⌝ }
-    requires { ⌜ CodesSplit (now f) ⌝ }
-    requires { ⌜ TableIs (now table) ⌝ }
-    requires { ⌜ NamedTable (now f) (now s) end (now homes) (now named) ⌝ }
-    requires { ⌜ length (now map) ≡ tableSize ⌝ }
-    ensures { λ r. ⌜ FileCallsAre (now (f .entry)) (now (s .entry)) end (numbering (now (homes .entry)) (now (map .entry)) loading) r ⌝ }
+    requires { ⌜ Judged (now f) (now s) (a .end) × CodesSplit (now f) × TableIs (now table) ⌝ }
+    requires { ⌜ AskerTrue (now f) (now s) (now domain) a ⌝ }
+    requires { ⌜ TablesTrue (now f) (now s) (a .end) (now domain) (now homes) (now rows) (now map) ⌝ }
+    ensures { λ r. ⌜ FileCallsAre (now (f .entry)) (now (s .entry)) (a .end) (now (domain .entry)) r ⌝ }
 {
     let start = files::classes_at(f);
     let mut left = wide(f[start]);
     let mut c = start + 1;
     let mut number = 0;
     while 0 < left {
-        let n = class_calls(f, s, end, table, homes, named, map, loading, c);
-        if n == 18 {
-            return 18;
-        }
-        number = later(number, n);
+        number = first_no(
+            number,
+            class_calls(f, s, domain, table, asker_at(a, c), homes, rows, map),
+        );
         c = files::after_class(f, c);
         left -= 1;
     }
     number
+}
+
+// What is told of the file being judged, loaded in a domain.
+fn told_of(f: &[u8], end: usize, domain: &[u8]) -> Asker
+    requires { ⌜ Readable (now f) ⌝ }
+    ensures { λ r. ⌜ (r .end ≡ end) × ((s : Bytes) → Judged (now (f .entry)) s end → AskerTrue (now (f .entry)) s (now (domain .entry)) r) ⌝ }
+{
+    let imports = files::imports_at(f);
+    Asker {
+        end,
+        imports: wide(f[imports]),
+        references: files::after_aids(f, imports),
+        loading: policies::number_of(f, files::domains_at(f), domain, domain),
+        at: 0,
+    }
 }
 
 // Questions 18 and 19 of a file loaded in a domain and judged over the entries that end at a place, each code of which splits: the
@@ -215,12 +187,10 @@ pub fn calls_ok<'a>(
     requires { ⌜ CodesSplit (now f) ⌝ }
     requires { ⌜ TableIs (now table) ⌝ }
     requires { ⌜ ImportHomes (now f) (now s) end (now homes) ⌝ }
-    requires { ⌜ length (now s) ≤ 65535 ⌝ }
     ensures { λ r. ⌜ CallsNumberIs (now (f .entry)) (now (s .entry)) end (now (domain .entry)) r ⌝ }
 {
-    let mut named = [0u16; 3072];
-    name_references(f, s, end, homes, &mut named);
-    let mut map = [0u8; 512];
-    let loading = map_packages(f, s, end, domain, homes, &mut map);
-    file_calls(f, s, end, table, homes, &named, &map, loading)
+    let mut rows = [0u16; 512];
+    let mut map = [255u8; 512];
+    let a = told_of(f, end, domain);
+    file_calls(f, s, domain, table, a, homes, &mut rows, &mut map)
 }

@@ -1,33 +1,18 @@
 // The simulated card: a store of 8,192 bytes, fresh at the start, and an operation for each line of standard input (document 01,
 // "The simulated card"). What a program reads and writes is tested; that every call is safe, and that it ends, is proved.
-use libc::STDIN_FILENO;
-use libc::STDOUT_FILENO;
+mod streams;
+
 use lines::Form;
 ghost use Prim.Native.Nat.{_≤_, _<_};
 ghost use lib.ListN.{length};
 ghost use Rattle.lines.specs.Line.{mostKept};
 ghost use Rattle.lines.specs.Results.{middle, end};
 
-// Where a line is read: how many of its characters are held, and its number.
+// Where a line is read: how many of its characters are held, its number, and whether the card has stopped, since a write failed.
 struct Place {
     held: usize,
     number: u64,
-}
-
-// Writes the number of a line with its answer and used.
-fn print_answer(number: u64, result: u32, used: usize) {
-    io::print_decimal(STDOUT_FILENO, number);
-    io::write_all(STDOUT_FILENO, b" ");
-    io::print_decimal(STDOUT_FILENO, (result % 256) as u64);
-    io::write_all(STDOUT_FILENO, b" ");
-    io::print_decimal(STDOUT_FILENO, used as u64);
-    io::write_all(STDOUT_FILENO, b"\n");
-}
-
-// Writes the number of a line of other form.
-fn print_bad(number: u64) {
-    io::print_decimal(STDOUT_FILENO, number);
-    io::write_all(STDOUT_FILENO, b" bad\n");
+    stopped: bool,
 }
 
 // Does what a line of the four forms asks for; its arguments stand in the buffer.
@@ -43,18 +28,17 @@ fn operate(store: &mut [u8], form: Form, arguments: &[u8]) -> u32
     }
 }
 
-// Answers a line.
-fn answer(store: &mut [u8], line: &[u8], number: u64)
+// Answers a line, and says whether the answer was written.
+fn answer(store: &mut [u8], line: &[u8], number: u64) -> bool
     requires { ⌜ 6 < length (now store) ⌝ }
 {
     let mut arguments = [0u8; 4000];
     let form = lines::read_line(line, &mut arguments);
     if let Form::Bad = form {
-        print_bad(number);
-        return;
+        return streams::print_bad(number);
     }
     let result = operate(store, form, &arguments);
-    print_answer(number, result, fields::u2_at(store, 5));
+    streams::print_answer(number, result, fields::u2_at(store, 5))
 }
 
 // Answers the lines that end in a chunk, and holds the characters after the last newline. The number of a line would start again
@@ -71,7 +55,13 @@ fn take_chunk(store: &mut [u8], line: &mut [u8], chunk: &[u8], place: Place) -> 
         let at = gathered.at;
         held = gathered.held;
         if at < chunk.len() {
-            answer(store, &line[..held], number);
+            if !answer(store, &line[..held], number) {
+                return Place {
+                    held: 0,
+                    number,
+                    stopped: true,
+                };
+            }
             held = 0;
             number = std::num::wrapping_add_u64(number, 1);
             from = at + 1;
@@ -79,23 +69,42 @@ fn take_chunk(store: &mut [u8], line: &mut [u8], chunk: &[u8], place: Place) -> 
             from = at;
         }
     }
-    Place { held, number }
+    Place {
+        held,
+        number,
+        stopped: false,
+    }
 }
 
-// Answers the lines of standard input that end in a newline, and holds the characters after the last one. Each turn reads some bytes;
-// no input has as many as there are turns.
+// Answers the lines of standard input that end in a newline, and holds the characters after the last one; none where the card stops.
+// No input needs as many turns.
 fn take_input(store: &mut [u8], line: &mut [u8], chunk: &mut [u8]) -> Place
     requires { ⌜ (6 < length (now store)) × (mostKept ≤ length (now line)) ⌝ }
     ensures { λ r. ⌜ r .held ≤ mostKept ⌝ }
 {
-    let mut place = Place { held: 0, number: 1 };
+    let mut place = Place {
+        held: 0,
+        number: 1,
+        stopped: false,
+    };
     let mut turns = u64::MAX;
     while turns > 0 {
-        let got = io::count(libc::read(STDIN_FILENO, chunk), chunk);
-        if got == 0 {
+        let got = streams::read_some(chunk);
+        if got.failed {
+            streams::tell_input();
+            return Place {
+                held: 0,
+                number: place.number,
+                stopped: true,
+            };
+        }
+        if got.ended {
             return place;
         }
-        place = take_chunk(store, line, &chunk[..got], place);
+        place = take_chunk(store, line, &chunk[..got.count], place);
+        if place.stopped {
+            return place;
+        }
         turns -= 1;
     }
     place

@@ -7,15 +7,14 @@ use mathlib.Core.Option.{Option, none, some}
 use lib.Dec.{T}
 use lib.ListN.{length}
 use Rattle.rules.specs.Bytes.{Bytes, isSome, someAnd, listOf, flat}
-use Rattle.rules.specs.Code.{Call, callAt, callsOf, instructionLength, splitFrom, split, endsWell, codeSplits}
+use Rattle.rules.specs.Code.{Call, callAt, callsOf, instructionLength, splitFrom, split, lastMayEnd, codeSplits}
 use Rattle.codes.specs.Table.{nonzero}
 use Rattle.codes.specs.Calls.{kindOf, Whole, SplitsFrom, callsFrom, callsHere, IndexFits}
 use Rattle.codes.specs.declared.Calling.{Calling}
 use Rattle.codes.specs.declared.CallHere.{CallHere}
 use Rattle.codes.specs.declared.CallHere.the-variants as here
 use Rattle.codes.proofs.Splitting.{split-turn, split-ended, split-inside}
-use Rattle.codes.proofs.Landing.{whole-nonzero}
-use Rattle.codes.proofs.Instructions.{nonzero-is}
+use Rattle.codes.proofs.Sizes.{nonzero-is, whole-nonzero}
 
 -- from offset 0 on they are the calls of the code
 pub calls-start : (code : Bytes) → callsFrom code 0 ≡ callsOf code
@@ -27,7 +26,7 @@ pub splits-start : (code : Bytes) → T (codeSplits code) → SplitsFrom code 0
 unfolding SplitsFrom codeSplits split
 splits-start code h = go (splitFrom (length code) code 0) h
   where
-    go : (o : Option (List ℕ)) → T (someAnd o (endsWell code)) → T (isSome o)
+    go : (o : Option (List ℕ)) → T (someAnd o (lastMayEnd code)) → T (isSome o)
     go none t = t
     go (some starts) t = tt
 

@@ -1,89 +1,79 @@
--- Asking each instruction's branches: what is known where a turn begins, and the answers. Assumes nothing.
-use Prim.Native.Nat.{ℕ, zero, suc, _+_, _<_, _≤_}
-use native.Mathlib.Omega.{arith}
+-- Question 17 from the two sets: every target lies in the code, and its bit is the bit of a start. Assumes nothing.
+--
+-- zs == where the branches go; ks == where the instructions start
+use Prim.Native.Nat.{ℕ}
 use mathlib.Core.Path.{_≡_, refl, sym, ap, _∙_, subst}
-use mathlib.Core.Bool.{Bool, true, false}
-use mathlib.Core.List.{List, [], _∷_}
-use mathlib.Core.Option.{Option, none, some}
-use lib.Dec.{T}
+use mathlib.Core.Bool.{Bool, true, false, _&&_, _||_, or-true}
+use mathlib.Core.List.{List, [], _∷_, _++_}
+use lib.Dec.{T, eqb, ltb}
 use lib.IntN.{ℤ, pos, negsuc}
 use lib.ListN.{length}
-use Rattle.rules.specs.Bytes.{Bytes, all, isSome, someAnd}
-use Rattle.rules.specs.Code.{instructionLength, splitFrom, split, targetsAt, isStart, codeBranches}
-use Rattle.rules.proofs.Tests.{none-some}
-use Rattle.codes.specs.Table.{nonzero}
-use Rattle.codes.specs.Marks.{isMarked, Marks, Marked}
-use Rattle.codes.specs.Calls.{Whole}
-use Rattle.codes.proofs.Splitting.{split-turn, split-ended, split-inside}
+use borrow.Author.Tests.{eq-eqb, eqb-true}
+use Rattle.rules.specs.Bytes.{Bytes, any, all, someAnd, flat}
+use Rattle.rules.specs.Code.{split, targetsAt, isStart, codeBranches}
+use Rattle.bits.specs.Bits.{bitAt, WithinIs}
+use Rattle.codes.specs.Marks.{goesTo, inCode, Passed}
+use Rattle.codes.proofs.Adding.{all-join}
+use mathlib.Core.Option.{Option, some}
 
--- the branches of the instruction at an offset go to these starts
-abbrev pub lands : Bytes → List ℕ → ℕ → Bool
-lands code starts at = all (isStart starts) (targetsAt code at)
+clash : {A : Type 0} → false ≡ true → A
+clash e = absurd (subst (λ (b : Bool). T b) (sym e) tt)
 
--- the marks say which integers are starts
-marks-say : (marks : List Bool) (starts : List ℕ) → Marks marks starts → (zs : List ℤ) → all (isMarked marks) zs ≡ all (isStart starts) zs
-marks-say marks starts m [] = refl
-marks-say marks starts m (pos n ∷ zs) = rw (m n, marks-say marks starts m zs)
-marks-say marks starts m (negsuc n ∷ zs) = refl
+-- asked of each instruction, and of all targets at once
+all-flat : {A B : Type 0} (p : B → Bool) (f : A → List B) (xs : List A) → all (λ x. all p (f x)) xs ≡ all p (flat f xs)
+all-flat p f [] = refl
+all-flat p f (x ∷ xs) = ap (λ (b : Bool). all p (f x) && b) (all-flat p f xs) ∙ sym (all-join p (f x) (flat f xs))
 
--- what is known where a turn begins: what is left to ask decides
-pub record Landing (code : Bytes) (marks : List Bool) (at : ℕ) : Type 0 where
-  pub starts : List ℕ
-  pub marked : Marks marks starts
-  pub rest : List ℕ
-  pub left : splitFrom (length code) code at ≡ some rest
-  pub same : codeBranches code ≡ all (lands code starts) rest
+module _ (n : ℕ) (ks : List ℕ) where
+  -- starts lie in the code: where all targets are starts, all do
+  starts-in : ((k : ℕ) → any (eqb k) ks ≡ true → ltb k n ≡ true) → (zs : List ℤ) → all (isStart ks) zs ≡ true → all (inCode n) zs ≡ true
+  starts-in b [] e = refl
+  starts-in b (pos k ∷ zs) e = go (any (eqb k) ks) refl e (starts-in b zs)
+    where
+      go : (t : Bool) → any (eqb k) ks ≡ t → (t && all (isStart ks) zs) ≡ true → (all (isStart ks) zs ≡ true → all (inCode n) zs ≡ true) → (ltb k n && all (inCode n) zs) ≡ true
+      go true q e rec = ap (λ (x : Bool). x && all (inCode n) zs) (b k q) ∙ rec e
+      go false q e rec = clash e
+  starts-in b (negsuc k ∷ zs) e = clash e
 
-pub landing-start : (code : Bytes) (marks : List Bool) → Marked code marks → Landing code marks 0
-unfolding split codeBranches
-landing-start code marks w = record {
-  starts = w .0;
-  marked = w .2;
-  rest = w .0;
-  left = w .1;
-  same = ap (λ (o : Option (List ℕ)). someAnd o (λ starts. all (lands code starts) starts)) (w .1);
-}
+  -- every bit is a start's
+  all-starts : (zs : List ℤ) → all (inCode n) zs ≡ true → ((k : ℕ) → any (goesTo k) zs ≡ true → any (eqb k) ks ≡ true) → all (isStart ks) zs ≡ true
+  all-starts [] e h = refl
+  all-starts (pos k ∷ zs) e h =
+      ap (λ (x : Bool). x && all (isStart ks) zs) (h k (ap (λ (x : Bool). x || any (goesTo k) zs) (eq-eqb k k refl)))
+      ∙ all-starts zs (rest (ltb k n) e) (λ j q. h j (ap (λ (x : Bool). eqb j k || x) q ∙ or-true (eqb j k)))
+    where
+      rest : (t : Bool) → (t && all (inCode n) zs) ≡ true → all (inCode n) zs ≡ true
+      rest true e = e
+      rest false e = clash e
+  all-starts (negsuc k ∷ zs) e h = clash e
 
-pub same-number : (n r : ℕ) → some n ≡ nonzero r → n ≡ r
-same-number n zero e = absurd (none-some (sym e))
-same-number n (suc r) e = cc
+-- one bit is none's
+not-starts : (ks : List ℕ) (k : ℕ) (zs : List ℤ) → any (goesTo k) zs ≡ true → any (eqb k) ks ≡ false → all (isStart ks) zs ≡ false
+not-starts ks k [] e h = clash e
+not-starts ks k (pos j ∷ zs) e h = go (eqb k j) refl e (λ r. not-starts ks k zs r h)
+  where
+    second : (a : Bool) → all (isStart ks) zs ≡ false → (a && all (isStart ks) zs) ≡ false
+    second true e = e
+    second false e = refl
 
-pub whole-nonzero : (o : Option ℕ) (r : ℕ) → T (isSome o) → o ≡ nonzero r → r ≡ 0 → ⊥
-whole-nonzero none r t e z = absurd t
-whole-nonzero (some n) zero t e z = none-some (sym e)
-whole-nonzero (some n) (suc r) t e z = omega arith
+    go : (t : Bool) → eqb k j ≡ t → (t || any (goesTo k) zs) ≡ true → (any (goesTo k) zs ≡ true → all (isStart ks) zs ≡ false) → (any (eqb j) ks && all (isStart ks) zs) ≡ false
+    go true q e rec = ap (λ (x : Bool). x && all (isStart ks) zs) (subst (λ (i : ℕ). any (eqb i) ks ≡ false) (eqb-true k j q) h)
+    go false q e rec = second (any (eqb j) ks) (rec e)
+not-starts ks k (negsuc j ∷ zs) e h = refl
 
-module _ (code : Bytes) (marks : List Bool) (at : ℕ) (g : Landing code marks at) where
-  pub landing-inside : at ≤ length code
-  landing-inside = split-inside (length code) code at (g .rest) (g .left)
+module _ (code : Bytes) (inside calls : Bool) (starts targets : Bytes) (ks : List ℕ) (q : split code ≡ some ks) (p : Passed code inside calls starts targets ks) where
+  branches-are : codeBranches code ≡ all (isStart ks) (flat (targetsAt code) ks)
+  unfolding codeBranches
+  branches-are = ap (λ (o : Option (List ℕ)). someAnd o (λ starts. all (λ at. all (isStart starts) (targetsAt code at)) starts)) q ∙ all-flat (isStart ks) (targetsAt code) ks
 
-  pub landing-done : length code ≤ at → codeBranches code ≡ true
-  landing-done h =
-      let e : at ≡ length code = omega (arith, landing-inside) in
-      g .same ∙ ap (all (lands code (g .starts))) (sym (split-ended (length code) code at (g .rest) (g .left) e))
+  pub lands-outside : inside ≡ false → codeBranches code ≡ false
+  lands-outside e = branches-are ∙ go (all (isStart ks) (flat (targetsAt code) ks)) refl
+    where
+      go : (t : Bool) → all (isStart ks) (flat (targetsAt code) ks) ≡ t → t ≡ false
+      go true x = clash (sym e ∙ p .landed .answer ∙ starts-in (length code) ks (p .below) (flat (targetsAt code) ks) x)
+      go false x = refl
 
-  module _ (h : at < length code) where
-    pub landing-whole : Whole code at
-    landing-whole =
-        let t = split-turn (length code) code at (g .rest) (g .left) (λ e. omega arith) in
-        subst (λ (o : Option ℕ). T (isSome o)) (sym (t .2)) tt
-
-    lands-is : (b : Bool) → all (isMarked marks) (targetsAt code at) ≡ b → lands code (g .starts) at ≡ b
-    lands-is b e = sym (marks-say marks (g .starts) (g .marked) (targetsAt code at)) ∙ e
-
-    pub landing-bad : all (isMarked marks) (targetsAt code at) ≡ false → codeBranches code ≡ false
-    landing-bad e =
-        let t = split-turn (length code) code at (g .rest) (g .left) (λ e. omega arith) in
-        g .same ∙ ap (all (lands code (g .starts))) (sym (t .4)) ∙ rw (lands-is false e)
-
-    pub landing-step : (n : ℕ) → instructionLength code at ≡ nonzero n → all (isMarked marks) (targetsAt code at) ≡ true → Landing code marks (at + n)
-    landing-step n i e =
-        let t = split-turn (length code) code at (g .rest) (g .left) (λ e. omega arith) in
-        let q : t .0 ≡ n = same-number (t .0) n (sym (t .2) ∙ i) in
-        record {
-          starts = g .starts;
-          marked = g .marked;
-          rest = t .1;
-          left = subst (λ (k : ℕ). splitFrom (length code) code (at + k) ≡ some (t .1)) q (t .3);
-          same = g .same ∙ ap (all (lands code (g .starts))) (sym (t .4)) ∙ rw (lands-is true e);
-        }
+  pub lands-inside : inside ≡ true → (r : Bool) → WithinIs targets starts r → codeBranches code ≡ r
+  lands-inside e true w = branches-are ∙ all-starts (length code) ks (flat (targetsAt code) ks) (sym (p .landed .answer) ∙ e)
+      (λ k g. sym (p .marked k) ∙ w k (p .landed .marked e k ∙ g))
+  lands-inside e false w = branches-are ∙ not-starts ks (w .0) (flat (targetsAt code) ks) (sym (p .landed .marked e (w .0)) ∙ w .1) (sym (p .marked (w .0)) ∙ w .2)

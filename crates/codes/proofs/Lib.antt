@@ -1,10 +1,11 @@
 -- The laws that the proofs of this crate's functions cite.
 mod Rule
-mod Instructions
+mod Sizes
 mod Targets
+mod Adding
 mod Splitting
-mod Marking
-mod Landing
-pub mod Numbers
-pub mod Calls
 mod Opcodes
+mod Walking
+mod Landing
+mod Numbers
+pub mod Calls

@@ -11,13 +11,13 @@ use lib.Dec.{T, leb, eqb, eqb→eq, leb→le}
 use lib.ListN.{length, getD}
 use borrow.Author.Tests.{lt-leb, leb-false, not-true}
 use Rattle.rules.specs.Bytes.{pick, allFrom, at}
-use Rattle.rules.specs.Code.{Length, fixed, bySwitch, undefined, lengthOf, among}
+use Rattle.rules.specs.Code.{Length, byOpcode, bySwitch, undefined, lengthOf, among}
 use Rattle.rules.proofs.Tests.{and-l, and-r, is-true, allFrom-zero}
 use Rattle.codes.specs.Table.{switchOf, told, branchBytes, Says, TableIs}
 
 -- the length is that many bytes, and undefined where that is 0
 unfoldable pub isPlain : ℕ → Length → Bool
-isPlain n (fixed m) = eqb n m && not (eqb n 0)
+isPlain n (byOpcode m) = eqb n m && not (eqb n 0)
 isPlain n (bySwitch w) = false
 isPlain n undefined = eqb n 0
 
@@ -26,14 +26,15 @@ abbrev pub agree : Bool → Bool → Bool
 agree true b = b
 agree false b = not b
 
--- a switch's form is its opcode less 70, and its size its head
+-- a switch's form is its opcode less 6F, and its size its head
 unfoldable pub rightForm : ℕ → ℕ → ℕ → Bool
 rightForm o f n =
-    pick (leb f 2) (isPlain n (lengthOf o)) (eqb o (0x70 + f) && eqb n (switchOf f .head))
-    && (leb f 6
-    && (agree (among ((0x60, 0x70) ∷ []) o) (eqb f 1)
-    && (agree (among ((0x71, 0x71) ∷ (0x98, 0xA8) ∷ []) o) (eqb f 2)
-    && leb (branchBytes f) n)))
+    pick (leb f 3) (isPlain n (lengthOf o)) (eqb o (0x6F + f) && eqb n (switchOf f .head))
+    && (leb f 7
+    && (agree (among ((0x8B, 0x8E) ∷ []) o) (eqb f 1)
+    && (agree (among ((0x60, 0x70) ∷ []) o) (eqb f 2)
+    && (agree (among ((0x71, 0x71) ∷ (0x98, 0xA8) ∷ []) o) (eqb f 3)
+    && leb (branchBytes f) n))))
 
 -- the test of an opcode and its entry
 unfoldable pub right : ℕ → ℕ → Bool
@@ -43,62 +44,65 @@ agree-is : (a b : Bool) → T (agree a b) → a ≡ b
 agree-is true b h = sym (is-true b h)
 agree-is false b h = sym (not-true b (is-true (not b) h))
 
-plain-is : (n : ℕ) (l : Length) → T (isPlain n l) → l ≡ pick (eqb n 0) undefined (fixed n)
+plain-is : (n : ℕ) (l : Length) → T (isPlain n l) → l ≡ pick (eqb n 0) undefined (byOpcode n)
 unfolding isPlain
-plain-is n (fixed m) h =
+plain-is n (byOpcode m) h =
     let e : n ≡ m = eqb→eq n m (and-l (eqb n m) (not (eqb n 0)) h) in
     let z : eqb n 0 ≡ false = not-true (eqb n 0) (is-true (not (eqb n 0)) (and-r (eqb n m) (not (eqb n 0)) h)) in
     rw (z, e)
 plain-is n (bySwitch w) h = absurd h
 plain-is n undefined h = rw (is-true (eqb n 0) h)
 
-switch-is : (f : ℕ) → 2 < f → f ≤ 6 → lengthOf (0x70 + f) ≡ bySwitch (switchOf f)
+switch-is : (f : ℕ) → 3 < f → f ≤ 7 → lengthOf (0x6F + f) ≡ bySwitch (switchOf f)
 unfolding lengthOf switchOf
 switch-is f h m =
-    elim (ℕ-discrete f 3) [
+    elim (ℕ-discrete f 4) [
       | yes e ↦ rw e refl
-      | no a ↦ elim (ℕ-discrete f 4) [
+      | no a ↦ elim (ℕ-discrete f 5) [
         | yes e ↦ rw e refl
-        | no b ↦ elim (ℕ-discrete f 5) [
+        | no b ↦ elim (ℕ-discrete f 6) [
           | yes e ↦ rw e refl
-          | no d ↦ let e : f ≡ 6 = omega arith in rw e refl
+          | no d ↦ let e : f ≡ 7 = omega arith in rw e refl
         ]
       ]
     ]
 
 module _ (o f n : ℕ) where
   -- what the test says of the length
-  tells-is : T (pick (leb f 2) (isPlain n (lengthOf o)) (eqb o (0x70 + f) && eqb n (switchOf f .head))) → f ≤ 6 → lengthOf o ≡ told f n
+  tells-is : T (pick (leb f 3) (isPlain n (lengthOf o)) (eqb o (0x6F + f) && eqb n (switchOf f .head))) → f ≤ 7 → lengthOf o ≡ told f n
   unfolding told
-  tells-is h m = go (leb f 2) refl h
+  tells-is h m = go (leb f 3) refl h
     where
-      go : (t : Bool) → leb f 2 ≡ t → T (pick t (isPlain n (lengthOf o)) (eqb o (0x70 + f) && eqb n (switchOf f .head))) → lengthOf o ≡ pick t (pick (eqb n 0) undefined (fixed n)) (bySwitch (switchOf f))
+      go : (t : Bool) → leb f 3 ≡ t → T (pick t (isPlain n (lengthOf o)) (eqb o (0x6F + f) && eqb n (switchOf f .head))) → lengthOf o ≡ pick t (pick (eqb n 0) undefined (byOpcode n)) (bySwitch (switchOf f))
       go true e k = plain-is n (lengthOf o) k
       go false e k =
-          ap lengthOf (eqb→eq o (0x70 + f) (and-l (eqb o (0x70 + f)) (eqb n (switchOf f .head)) k))
-          ∙ switch-is f (leb-false f 2 e) m
+          ap lengthOf (eqb→eq o (0x6F + f) (and-l (eqb o (0x6F + f)) (eqb n (switchOf f .head)) k))
+          ∙ switch-is f (leb-false f 3 e) m
 
-  head-is : T (pick (leb f 2) (isPlain n (lengthOf o)) (eqb o (0x70 + f) && eqb n (switchOf f .head))) → 2 < f → n ≡ switchOf f .head
-  head-is h l = eqb→eq n (switchOf f .head) (and-r (eqb o (0x70 + f)) (eqb n (switchOf f .head)) (rw (lt-leb f 2 l) at h))
+  head-is : T (pick (leb f 3) (isPlain n (lengthOf o)) (eqb o (0x6F + f) && eqb n (switchOf f .head))) → 3 < f → n ≡ switchOf f .head
+  head-is h l = eqb→eq n (switchOf f .head) (and-r (eqb o (0x6F + f)) (eqb n (switchOf f .head)) (rw (lt-leb f 3 l) at h))
 
   says-is : T (rightForm o f n) → Says o f n
   unfolding rightForm
   says-is h =
-      let a : Bool = pick (leb f 2) (isPlain n (lengthOf o)) (eqb o (0x70 + f) && eqb n (switchOf f .head)) in
-      let s1 : Bool = agree (among ((0x60, 0x70) ∷ []) o) (eqb f 1) in
-      let s2 : Bool = agree (among ((0x71, 0x71) ∷ (0x98, 0xA8) ∷ []) o) (eqb f 2) in
+      let a : Bool = pick (leb f 3) (isPlain n (lengthOf o)) (eqb o (0x6F + f) && eqb n (switchOf f .head)) in
+      let k : Bool = agree (among ((0x8B, 0x8E) ∷ []) o) (eqb f 1) in
+      let s1 : Bool = agree (among ((0x60, 0x70) ∷ []) o) (eqb f 2) in
+      let s2 : Bool = agree (among ((0x71, 0x71) ∷ (0x98, 0xA8) ∷ []) o) (eqb f 3) in
       let d : Bool = leb (branchBytes f) n in
-      let h1 = and-r a (leb f 6 && (s1 && (s2 && d))) h in
-      let h2 = and-r (leb f 6) (s1 && (s2 && d)) h1 in
-      let h3 = and-r s1 (s2 && d) h2 in
-      let most = leb→le f 6 (and-l (leb f 6) (s1 && (s2 && d)) h1) in
-      let tests = and-l a (leb f 6 && (s1 && (s2 && d))) h in
+      let h1 = and-r a (leb f 7 && (k && (s1 && (s2 && d)))) h in
+      let h2 = and-r (leb f 7) (k && (s1 && (s2 && d))) h1 in
+      let h3 = and-r k (s1 && (s2 && d)) h2 in
+      let h4 = and-r s1 (s2 && d) h3 in
+      let most = leb→le f 7 (and-l (leb f 7) (k && (s1 && (s2 && d))) h1) in
+      let tests = and-l a (leb f 7 && (k && (s1 && (s2 && d)))) h in
       record {
         known = most;
         tells = tells-is tests most;
-        by-s1 = agree-is (among ((0x60, 0x70) ∷ []) o) (eqb f 1) (and-l s1 (s2 && d) h2);
-        by-s2 = agree-is (among ((0x71, 0x71) ∷ (0x98, 0xA8) ∷ []) o) (eqb f 2) (and-l s2 d h3);
-        reaches = leb→le (branchBytes f) n (and-r s2 d h3);
+        calls = agree-is (among ((0x8B, 0x8E) ∷ []) o) (eqb f 1) (and-l k (s1 && (s2 && d)) h2);
+        by-s1 = agree-is (among ((0x60, 0x70) ∷ []) o) (eqb f 2) (and-l s1 (s2 && d) h3);
+        by-s2 = agree-is (among ((0x71, 0x71) ∷ (0x98, 0xA8) ∷ []) o) (eqb f 3) (and-l s2 d h4);
+        reaches = leb→le (branchBytes f) n (and-r s2 d h4);
         head = head-is tests;
       }
 

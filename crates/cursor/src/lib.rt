@@ -2,7 +2,7 @@
 ghost use mathlib.Core.Path.{_≡_};
 ghost use Prim.Native.Nat.{_≤_};
 ghost use lib.ListN.{length};
-ghost use Rattle.rules.specs.Bytes.{u1, u2, aid, span, counted, same};
+ghost use Rattle.rules.specs.Bytes.{aidLength, u1, u2, aid, span, counted, same};
 ghost use Rattle.rules.specs.Package.{standard, storeLimits};
 ghost use Rattle.cursor.specs.Aids.{bytesOf, padded, Made};
 ghost use Rattle.cursor.specs.Limits.{limitsOf};
@@ -247,4 +247,12 @@ impl Cursor {
         }
         Field::Is(count, c)
     }
+}
+
+// 3. Has an AID given to a call 5 to 16 bytes?
+pub fn length_ok(aid: &[u8]) -> bool
+    ensures { λ r. ⌜ r ≡ aidLength (length (now (aid .entry))) ⌝ }
+{
+    let made = Aid::from_bytes(aid);
+    made.ok
 }

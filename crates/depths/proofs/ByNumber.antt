@@ -7,8 +7,8 @@ use mathlib.Core.Bool.{Bool, true, false, _&&_, not}
 use mathlib.Core.List.{List, [], _∷_}
 use mathlib.Core.Option.{none, some, Option·some-injective}
 use lib.Dec.{leb}
-use borrow.Author.Tests.{lt-leb}
 use lib.ListN.{length, drop}
+use borrow.Author.Tests.{lt-leb}
 use Rattle.rules.specs.Bytes.{pick, all, allFrom, at, count}
 use Rattle.rules.proofs.Tests.{none-some}
 
@@ -67,6 +67,9 @@ module _ {A : Type 0} (p : ℕ → A → Bool) (xs : List A) (i : ℕ) where
   pub left-done : length xs ≤ i → Left → allFrom p 0 xs ≡ true
   left-done h t = t ∙ ap (allFrom p i) (drop-end xs i h)
 
+  pub left-none : at xs i ≡ none → Left → allFrom p 0 xs ≡ true
+  left-none e t = t ∙ ap (allFrom p i) (drop-none xs i e)
+
 -- those counted, and those left
 module _ {A : Type 0} (q : A → Bool) (xs : List A) (i n : ℕ) where
   abbrev pub Counting : Type 0
@@ -79,8 +82,8 @@ module _ {A : Type 0} (q : A → Bool) (xs : List A) (i n : ℕ) where
       go true z = omega (arith, t)
       go false z = omega (arith, t)
 
-  pub count-done : at xs i ≡ none → Counting → n ≡ count q xs
-  count-done e t = let z : count q (drop i xs) ≡ 0 = ap (count q) (drop-none xs i e) in omega (arith, t)
+  pub count-done : length xs ≤ i → Counting → n ≡ count q xs
+  count-done h t = let z : count q (drop i xs) ≡ 0 = ap (count q) (drop-end xs i h) in omega (arith, t)
 
 -- none is counted exactly where each fails the test
 pub none-counted : {A : Type 0} (q : A → Bool) (xs : List A) → all (λ x. not (q x)) xs ≡ leb (count q xs) 0

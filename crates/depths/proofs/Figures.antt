@@ -1,96 +1,162 @@
--- Question 14's third part with the depth figure, and its three parts together. Assumes nothing.
+-- Question 14's second and third part over the own classes, with the depth figure; and its three parts together. Assumes nothing.
 use Prim.Native.Nat.{ℕ, _+_, _≤_, _<_, max}
 use native.Mathlib.Omega.{arith}
 use native.Mathlib.Numerals.{add-one}
+use native.Mathlib.Decide.{decLe}
 use mathlib.Core.Path.{_≡_, refl, sym, _∙_, ap, ap₂}
 use mathlib.Core.Bool.{Bool, true, false, _&&_}
 use mathlib.Core.List.{List}
-use lib.Dec.{leb}
-use lib.ListN.{drop}
-use borrow.Author.Tests.{le-leb, lt-leb}
-use Rattle.rules.specs.Bytes.{Bytes, all, allFrom}
-use Rattle.rules.specs.Package.{storeLimits}
+use mathlib.Core.Option.{none}
+use lib.Dec.{leb, eqb}
+use lib.ListN.{length, drop, getD, set, length-set}
+use lib.Seq.{getD-set-same, getD-set-other}
+use borrow.Author.Tests.{le-leb, lt-leb, eqb-true, eqb-false}
+use Rattle.rules.specs.Bytes.{Bytes, all, allFrom, at}
+use Rattle.rules.specs.Package.{storeLimits, mostClasses, Class}
 use Rattle.rules.specs.Store.{Entry}
 use Rattle.rules.specs.Classes.{Installed, installed}
 use Rattle.rules.specs.Questions.{parentExists, parentKinds, depthWithin, q14-parents}
 use Rattle.rules.specs.Operations.{deepestFrom}
-use Rattle.rules.proofs.Tests.{of-true}
+use Rattle.rules.proofs.Tests.{of-true, none-some}
+use Rattle.rules.proofs.Lists.{at-there, at-below}
+use Rattle.rules.proofs.Asked.{parents-yes}
+use Rattle.places.proofs.Track.{placed-none}
+use Rattle.files.specs.Say.{ClassPlaced}
+use Rattle.files.specs.declared.Spot.the-variants.{Nothing}
 use Rattle.homes.specs.Homes.{Imports, Parents, ownHome}
-use Rattle.depths.specs.Depths.{ImportsThere, ParentsThere, OfParents, ClassCount, ParentsExist, AllKinds, DepthIs, ParentedIs, DepthsAre}
+use Rattle.homes.specs.Homes as homes
+use Rattle.homes.proofs.Homes.{home-reads}
+use Rattle.named.specs.Named.{Judged, ClassFrom}
+use Rattle.depths.specs.Depths.{ParentsThere, OfParents, ParentsExist, ClassIs, KindsIs, DepthIs, OwnTo, OwnDepths, laterParts, LaterParts, ParentedIs, OwnTold}
 use Rattle.depths.specs.declared.Parented.{Parented}
 use Rattle.depths.specs.declared.Parented.the-variants.{Yes, No}
-use Rattle.depths.proofs.ByNumber.{drop-at, drop-end, Left, left-more, left-bad, left-done}
-use Rattle.depths.proofs.ParentKinds.{own-at}
+use Rattle.depths.proofs.ByNumber.{drop-at, drop-none, all-from, Left, left-more, left-bad, left-none}
+use Rattle.depths.proofs.Exist.{own-at}
+
+and-none : (b : Bool) → (b && false) ≡ false
+and-none true = refl
+and-none false = refl
 
 module _ (f s : Bytes) (end : ℕ) where
-  -- the depths of the own classes from class n on are left
+  -- the kinds and the depths of the own classes from class n on are left
+  abbrev pub KindsLeft : ℕ → Type 0
+  KindsLeft n = OfParents f s end λ es self. Left (λ j k. parentKinds (installed (storeLimits s) es) self k) (self .pack .classes) n
+
   abbrev pub DepthsLeft : ℕ → ℕ → Type 0
   DepthsLeft n figure = OfParents f s end λ es self.
       Left (λ j k. depthWithin (storeLimits s) (installed (storeLimits s) es) self j) (self .pack .classes) n
       × (deepestFrom (storeLimits s) (installed (storeLimits s) es) self 0 (self .pack .classes) ≡ max figure (deepestFrom (storeLimits s) (installed (storeLimits s) es) self n (drop n (self .pack .classes))))
 
+  pub kinds-start : KindsLeft 0
+  kinds-start es self g = refl
+
   pub depths-start : DepthsLeft 0 0
   depths-start es self g = (refl, omega arith)
 
-  module _ (m : ℕ) (c : ClassCount f m) (n figure : ℕ) (t : DepthsLeft n figure) (most : ℕ) (l : most ≡ storeLimits s .depth) where
-    module _ (h : n < m) (d : ℕ) (q : DepthIs f s end (ownHome end) n d) where
+  -- own class n
+  module _ (n a : ℕ) (h : ClassFrom f n a) where
+    own-is : (es : List Entry) (self : Installed) → Parents f s end es self → (k : Class) × ClassIs f s end (ownHome end) n es self self k
+    own-is es self g = let y = own-at f s end n a h es self (g .imported) in (y .0, record { parents = g; home = homes.own; is = y .1 })
+
+    pub kinds-next : KindsLeft n → KindsIs f s end (ownHome end) n true → KindsLeft (n + 1)
+    kinds-next t q es self g =
+        let y = own-is es self g in
+        left-more (λ j k. parentKinds (installed (storeLimits s) es) self k) (self .pack .classes) n (y .0) (y .1 .is) (sym (q es self self (y .0) (y .1))) (t es self g)
+
+    pub kinds-bad : (ds : List ℕ) → KindsLeft n → KindsIs f s end (ownHome end) n false → LaterParts f s end ds No
+    kinds-bad ds t q es self g =
+        let y = own-is es self g in
+        let e = all-from (parentKinds (installed (storeLimits s) es) self) 0 (self .pack .classes) ∙ left-bad (λ j k. parentKinds (installed (storeLimits s) es) self k) (self .pack .classes) n (y .0) (y .1 .is) (sym (q es self self (y .0) (y .1))) (t es self g) in
+        rw e
+
+    module _ (figure : ℕ) (t : DepthsLeft n figure) (most : ℕ) (l : most ≡ storeLimits s .depth) (d : ℕ) (q : DepthIs f s end (ownHome end) n d) where
       within-is : (b : Bool) → leb d most ≡ b → OfParents f s end λ es self. depthWithin (storeLimits s) (installed (storeLimits s) es) self n ≡ b
-      within-is b z es self g =
-          let y = own-at f s end m c n es self g h in
-          ap₂ leb (sym (q es self self (y .0) (y .1))) (sym l) ∙ z
+      within-is b z es self g = let y = own-is es self g in ap₂ leb (sym (q es self self (y .0) (y .1))) (sym l) ∙ z
 
       pub depths-more : d ≤ most → (v : ℕ) → v ≡ max d figure → DepthsLeft (n + 1) v
       depths-more z v w es self g =
-          let y = own-at f s end m c n es self g h in
-          let a = t es self g in
+          let y = own-is es self g in
+          let b = t es self g in
           let e = q es self self (y .0) (y .1) in
           let r = ap (deepestFrom (storeLimits s) (installed (storeLimits s) es) self n) (drop-at (self .pack .classes) n (y .0) (y .1 .is))
           ∙ ap₂ (λ (u : ℕ) (j : ℕ). max u (deepestFrom (storeLimits s) (installed (storeLimits s) es) self j (drop (n + 1) (self .pack .classes)))) (sym e) (sym (add-one n)) in (
-            left-more (λ j k. depthWithin (storeLimits s) (installed (storeLimits s) es) self j) (self .pack .classes) n (y .0) (y .1 .is) (within-is true (le-leb d most z) es self g) (a .0),
-            omega (arith, a .1, r),
+            left-more (λ j k. depthWithin (storeLimits s) (installed (storeLimits s) es) self j) (self .pack .classes) n (y .0) (y .1 .is) (within-is true (le-leb d most z) es self g) (b .0),
+            omega (arith, b .1, r, w),
           )
 
-      pub depths-bad : most < d → DepthsAre f s end No
-      depths-bad z es self g =
-          let y = own-at f s end m c n es self g h in
-          left-bad (λ j k. depthWithin (storeLimits s) (installed (storeLimits s) es) self j) (self .pack .classes) n (y .0) (y .1 .is) (within-is false (lt-leb d most z) es self g) ((t es self g) .0)
+      pub depths-bad : (ds : List ℕ) → most < d → LaterParts f s end ds No
+      depths-bad ds z es self g =
+          let y = own-is es self g in
+          let e = left-bad (λ j k. depthWithin (storeLimits s) (installed (storeLimits s) es) self j) (self .pack .classes) n (y .0) (y .1 .is) (within-is false (lt-leb d most z) es self g) ((t es self g) .0) in
+          ap (λ (b : Bool). all (parentKinds (installed (storeLimits s) es) self) (self .pack .classes) && b) e ∙ and-none (all (parentKinds (installed (storeLimits s) es) self) (self .pack .classes))
 
-    pub depths-done : m ≤ n → DepthsAre f s end (Yes figure)
-    depths-done h es self g =
-        let z = c (storeLimits s) (self .pack) (g .imported .setting .reads) in
-        let a = t es self g in
-        let r = ap (deepestFrom (storeLimits s) (installed (storeLimits s) es) self n) (drop-end (self .pack .classes) n (omega (arith, z))) in
-        (left-done (λ j k. depthWithin (storeLimits s) (installed (storeLimits s) es) self j) (self .pack .classes) n (omega (arith, z)) (a .0), omega (arith, a .1, r))
+  -- the depths of the own classes below n
+  pub own-start : (ds : List ℕ) → length ds ≡ mostClasses → OwnTo f s end 0 ds
+  own-start ds e = record { size = e; told = λ m h. absurd (omega arith) }
+
+  pub own-more : (n d : ℕ) (ds : List ℕ) → n < mostClasses → OwnTo f s end n ds → DepthIs f s end (ownHome end) n d → OwnTo f s end (n + 1) (set ds n d)
+  own-more n d ds h o q = record { size = simp length-set (o .size); told = told }
+    where
+      told : (m : ℕ) → m < n + 1 → DepthIs f s end (ownHome end) m (getD (set ds n d) m 0)
+      told m k = go (eqb m n) refl
+        where
+          go : (b : Bool) → eqb m n ≡ b → DepthIs f s end (ownHome end) m (getD (set ds n d) m 0)
+          go true e = rw (eqb-true m n e, getD-set-same ds n d 0 (omega (arith, h, o .size))) q
+          go false e = let ne = eqb-false m n e in rw (getD-set-other ds n m d 0 ne) (o .told m (omega (arith, k, ne)))
+
+  module _ (n : ℕ) (over : ClassPlaced f n Nothing) where
+    pub own-all : (ds : List ℕ) → OwnTo f s end n ds → OwnDepths f s end ds
+    own-all ds o m es self x k c =
+        let r = home-reads f s end es self (c .parents .imported .setting) (ownHome end) x (c .home) in
+        let e = placed-none (over (storeLimits s) (x .pack) r) in
+        o .told m (below (x .pack .classes) e (at-below (x .pack .classes) m k (c .is))) es self x k c
+      where
+        below : (xs : List Class) → at xs n ≡ none → m < length xs → m < n
+        below xs e h = elim (decLe n m) [
+          | yes l ↦ let y = at-there xs n (omega arith) in absurd (none-some (sym e ∙ y .1))
+          | no l ↦ omega arith
+        ]
+
+    pub later-done : (figure : ℕ) (ds : List ℕ) → KindsLeft n → DepthsLeft n figure → OwnTo f s end n ds → LaterParts f s end ds (Yes figure)
+    later-done figure ds t u o = (both, own-all ds o)
+      where
+        both : OfParents f s end λ es self. (laterParts s es self ≡ true) × (figure ≡ deepestFrom (storeLimits s) (installed (storeLimits s) es) self 0 (self .pack .classes))
+        both es self g =
+            let e = placed-none (over (storeLimits s) (self .pack) (g .imported .setting .reads)) in
+            let b = u es self g in
+            let r = ap (deepestFrom (storeLimits s) (installed (storeLimits s) es) self n) (drop-none (self .pack .classes) n e) in
+            let k = all-from (parentKinds (installed (storeLimits s) es) self) 0 (self .pack .classes) ∙ left-none (λ j k. parentKinds (installed (storeLimits s) es) self k) (self .pack .classes) n e (t es self g) in
+            let d = left-none (λ j k. depthWithin (storeLimits s) (installed (storeLimits s) es) self j) (self .pack .classes) n e (b .0) in
+            (ap₂ _&&_ k d, omega (arith, b .1, r))
 
   -- the three parts
   abbrev exist : List Entry → Installed → Bool
   exist es self = allFrom (λ i k. all (parentExists (installed (storeLimits s) es) self i) (k .parents)) 0 (self .pack .classes)
 
-  abbrev kinds : List Entry → Installed → Bool
-  kinds es self = all (parentKinds (installed (storeLimits s) es) self) (self .pack .classes)
-
-  abbrev depths : List Entry → Installed → Bool
-  depths es self = allFrom (λ i k. depthWithin (storeLimits s) (installed (storeLimits s) es) self i) 0 (self .pack .classes)
-
   pub no-parent : ParentsExist f s end false → ParentedIs f s end No
   unfolding q14-parents
-  no-parent q es self i = ap (λ (b : Bool). b && (kinds es self && depths es self)) (sym (q es self i))
+  no-parent q es self i = ap (λ (b : Bool). b && laterParts s es self) (sym (q es self i))
 
   module _ (p : ParentsExist f s end true) where
     with-parents : (es : List Entry) (self : Installed) → Imports f s end es self → Parents f s end es self
     with-parents es self i = record { imported = i; exist = of-true (sym (p es self i)) }
 
-    pub parents-there : ImportsThere f s end → ParentsThere f s end
+    pub parents-there : Judged f s end → ParentsThere f s end
     parents-there t = (t .0, t .1, with-parents (t .0) (t .1) (t .2))
 
     -- the answer is that of the later parts
-    third : (b : Bool) → AllKinds f s end b → (es : List Entry) (self : Installed) → Imports f s end es self → q14-parents (storeLimits s) (installed (storeLimits s) es) self ≡ (b && depths es self)
+    later-is : (es : List Entry) (self : Installed) → Imports f s end es self → q14-parents (storeLimits s) (installed (storeLimits s) es) self ≡ laterParts s es self
     unfolding q14-parents
-    third b q es self i = ap₂ (λ (x y : Bool). x && (y && depths es self)) (sym (p es self i)) (sym (q es self (with-parents es self i)))
+    later-is es self i = ap (λ (b : Bool). b && laterParts s es self) (sym (p es self i))
 
-    pub no-kind : AllKinds f s end false → ParentedIs f s end No
-    no-kind q es self i = third false q es self i
+    pub all-parts : (ds : List ℕ) (r : Parented) → LaterParts f s end ds r → ParentedIs f s end r
+    all-parts ds No d = λ es self i. later-is es self i ∙ d es self (with-parents es self i)
+    all-parts ds (Yes v) d = λ es self i. let z = d .0 es self (with-parents es self i) in (later-is es self i ∙ z .0, z .1)
 
-    pub all-parts : AllKinds f s end true → (r : Parented) → DepthsAre f s end r → ParentedIs f s end r
-    all-parts q No d = λ es self i. third true q es self i ∙ d es self (with-parents es self i)
-    all-parts q (Yes v) d = λ es self i. let z = d es self (with-parents es self i) in (third true q es self i ∙ z .0, z .1)
+  pub own-told : (ds : List ℕ) (r : Parented) → LaterParts f s end ds r → OwnTold f s end ds r
+  own-told ds No d = tt
+  own-told ds (Yes v) d = d .1
+
+  -- with a yes each parent exists
+  pub parented-parents : (v : ℕ) → ParentedIs f s end (Yes v) → (es : List Entry) (self : Installed) → Imports f s end es self → Parents f s end es self
+  parented-parents v q es self i = record { imported = i; exist = (parents-yes (storeLimits s) (installed (storeLimits s) es) self (of-true ((q es self i) .0))) .exist }

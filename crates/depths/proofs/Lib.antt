@@ -2,9 +2,12 @@
 pub mod Keys
 pub mod ByNumber
 pub mod Records
-pub mod Counts
 pub mod Exist
 pub mod ParentKinds
 pub mod Walk
-pub mod Memo
 pub mod Figures
+pub mod ByTable
+pub mod Written
+pub mod Longer
+pub mod Later
+pub mod Kept

@@ -1,23 +1,18 @@
-// Question 14 of a file over the entries that end at a place: parents and depths.
+// Question 14 of a file over the entries that end at a place: parents and depths. Depths of stored classes are kept in a table of half
+// bytes, written when their package was accepted.
 use fields::wide;
 use files::Spot;
-use homes::Home;
-use homes::HomeFound;
 ghost use mathlib.Core.Path.{_≡_};
-ghost use Prim.Native.Nat.{suc, max, _+_, _-_, _≤_, _<_};
-ghost use lib.ListN.{length, getD, set};
-ghost use Rattle.rules.specs.Package.{storeLimits};
+ghost use Prim.Native.Nat.{ℕ, suc, max, _+_, _*_, _/_, _≤_, _<_};
+ghost use lib.ListN.{length, getD};
+ghost use Rattle.rules.specs.Package.{storeLimits, mostClasses};
 ghost use Rattle.files.specs.Say.{Readable};
-ghost use Rattle.homes.specs.Homes.{HomeThere};
-ghost use Rattle.homes.specs.Found.{Indexed};
-ghost use Rattle.homes.specs.Memo.{memoLength, key, MemoBelow};
-ghost use Rattle.depths.specs.Depths.{ImportsThere, ParentsThere, ClassCount, HasClass, OwnClass, ExistsIs, AllExist, ParentsExist, ClassThere, ParentIs, Kind0Is, Kind0Count, KindsIs, AllKinds, capped, DepthIs, DeepestIs, MemoIs, ParentedIs, DepthsAre};
-
-// A parent: the home of its package and its class number there; or that the list has ended.
-pub enum Parent {
-    In(Home, usize),
-    End,
-}
+ghost use Rattle.bits.specs.Bits.{halfAt};
+ghost use Rattle.store.specs.Entries.{part};
+ghost use Rattle.homes.specs.Homes.{ownHome};
+ghost use Rattle.homes.specs.Found.{ImportHomes};
+ghost use Rattle.named.specs.Named.{Judged, homeOf, PackageThere, ClassFrom, RowsTrue};
+ghost use Rattle.depths.specs.Depths.{ParentsThere, ImportCount, ExistsIs, AllExist, ParentsExist, ClassThere, Kind0Is, Kind0Count, capped, DepthIs, DeepestIs, DepthsKept, toldDepth, OwnTo, OwnIs, LaterParts, ParentedIs, OwnTold, keptHalf, DepthsFit, FileKept};
 
 // The answer to question 14: no, or yes with the depth of the deepest class, 0 where there is none.
 pub enum Parented {
@@ -25,91 +20,98 @@ pub enum Parented {
     Yes(usize),
 }
 
-// The class count of a file.
-fn class_count(f: &[u8]) -> usize
-    requires { ⌜ Readable (now f) ⌝ }
-    ensures { λ r. ⌜ ClassCount (now (f .entry)) r × (r < 256) ⌝ }
-{
-    let at = files::classes_at(f);
-    wide(f[at])
+// Where the earlier entries end, and the depth limit.
+pub struct Bounds {
+    pub end: usize,
+    pub most: usize,
 }
 
-// Has the package at a home this class?
-fn has_class<'a>(f: &'a [u8], s: &'a [u8], h: Home, n: usize) -> bool
-    requires { ⌜ HomeThere (now f) (now s) h ⌝ }
-    ensures { λ r. ⌜ HasClass (now (f .entry)) (now (s .entry)) h n r ⌝ }
+// An own class: where the earlier entries end, the depth limit, the file's import count, the class's number and the place of its record.
+pub struct Own {
+    pub end: usize,
+    pub most: usize,
+    pub imports: usize,
+    pub number: usize,
+    pub place: usize,
+}
+
+// A class as it is listed: where the earlier entries end, its package number and its class number.
+pub struct Listed {
+    pub end: usize,
+    pub pack: usize,
+    pub class: usize,
+}
+
+// Of a class 1 where it is of kind 0, else 0, and its depth; of parents how many are of kind 0, and the greatest depth.
+pub struct Told {
+    pub kind0: usize,
+    pub depth: usize,
+}
+
+// The import count of a file.
+fn import_count(f: &[u8]) -> usize
+    requires { ⌜ Readable (now f) ⌝ }
+    ensures { λ r. ⌜ ImportCount (now (f .entry)) r ⌝ }
 {
-    match homes::class_place(f, s, h, n) {
-        Spot::At(_) => true,
+    wide(f[files::imports_at(f)])
+}
+
+// Does a parent of an own class, told by package and class number, exist, an own one with a smaller number?
+fn parent_exists<'a>(
+    f: &'a [u8],
+    s: &'a [u8],
+    homes: &[usize; 48],
+    rows: &mut [u16],
+    o: Own,
+    p: usize,
+    c: usize,
+) -> bool
+    requires { ⌜ Judged (now f) (now s) (o .end) × ImportHomes (now f) (now s) (o .end) (now homes) ⌝ }
+    requires { ⌜ ImportCount (now f) (o .imports) × RowsTrue (now f) (now s) (o .end) (now homes) (now rows) ⌝ }
+    ensures { λ r. ⌜ ExistsIs (now (f .entry)) (now (s .entry)) (o .end) (o .number) (record { pack = p; class = c }) r ⌝ }
+    ensures { λ _. ⌜ RowsTrue (now (f .entry)) (now (s .entry)) (o .end) (now (homes .entry)) (now (rows .exit)) ⌝ }
+{
+    if o.imports < p {
+        return false;
+    }
+    match named::class_in(f, s, o.end, homes, rows, p, c) {
+        Spot::At(_) => {
+            if p != 0 {
+                return true;
+            }
+            c < o.number
+        }
         Spot::Nothing => false,
     }
 }
 
-// Does a parent of own class n, told by package and class number, exist, an own one with a smaller number?
-fn parent_exists<'a>(
-    f: &'a [u8],
-    s: &'a [u8],
-    end: usize,
-    index: &[u16; 12288],
-    n: usize,
-    p: usize,
-    c: usize,
-) -> bool
-    requires { ⌜ ImportsThere (now f) (now s) end ⌝ }
-    requires { ⌜ Indexed (now s) end (now index) ⌝ }
-    ensures { λ r. ⌜ ExistsIs (now (f .entry)) (now (s .entry)) end n (record { pack = p; class = c }) r ⌝ }
-{
-    match homes::numbered(
-        f,
-        s,
-        end,
-        index,
-        Home {
-            from: 0,
-            to: 0,
-            before: end,
-        },
-        p,
-    ) {
-        HomeFound::At(g) => {
-            if !has_class(f, s, g, c) {
-                return false;
-            }
-            if p != 0 {
-                return true;
-            }
-            c < n
-        }
-        HomeFound::Nothing => false,
-    }
-}
-
-// Does each parent of own class n?
+// Does each parent of an own class?
 fn class_parents_exist<'a>(
     f: &'a [u8],
     s: &'a [u8],
-    end: usize,
-    index: &[u16; 12288],
-    n: usize,
+    homes: &[usize; 48],
+    rows: &mut [u16],
+    o: Own,
 ) -> bool
-    requires { ⌜ OwnClass (now f) (now s) end n ⌝ }
-    requires { ⌜ Indexed (now s) end (now index) ⌝ }
-    ensures { λ r. ⌜ AllExist (now (f .entry)) (now (s .entry)) end n r ⌝ }
+    requires { ⌜ Judged (now f) (now s) (o .end) × ImportHomes (now f) (now s) (o .end) (now homes) ⌝ }
+    requires { ⌜ ImportCount (now f) (o .imports) × RowsTrue (now f) (now s) (o .end) (now homes) (now rows) ⌝ }
+    requires { ⌜ ClassFrom (now f) (o .number) (o .place) ⌝ }
+    ensures { λ r. ⌜ AllExist (now (f .entry)) (now (s .entry)) (o .end) (o .number) r ⌝ }
+    ensures { λ _. ⌜ RowsTrue (now (f .entry)) (now (s .entry)) (o .end) (now (homes .entry)) (now (rows .exit)) ⌝ }
 {
-    let r = homes::class_record(
-        f,
-        s,
-        Home {
-            from: 0,
-            to: 0,
-            before: end,
-        },
-        n,
-    );
-    let k = wide(r[1]);
+    let a = o.place;
+    let k = wide(f[a + 1]);
     let mut i = 0;
     while i < k {
-        if !parent_exists(f, s, end, index, n, wide(r[2 + 2 * i]), wide(r[3 + 2 * i])) {
+        if !parent_exists(
+            f,
+            s,
+            homes,
+            rows,
+            o,
+            wide(f[a + 2 + 2 * i]),
+            wide(f[a + 3 + 2 * i]),
+        ) {
             return false;
         }
         i += 1;
@@ -118,131 +120,99 @@ fn class_parents_exist<'a>(
 }
 
 // 14, first part: does each parent exist, an own one with a smaller number?
-pub fn parents_exist<'a>(f: &'a [u8], s: &'a [u8], end: usize, index: &[u16; 12288]) -> bool
-    requires { ⌜ ImportsThere (now f) (now s) end ⌝ }
-    requires { ⌜ Indexed (now s) end (now index) ⌝ }
-    ensures { λ r. ⌜ ParentsExist (now (f .entry)) (now (s .entry)) end r ⌝ }
-{
-    let k = class_count(f);
-    let mut n = 0;
-    while n < k {
-        if !class_parents_exist(f, s, end, index, n) {
-            return false;
-        }
-        n += 1;
-    }
-    true
-}
-
-// Parent i of class n at a home: the same home and a smaller class number, or an earlier home.
-fn nth_parent<'a>(
+fn parents_exist<'a>(
     f: &'a [u8],
     s: &'a [u8],
-    end: usize,
-    index: &[u16; 12288],
-    h: Home,
-    n: usize,
-    i: usize,
-) -> Parent
-    requires { ⌜ ClassThere (now f) (now s) end h n ⌝ }
-    requires { ⌜ Indexed (now s) end (now index) ⌝ }
-    ensures { λ r. ⌜ ParentIs (now (f .entry)) (now (s .entry)) end h n i r ⌝ }
+    homes: &[usize; 48],
+    rows: &mut [u16],
+    b: Bounds,
+) -> bool
+    requires { ⌜ Judged (now f) (now s) (b .end) × ImportHomes (now f) (now s) (b .end) (now homes) ⌝ }
+    requires { ⌜ RowsTrue (now f) (now s) (b .end) (now homes) (now rows) ⌝ }
+    ensures { λ r. ⌜ ParentsExist (now (f .entry)) (now (s .entry)) (b .end) r ⌝ }
+    ensures { λ _. ⌜ RowsTrue (now (f .entry)) (now (s .entry)) (b .end) (now (homes .entry)) (now (rows .exit)) ⌝ }
 {
-    let r = homes::class_record(f, s, h, n);
-    let k = wide(r[1]);
-    if k <= i {
-        return Parent::End;
-    }
-    let m = wide(r[3 + 2 * i]);
-    match homes::numbered(f, s, end, index, h, wide(r[2 + 2 * i])) {
-        HomeFound::At(g) => Parent::In(g, m),
-        HomeFound::Nothing => Parent::End,
+    let imports = import_count(f);
+    let mut n = 0;
+    loop {
+        match named::stands_at(f, rows, 0, n) {
+            Spot::At(place) => {
+                if !class_parents_exist(
+                    f,
+                    s,
+                    homes,
+                    rows,
+                    Own {
+                        end: b.end,
+                        most: b.most,
+                        imports: imports,
+                        number: n,
+                        place: place,
+                    },
+                ) {
+                    return false;
+                }
+                n += 1;
+            }
+            Spot::Nothing => {
+                return true;
+            }
+        }
     }
 }
 
-// 1 where class n at a home is of kind 0, else 0.
-fn kind0<'a>(f: &'a [u8], s: &'a [u8], end: usize, h: Home, n: usize) -> usize
-    requires { ⌜ ClassThere (now f) (now s) end h n ⌝ }
-    ensures { λ r. ⌜ Kind0Is (now (f .entry)) (now (s .entry)) end h n r × (r ≤ 1) ⌝ }
+// 1 where a class's first byte says kind 0, else 0.
+fn flag(kind: usize) -> usize
+    ensures { λ r. ⌜ ((kind ≡ 1 → r ≡ 0) × ((kind ≡ 1 → ⊥) → r ≡ 1)) × (r ≤ 1) ⌝ }
 {
-    let r = homes::class_record(f, s, h, n);
-    if wide(r[0]) == 1 {
+    if kind == 1 {
         return 0;
     }
     1
 }
 
-// How many kind-0 parents has class n at a home, counted by places?
-fn kind0_parents<'a>(
-    f: &'a [u8],
-    s: &'a [u8],
-    end: usize,
-    index: &[u16; 12288],
-    h: Home,
-    n: usize,
-) -> usize
-    requires { ⌜ ClassThere (now f) (now s) end h n ⌝ }
-    requires { ⌜ Indexed (now s) end (now index) ⌝ }
-    ensures { λ r. ⌜ Kind0Count (now (f .entry)) (now (s .entry)) end h n r ⌝ }
+// The depth that is told of class c with so many parents, whose record stands at a place of the file that starts at `from`.
+fn depth_told(t: &[u8], depths: &[u8], from: usize, place: usize, c: usize, parents: usize) -> usize
+    requires { ⌜ (from ≡ 0 → c < length (now depths)) × (0 < from → (from + place < 65536) × (from + place < 10 * length (now t))) ⌝ }
+    ensures { λ r. ⌜ (r ≡ toldDepth (now (depths .entry)) (now (t .entry)) from place c parents) × (r < 256) ⌝ }
 {
-    let mut i = 0;
-    let mut found = 0;
-    loop {
-        match nth_parent(f, s, end, index, h, n, i) {
-            Parent::In(g, m) => {
-                found += kind0(f, s, end, g, m);
-                i += 1;
-            }
-            Parent::End => {
-                return found;
-            }
-        }
+    if from == 0 {
+        return wide(depths[c]);
     }
+    if parents == 0 {
+        return 1;
+    }
+    wide(bits::half_get(t, (from + place) / 5)) + 1
 }
 
-// Has class n at a home, where it is an interface, only interface parents, else at most one kind-0 parent?
-fn kinds_ok<'a>(
+// Kind and depth of a class that an own class lists as a parent.
+fn parent_told<'a>(
     f: &'a [u8],
     s: &'a [u8],
-    end: usize,
-    index: &[u16; 12288],
-    h: Home,
-    n: usize,
-) -> bool
-    requires { ⌜ ClassThere (now f) (now s) end h n ⌝ }
-    requires { ⌜ Indexed (now s) end (now index) ⌝ }
-    ensures { λ r. ⌜ KindsIs (now (f .entry)) (now (s .entry)) end h n r ⌝ }
+    homes: &[usize; 48],
+    rows: &mut [u16],
+    t: &[u8],
+    depths: &[u8],
+    x: Listed,
+) -> Told
+    requires { ⌜ ImportHomes (now f) (now s) (x .end) (now homes) × PackageThere (now f) (x .pack) ⌝ }
+    requires { ⌜ ClassThere (now f) (now s) (x .end) (homeOf (x .end) (now homes) (x .pack)) (x .class) ⌝ }
+    requires { ⌜ RowsTrue (now f) (now s) (x .end) (now homes) (now rows) ⌝ }
+    requires { ⌜ DepthsKept (now s) (x .end) (now t) × (length (now s) ≤ 65535) ⌝ }
+    requires { ⌜ (x .pack ≡ 0 → (x .class < length (now depths)) × DepthIs (now f) (now s) (x .end) (ownHome (x .end)) (x .class) (getD (now depths) (x .class) 0)) ⌝ }
+    ensures { λ r. ⌜ Kind0Is (now (f .entry)) (now (s .entry)) (x .end) (homeOf (x .end) (now (homes .entry)) (x .pack)) (x .class) (r .kind0) × (r .kind0 ≤ 1) ⌝ }
+    ensures { λ r. ⌜ DepthIs (now (f .entry)) (now (s .entry)) (x .end) (homeOf (x .end) (now (homes .entry)) (x .pack)) (x .class) (r .depth) × (r .depth < 256) ⌝ }
+    ensures { λ _. ⌜ RowsTrue (now (f .entry)) (now (s .entry)) (x .end) (now (homes .entry)) (now (rows .exit)) ⌝ }
 {
-    let most = kind0(f, s, end, h, n);
-    kind0_parents(f, s, end, index, h, n) <= most
-}
-
-// 14, second part: have interfaces only interface parents, classes at most one kind-0 parent?
-pub fn parent_kinds<'a>(f: &'a [u8], s: &'a [u8], end: usize, index: &[u16; 12288]) -> bool
-    requires { ⌜ ParentsThere (now f) (now s) end ⌝ }
-    requires { ⌜ Indexed (now s) end (now index) ⌝ }
-    ensures { λ r. ⌜ AllKinds (now (f .entry)) (now (s .entry)) end r ⌝ }
-{
-    let k = class_count(f);
-    let mut n = 0;
-    while n < k {
-        if !kinds_ok(
-            f,
-            s,
-            end,
-            index,
-            Home {
-                from: 0,
-                to: 0,
-                before: end,
-            },
-            n,
-        ) {
-            return false;
-        }
-        n += 1;
+    let h = named::home_at(x.end, homes, x.pack);
+    let g = homes::file_of(f, s, h);
+    match named::stands_at(g, rows, 32 * x.pack, x.class) {
+        Spot::At(i) => Told {
+            kind0: flag(wide(g[i])),
+            depth: depth_told(t, depths, h.from, i, x.class, wide(g[i + 1])),
+        },
+        Spot::Nothing => Told { kind0: 0, depth: 0 },
     }
-    true
 }
 
 // The greater of two numbers.
@@ -263,163 +233,183 @@ fn one_more(d: usize, most: usize) -> usize
     most + 1
 }
 
-// A number of the memo as a usize.
-fn long(x: u16) -> usize
-    ensures { λ r. ⌜ (r ≡ x) × (r < 65536) ⌝ }
-{
-    x as usize
-}
-
-// The depth that the memo tells of a class above base, 0 where it is not known yet.
-fn told(memo: &[u16; 21880], h: Home, n: usize, base: usize) -> usize
-    requires { ⌜ (length (now memo) ≡ memoLength) × (key h n < memoLength) ⌝ }
-    ensures { λ r. ⌜ r ≡ getD (now (memo .entry)) (key h n) 0 - base ⌝ }
-{
-    let i = h.before / 3 + n;
-    let v = long(memo[i]);
-    if v <= base { 0 } else { v - base }
-}
-
-// Sets it.
-fn tell(memo: &mut [u16; 21880], h: Home, n: usize, base: usize, d: usize)
-    requires { ⌜ (length (now memo) ≡ memoLength) × (key h n < memoLength) × (base + d < 65536) ⌝ }
-    ensures { λ _. ⌜ now (memo .exit) ≡ set (now (memo .entry)) (key h n) (base + d) ⌝ }
-{
-    let i = h.before / 3 + n;
-    memo[i] = (base + d) as u16;
-}
-
-// The depth of class n at a home: one more than its deepest parent, each class worked out once.
-fn class_depth<'a>(
+// The kind-0 parents of an own class, counted, and the greatest depth of its parents.
+fn own_parents<'a>(
     f: &'a [u8],
     s: &'a [u8],
-    end: usize,
-    index: &[u16; 12288],
-    h: Home,
-    n: usize,
-    most: usize,
-    memo: &mut [u16; 21880],
-    base: usize,
-) -> usize
-    requires { ⌜ ClassThere (now f) (now s) end h n ⌝ }
-    requires { ⌜ (length (now s) ≤ 65535) × (most ≡ storeLimits (now s) .depth) × (base ≤ 65000) ⌝ }
-    requires { ⌜ MemoIs (now f) (now s) end base most (now memo) ⌝ }
-    requires { ⌜ Indexed (now s) end (now index) ⌝ }
-    ensures { λ r. ⌜ DepthIs (now (f .entry)) (now (s .entry)) end h n r ⌝ }
-    ensures { λ _. ⌜ MemoIs (now (f .entry)) (now (s .entry)) end base most (now (memo .exit)) ⌝ }
+    homes: &[usize; 48],
+    rows: &mut [u16],
+    t: &[u8],
+    depths: &[u8],
+    o: Own,
+) -> Told
+    requires { ⌜ ParentsThere (now f) (now s) (o .end) × ImportHomes (now f) (now s) (o .end) (now homes) ⌝ }
+    requires { ⌜ ImportCount (now f) (o .imports) × ClassFrom (now f) (o .number) (o .place) ⌝ }
+    requires { ⌜ RowsTrue (now f) (now s) (o .end) (now homes) (now rows) ⌝ }
+    requires { ⌜ DepthsKept (now s) (o .end) (now t) × (length (now s) ≤ 65535) × OwnTo (now f) (now s) (o .end) (o .number) (now depths) ⌝ }
+    ensures { λ r. ⌜ Kind0Count (now (f .entry)) (now (s .entry)) (o .end) (ownHome (o .end)) (o .number) (r .kind0) ⌝ }
+    ensures { λ r. ⌜ DeepestIs (now (f .entry)) (now (s .entry)) (o .end) (ownHome (o .end)) (o .number) (r .depth) ⌝ }
+    ensures { λ _. ⌜ RowsTrue (now (f .entry)) (now (s .entry)) (o .end) (now (homes .entry)) (now (rows .exit)) ⌝ }
 {
-    let known = told(memo, h, n, base);
-    if known != 0 {
-        return known;
+    let a = o.place;
+    let k = wide(f[a + 1]);
+    let mut i = 0;
+    let mut found = 0;
+    let mut deepest = 0;
+    while i < k {
+        let w = parent_told(
+            f,
+            s,
+            homes,
+            rows,
+            t,
+            depths,
+            Listed {
+                end: o.end,
+                pack: wide(f[a + 2 + 2 * i]),
+                class: wide(f[a + 3 + 2 * i]),
+            },
+        );
+        found += w.kind0;
+        deepest = larger(w.depth, deepest);
+        i += 1;
     }
-    let d = one_more(
-        parents_depth(f, s, end, index, h, n, 0, most, memo, base),
-        most,
-    );
-    tell(memo, h, n, base, d);
-    d
-}
-
-// The depth of the deepest of its parents from parent i on, 0 where there is none.
-fn parents_depth<'a>(
-    f: &'a [u8],
-    s: &'a [u8],
-    end: usize,
-    index: &[u16; 12288],
-    h: Home,
-    n: usize,
-    i: usize,
-    most: usize,
-    memo: &mut [u16; 21880],
-    base: usize,
-) -> usize
-    requires { ⌜ ClassThere (now f) (now s) end h n ⌝ }
-    requires { ⌜ (length (now s) ≤ 65535) × (most ≡ storeLimits (now s) .depth) × (base ≤ 65000) ⌝ }
-    requires { ⌜ MemoIs (now f) (now s) end base most (now memo) ⌝ }
-    requires { ⌜ Indexed (now s) end (now index) ⌝ }
-    ensures { λ r. ⌜ DeepestIs (now (f .entry)) (now (s .entry)) end h n i r ⌝ }
-    ensures { λ _. ⌜ MemoIs (now (f .entry)) (now (s .entry)) end base most (now (memo .exit)) ⌝ }
-{
-    match nth_parent(f, s, end, index, h, n, i) {
-        Parent::In(g, m) => {
-            let d = class_depth(f, s, end, index, g, m, most, memo, base);
-            larger(
-                d,
-                parents_depth(f, s, end, index, h, n, i + 1, most, memo, base),
-            )
-        }
-        Parent::End => 0,
+    Told {
+        kind0: found,
+        depth: deepest,
     }
 }
 
-// 14, third part: is each depth at most the limit? With the greatest of them.
+// The depth of an own class, 0 where its parents are not of the right kinds.
+fn own_depth<'a>(
+    f: &'a [u8],
+    s: &'a [u8],
+    homes: &[usize; 48],
+    rows: &mut [u16],
+    t: &[u8],
+    depths: &[u8],
+    o: Own,
+) -> usize
+    requires { ⌜ ParentsThere (now f) (now s) (o .end) × ImportHomes (now f) (now s) (o .end) (now homes) ⌝ }
+    requires { ⌜ ImportCount (now f) (o .imports) × ClassFrom (now f) (o .number) (o .place) ⌝ }
+    requires { ⌜ RowsTrue (now f) (now s) (o .end) (now homes) (now rows) ⌝ }
+    requires { ⌜ DepthsKept (now s) (o .end) (now t) × (length (now s) ≤ 65535) × OwnTo (now f) (now s) (o .end) (o .number) (now depths) ⌝ }
+    requires { ⌜ o .most ≡ storeLimits (now s) .depth ⌝ }
+    ensures { λ r. ⌜ OwnIs (now (f .entry)) (now (s .entry)) (o .end) (o .number) r × (r ≤ o .most + 1) ⌝ }
+    ensures { λ _. ⌜ RowsTrue (now (f .entry)) (now (s .entry)) (o .end) (now (homes .entry)) (now (rows .exit)) ⌝ }
+{
+    let a = o.place;
+    let w = own_parents(f, s, homes, rows, t, depths, o);
+    if flag(wide(f[a])) < w.kind0 {
+        return 0;
+    }
+    one_more(w.depth, o.most)
+}
+
+// 14, second and third part: have interfaces only interface parents, classes at most one kind-0 parent, is each depth at most the limit?
 fn depths_ok<'a>(
     f: &'a [u8],
     s: &'a [u8],
-    end: usize,
-    index: &[u16; 12288],
-    most: usize,
-    memo: &mut [u16; 21880],
-    base: usize,
+    homes: &[usize; 48],
+    rows: &mut [u16],
+    t: &[u8],
+    depths: &mut [u8],
+    b: Bounds,
 ) -> Parented
-    requires { ⌜ ParentsThere (now f) (now s) end ⌝ }
-    requires { ⌜ (length (now s) ≤ 65535) × (most ≡ storeLimits (now s) .depth) × (base ≤ 65000) ⌝ }
-    requires { ⌜ MemoBelow base (now memo) ⌝ }
-    requires { ⌜ Indexed (now s) end (now index) ⌝ }
-    ensures { λ r. ⌜ DepthsAre (now (f .entry)) (now (s .entry)) end r ⌝ }
-    ensures { λ _. ⌜ MemoBelow (base + most + 1) (now (memo .exit)) ⌝ }
+    requires { ⌜ ParentsThere (now f) (now s) (b .end) × ImportHomes (now f) (now s) (b .end) (now homes) ⌝ }
+    requires { ⌜ RowsTrue (now f) (now s) (b .end) (now homes) (now rows) ⌝ }
+    requires { ⌜ DepthsKept (now s) (b .end) (now t) × (length (now s) ≤ 65535) ⌝ }
+    requires { ⌜ (b .most ≡ storeLimits (now s) .depth) × (length (now depths) ≡ mostClasses) ⌝ }
+    ensures { λ r. ⌜ LaterParts (now (f .entry)) (now (s .entry)) (b .end) (now (depths .exit)) r ⌝ }
+    ensures { λ _. ⌜ RowsTrue (now (f .entry)) (now (s .entry)) (b .end) (now (homes .entry)) (now (rows .exit)) ⌝ }
 {
-    let k = class_count(f);
+    let imports = import_count(f);
     let mut n = 0;
     let mut figure = 0;
-    while n < k {
-        let d = class_depth(
-            f,
-            s,
-            end,
-            index,
-            Home {
-                from: 0,
-                to: 0,
-                before: end,
-            },
-            n,
-            most,
-            memo,
-            base,
-        );
-        if most < d {
-            return Parented::No;
+    loop {
+        match named::stands_at(f, rows, 0, n) {
+            Spot::At(place) => {
+                let d = own_depth(
+                    f,
+                    s,
+                    homes,
+                    rows,
+                    t,
+                    depths,
+                    Own {
+                        end: b.end,
+                        most: b.most,
+                        imports: imports,
+                        number: n,
+                        place: place,
+                    },
+                );
+                if d == 0 {
+                    return Parented::No;
+                }
+                if b.most < d {
+                    return Parented::No;
+                }
+                depths[n] = d as u8;
+                figure = larger(d, figure);
+                n += 1;
+            }
+            Spot::Nothing => {
+                return Parented::Yes(figure);
+            }
         }
-        figure = larger(d, figure);
-        n += 1;
     }
-    Parented::Yes(figure)
 }
 
-// 14. Does each parent exist, have interfaces and classes parents of the right kinds, is each depth at most the limit?
+// 14. Does each parent exist, have interfaces and classes parents of the right kinds, is each depth at most the limit? With a yes, the
+// depths of the own classes.
 pub fn parents_ok<'a>(
     f: &'a [u8],
     s: &'a [u8],
-    end: usize,
-    index: &[u16; 12288],
-    most: usize,
-    memo: &mut [u16; 21880],
-    base: usize,
+    homes: &[usize; 48],
+    rows: &mut [u16],
+    t: &[u8],
+    depths: &mut [u8],
+    b: Bounds,
 ) -> Parented
-    requires { ⌜ ImportsThere (now f) (now s) end ⌝ }
-    requires { ⌜ length (now s) ≤ 65535 ⌝ }
-    requires { ⌜ most ≡ storeLimits (now s) .depth ⌝ }
-    requires { ⌜ MemoBelow base (now memo) × (base ≤ 65000) ⌝ }
-    requires { ⌜ Indexed (now s) end (now index) ⌝ }
-    ensures { λ r. ⌜ ParentedIs (now (f .entry)) (now (s .entry)) end r ⌝ }
-    ensures { λ _. ⌜ MemoBelow (base + most + 1) (now (memo .exit)) ⌝ }
+    requires { ⌜ Judged (now f) (now s) (b .end) × ImportHomes (now f) (now s) (b .end) (now homes) ⌝ }
+    requires { ⌜ RowsTrue (now f) (now s) (b .end) (now homes) (now rows) ⌝ }
+    requires { ⌜ DepthsKept (now s) (b .end) (now t) × (length (now s) ≤ 65535) ⌝ }
+    requires { ⌜ (b .most ≡ storeLimits (now s) .depth) × (length (now depths) ≡ mostClasses) ⌝ }
+    ensures { λ r. ⌜ ParentedIs (now (f .entry)) (now (s .entry)) (b .end) r ⌝ }
+    ensures { λ r. ⌜ OwnTold (now (f .entry)) (now (s .entry)) (b .end) (now (depths .exit)) r ⌝ }
+    ensures { λ _. ⌜ RowsTrue (now (f .entry)) (now (s .entry)) (b .end) (now (homes .entry)) (now (rows .exit)) ⌝ }
 {
-    if !parents_exist(f, s, end, index) {
+    if !parents_exist(f, s, homes, rows, b) {
         return Parented::No;
     }
-    if !parent_kinds(f, s, end, index) {
-        return Parented::No;
+    depths_ok(f, s, homes, rows, t, depths, b)
+}
+
+// Writes the depth of a class whose record stands at a place of the store to the table, where it has parents.
+fn keep(t: &mut [u8], place: usize, parents: usize, depth: u8)
+    requires { ⌜ (0 < parents → (1 ≤ depth) × (depth ≤ 16) × (place < 10 * length (now t))) ⌝ }
+    ensures { λ _. ⌜ ((j : ℕ) → halfAt (now (t .exit)) j ≡ keptHalf (now (t .entry)) place parents depth j) ⌝ }
+{
+    if parents == 0 {
+        return;
     }
-    depths_ok(f, s, end, index, most, memo, base)
+    bits::half_put(t, place / 5, depth - 1);
+}
+
+// Writes the depths of the classes of the file between two places of the store to the table; no half byte before the file is changed.
+pub fn keep_depths(s: &[u8], t: &mut [u8], depths: &[u8], from: usize, to: usize)
+    requires { ⌜ (from ≤ to) × (to ≤ length (now s)) × (length (now s) ≤ 10 * length (now t)) × (length (now s) ≤ 65535) ⌝ }
+    requires { ⌜ Readable (part (now s) from to) × DepthsFit (part (now s) from to) (now depths) ⌝ }
+    ensures { λ _. ⌜ FileKept (part (now (s .entry)) from to) from (now (depths .entry)) (now (t .exit)) ⌝ }
+    ensures { λ _. ⌜ ((j : ℕ) → j < from / 5 → halfAt (now (t .exit)) j ≡ halfAt (now (t .entry)) j) ⌝ }
+{
+    let g = &s[from..to];
+    let mut n = 0;
+    let mut i = files::classes_at(g) + 1;
+    while i < g.len() {
+        keep(t, from + i, wide(g[i + 1]), depths[n]);
+        i = files::after_class(g, i);
+        n += 1;
+    }
 }

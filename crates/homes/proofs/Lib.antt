@@ -1,4 +1,5 @@
 -- Laws about homes.
+pub mod Places
 pub mod Homes
 pub mod Earlier
 pub mod Lookups

@@ -3,6 +3,7 @@
 -- f, s, end             == the file being judged, the buffer, the place where the earlier entries end
 -- Setting f s end es self == es are these entries, sound, and self is the file's package with its domain
 -- Imports               == a setting in which question 13 was answered yes; Parents == and each parent exists, an own one with a smaller number
+-- ownHome end, homeOf s p == the home of the file being judged; of the package whose entry stands at place p
 -- fileOf f s h          == the file at home h
 -- HomeIs f s end es self h x == the file of the installed package x, or of self, is the one at home h
 -- HomeThere, OfHome     == what a function over a home requires, and how it ensures
@@ -21,6 +22,7 @@ use Rattle.rules.specs.Classes.{Installed, installed, byAid, packageNumbered}
 use Rattle.rules.specs.Questions.{q13-imports, parentExists}
 use Rattle.rules.specs.Operations.{acceptedAll}
 use Rattle.store.specs.Entries.{part, EntryAt, Entries, AllRead, PackageAt}
+use Rattle.index.specs.Index.{fileFrom, entryTo}
 use Rattle.places.specs.Reads.{Placed}
 use Rattle.files.specs.Say.{spot}
 use Rattle.files.specs.declared.Spot.{Spot}
@@ -54,6 +56,14 @@ recordFrom g At′.Nothing = []
 -- the home of the file being judged
 abbrev pub ownHome : ℕ → Home
 ownHome end = record { from = 0; to = 0; before = end }
+
+-- a package's entry stands from a place on
+abbrev pub PackageFrom : Bytes → ℕ → Type 0
+PackageFrom s p = (d : Aid) × (f : Bytes) × (j : ℕ) × EntryAt s p (loaded d f) j
+
+-- the home of the package whose entry stands at a place
+abbrev pub homeOf : Bytes → ℕ → Home
+homeOf s p = record { from = fileFrom s p; to = entryTo s p; before = p }
 
 -- the file at a home
 abbrev pub fileOf : Bytes → Bytes → Home → Bytes

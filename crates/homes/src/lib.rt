@@ -6,7 +6,7 @@ ghost use Prim.Native.Nat.{_≤_};
 ghost use lib.ListN.{length};
 ghost use Rattle.files.specs.Say.{Readable};
 ghost use Rattle.homes.specs.Found.{Indexed};
-ghost use Rattle.homes.specs.Homes.{fileOf, HomeThere, ByAid, ImportPlaced, NumberedIs, ClassPlaced, RecordIs};
+ghost use Rattle.homes.specs.Homes.{ownHome, homeOf, PackageFrom, fileOf, HomeThere, ByAid, ImportPlaced, NumberedIs, ClassPlaced, RecordIs};
 
 // The bounds of a file in the store, and the place where the entries before it end; 0 and 0 for the file being judged.
 pub struct Home {
@@ -19,6 +19,31 @@ pub struct Home {
 pub enum HomeFound {
     At(Home),
     Nothing,
+}
+
+// The home of the file being judged, behind the entries that end at a place.
+pub fn own_home(end: usize) -> Home
+    ensures { λ r. ⌜ r ≡ ownHome end ⌝ }
+{
+    Home {
+        from: 0,
+        to: 0,
+        before: end,
+    }
+}
+
+// The home of the package whose entry stands at a place.
+pub fn home_at(s: &[u8], before: usize) -> Home
+    requires { ⌜ PackageFrom (now s) before ⌝ }
+    ensures { λ r. ⌜ r ≡ homeOf (now (s .entry)) before ⌝ }
+{
+    let from = index::file_from(s, before);
+    let to = index::entry_to(s, before);
+    Home {
+        from: from,
+        to: to,
+        before: before,
+    }
 }
 
 // The file at a home, as a part of whichever holds it.
@@ -43,7 +68,7 @@ fn import_place(g: &[u8], k: usize) -> Spot
 }
 
 // The home of the package of an AID among the entries that end at a place, by an index of these.
-pub fn by_aid(s: &[u8], end: usize, index: &[u16; 12288], aid: &[u8]) -> HomeFound
+pub fn by_aid(s: &[u8], end: usize, index: &[u16], aid: &[u8]) -> HomeFound
     requires { ⌜ Indexed (now s) end (now index) ⌝ }
     ensures { λ r. ⌜ ByAid (now (s .entry)) end (now (aid .entry)) r ⌝ }
 {
@@ -62,7 +87,7 @@ pub fn numbered<'a>(
     f: &'a [u8],
     s: &'a [u8],
     end: usize,
-    index: &[u16; 12288],
+    index: &[u16],
     h: Home,
     k: usize,
 ) -> HomeFound

@@ -12,7 +12,7 @@ ghost use Rattle.homes.specs.Found.{ImportHomes};
 ghost use Rattle.imports.specs.Say.{SettingThere, NewIs, ImportsIs, ImportThere, ImportHomeIs};
 
 // 12. Is the package AID not installed?
-pub fn package_new(f: &[u8], s: &[u8], end: usize, index: &[u16; 12288]) -> bool
+pub fn package_new(f: &[u8], s: &[u8], end: usize, index: &[u16]) -> bool
     requires { ⌜ SettingThere (now f) (now s) end ⌝ }
     requires { ⌜ IndexIs (now s) end (now index) ⌝ }
     ensures { λ r. ⌜ NewIs (now (f .entry)) (now (s .entry)) end r ⌝ }
@@ -24,14 +24,7 @@ pub fn package_new(f: &[u8], s: &[u8], end: usize, index: &[u16; 12288]) -> bool
 }
 
 // The home of the package installed under the AID of import k, counted from 0, of the list of imports at a place.
-fn import_home(
-    f: &[u8],
-    s: &[u8],
-    end: usize,
-    index: &[u16; 12288],
-    at: usize,
-    k: usize,
-) -> HomeFound
+fn import_home(f: &[u8], s: &[u8], end: usize, index: &[u16], at: usize, k: usize) -> HomeFound
     requires { ⌜ ImportThere (now f) (now s) end at ⌝ }
     requires { ⌜ IndexIs (now s) end (now index) ⌝ }
     ensures { λ r. ⌜ ImportHomeIs (now (f .entry)) (now (s .entry)) end k r ⌝ }
@@ -53,13 +46,7 @@ fn put_home(homes: &mut [usize; 48], k: usize, h: Home)
 }
 
 // 13. Is each import installed? Their homes go into the table.
-pub fn imports_there(
-    f: &[u8],
-    s: &[u8],
-    end: usize,
-    index: &[u16; 12288],
-    homes: &mut [usize; 48],
-) -> bool
+pub fn imports_there(f: &[u8], s: &[u8], end: usize, index: &[u16], homes: &mut [usize; 48]) -> bool
     requires { ⌜ SettingThere (now f) (now s) end ⌝ }
     requires { ⌜ IndexIs (now s) end (now index) ⌝ }
     requires { ⌜ length (now homes) ≡ 48 ⌝ }

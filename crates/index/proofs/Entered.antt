@@ -59,7 +59,8 @@ stood-among {s} {end} {p} {e} {j} es r t =
     split l x = front (x .rest) (x .are) (entries-front s p (x .rest) end l (x .stand))
 
 -- a test that finds it finds one of them
-pub stood-any : {s : Bytes} {end p : ℕ} {e : Entry} {j : ℕ} (q : Entry → Bool) (es : List Entry) → Entries s openingLength es end → Stood s end p e j → q e ≡ true → any q es ≡ true
+pub stood-any : {s : Bytes} {end p : ℕ} {e : Entry} {j : ℕ} (q : Entry → Bool) (es : List Entry) → Entries s openingLength es end → Stood s end p e j →
+    q e ≡ true → any q es ≡ true
 stood-any {s} {end} {p} {e} {j} q es r t h = middle (stood-among es r t)
   where
     last : (b : Bool) → (b || true) ≡ true
@@ -67,7 +68,9 @@ stood-any {s} {end} {p} {e} {j} q es r t h = middle (stood-among es r t)
     last false = refl
 
     middle : Among es e → any q es ≡ true
-    middle m = ap (any q) (m .are) ∙ any-append q (m .before) (e ∷ m .after) ∙ ap (λ (b : Bool). any q (m .before) || (b || any q (m .after))) h ∙ last (any q (m .before))
+    middle m =
+        ap (any q) (m .are) ∙ any-append q (m .before) (e ∷ m .after) ∙ ap (λ (b : Bool). any q (m .before) || (b || any q (m .after))) h
+        ∙ last (any q (m .before))
 
 -- an entry that a test finds
 pub record FoundThere (q : Entry → Bool) (s : Bytes) (end : ℕ) (es : List Entry) : Type 0 where
@@ -100,7 +103,8 @@ pub stood-more : {s : Bytes} {end p : ℕ} {e : Entry} {j : ℕ} (later : ℕ) �
 stood-more later h t = record { behind = t .behind; stands = t .stands; to = omega (arith, t .to) }
 
 -- with one entry more an entry is an earlier one, or this one
-pub stood-cases : {s : Bytes} {p : ℕ} {e : Entry} {j : ℕ} (at next : ℕ) (one : Entry) → StandFrom s openingLength at → EntryAt s at one next → Stood s next p e j → Stood s at p e j ⊎ ((p ≡ at) × (e ≡ one) × (j ≡ next))
+pub stood-cases : {s : Bytes} {p : ℕ} {e : Entry} {j : ℕ} (at next : ℕ) (one : Entry) → StandFrom s openingLength at → EntryAt s at one next →
+    Stood s next p e j → Stood s at p e j ⊎ ((p ≡ at) × (e ≡ one) × (j ≡ next))
 stood-cases {s} {p} {e} {j} at next one f u t = elim (decLe at p) [
   | no g ↦ inl (record { behind = t .behind; stands = t .stands; to = entry-apart s p at j e (t .behind) (t .stands) f (omega arith) })
   | yes g ↦ elim (decLe p at) [

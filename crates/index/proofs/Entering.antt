@@ -1,143 +1,115 @@
--- An index of no entries, and an index with one entry more. Assumes nothing.
-use Prim.Native.Nat.{ℕ, zero, suc, _+_, _/_, _≤_, _<_}
+-- An index of no entries, an index behind a domain's entry, and an index with one package more. Assumes nothing.
+use Prim.Native.Nat.{ℕ, zero, suc, _+_, _*_, _≤_, _<_}
 use native.Mathlib.Omega.{arith}
-use native.Mathlib.Decide.{decLe}
-use mathlib.Core.Path.{_≡_, refl, sym, _∙_, ap, subst}
-use mathlib.Core.List.{List, [], _∷_, _++_}
-use mathlib.Core.Logic.{_⊎_, inl, inr}
+use mathlib.Core.Path.{_≡_, refl, sym, _∙_, ap}
+use mathlib.Core.Bool.{Bool, true, false, not}
+use mathlib.Core.List.{List}
+use mathlib.Core.Option.{some, Option·some-injective}
 use lib.ListN.{length, getD, replicate, length-replicate}
-use Rattle.rules.specs.Bytes.{Bytes, Aid}
-use Rattle.rules.specs.Store.{Entry, loaded, openingLength}
-use Rattle.store.specs.Entries.{EntryAt, over, ownAid}
-use Rattle.store.proofs.Stand.{entries-to, entries-more}
-use Rattle.index.specs.Index.{links, bucketOf, keyOf, headOf, linkOf, withPlace, Stood, PlaceOf, Reaches, itself, onward, IndexIs}
-use Rattle.index.proofs.Chains.{link-apart, link-below, with-size, with-head, with-link, with-other, reaches-stays}
-use Rattle.index.proofs.Entered.{stood-inside, stood-more, stood-cases}
+use Rattle.rules.specs.Bytes.{Bytes, Aid, any, same, isSome}
+use Rattle.rules.specs.Package.{Limits, storeLimits, Package}
+use Rattle.rules.specs.Store.{Entry, domain, loaded, openingLength}
+use Rattle.rules.specs.Classes.{installed, byAid}
+use Rattle.rules.specs.Questions.{q7-installed, q12-new}
+use Rattle.rules.specs.Operations.{isPackage}
+use Rattle.rules.proofs.Tests.{none-some, is-true, of-true, same-refl, same-eq}
+use Rattle.store.specs.Entries.{part, EntryAt, AllRead, FilesStand, ownAid}
+use Rattle.store.proofs.Stand.{entry-later, entries-to}
+use Rattle.store.proofs.Walk.{place-any}
+use Rattle.store.proofs.Own.{own-by}
+use Rattle.store.proofs.Asked.{installed-any, namedBy, named-place}
+use Rattle.sorted.specs.Sorted.{keyAt, Keyed, count, Has, Sorted, Entered}
+use Rattle.sorted.proofs.Order.{clash}
+use Rattle.index.specs.Index.{packageKey, IndexIs, PackageStands}
+use Rattle.index.proofs.Tables.{table-start, table-other, table-more, found-any}
+use Rattle.index.proofs.Room.{package-least}
+use Rattle.index.proofs.Here.{package-key, package-keyed}
 
-decide : (i j : ℕ) → (i ≡ j) ⊎ (i ≡ j → ⊥)
-decide i j = elim (decLe i j) [
-  | no q ↦ inr (λ e. omega arith)
-  | yes q ↦ elim (decLe j i) [ no w ↦ inr (λ e. omega arith) | yes w ↦ inl (omega arith) ]
-]
+-- a table of zeros
+pub zeros : (k i : ℕ) → _≡_ {A = ℕ} (getD (replicate k 0) i 0) 0
+zeros zero i = refl
+zeros (suc k) zero = refl
+zeros (suc k) (suc i) = zeros k i
 
 -- zeros are an index of no entries
-pub index-start : (s : Bytes) → 7 ≤ length s → IndexIs s openingLength (replicate 12288 0)
-index-start s h = record {
-  size = length-replicate {A = ℕ} 12288 0;
-  behind = ([], over h);
-  room = λ p e j t. absurd (never t);
-  heads = λ a. inl (zeros 12288 (links + bucketOf a));
-  linked = λ p t. absurd (never (t .2));
-  earlier = λ p t. absurd (never (t .2));
-  reached = λ p e j t. absurd (never t);
-  single = λ p q d c f g j k t u e. absurd (never t);
+pub index-start : (s : Bytes) (n : ℕ) → 7 ≤ length s → length s ≤ 27 * n → IndexIs s openingLength (replicate n 0)
+index-start s n h g = record {
+  table = table-start packageKey s (replicate n 0) h (omega (arith, length-replicate {A = ℕ} n 0)) (zeros n 0);
+  room = omega (arith, length-replicate {A = ℕ} n 0);
+  few = omega (arith, zeros n 0);
 }
+
+-- behind a domain's entry it is the same index
+pub index-domain : (s : Bytes) (at next : ℕ) (a : Aid) (index : List ℕ) → IndexIs s at index → EntryAt s at (domain a) next → IndexIs s next index
+index-domain s at next a index i u = record {
+  table = table-other packageKey s at next (domain a) index (i .table) u refl;
+  room = i .room;
+  few = omega (arith, i .few, entry-later s at (domain a) next u);
+}
+
+-- the tests of an AID in a file and of the package read say the same
+pub named-any : (l : Limits) (a : Aid) (es : List Entry) → AllRead l es → any (namedBy a) es ≡ any (isPackage l a) es
+named-any l a es h =
+    sym (place-any (namedBy a) openingLength es) ∙ ap isSome (named-place l a openingLength es h) ∙ place-any (isPackage l a) openingLength es
+
+-- 12. a package that is not installed
+not-installed : (l : Limits) (es : List Entry) (p : Package) → q12-new (installed l es) p ≡ true → any (isPackage l (p .aid)) es ≡ false
+unfolding q12-new q7-installed
+not-installed l es p h = sym (installed-any l (p .aid) es) ∙ not-yes (isSome (byAid (installed l es) (p .aid))) h
   where
-    zeros : (k i : ℕ) → _≡_ {A = ℕ} (getD (replicate k 0) i 0) 0
-    zeros zero i = refl
-    zeros (suc k) zero = refl
-    zeros (suc k) (suc i) = zeros k i
+    not-yes : (c : Bool) → not c ≡ true → c ≡ false
+    not-yes true z = sym z
+    not-yes false z = refl
 
-    never : {p : ℕ} {e : Entry} {j : ℕ} → Stood s openingLength p e j → ⊥
-    never t = let l = stood-inside t in omega (arith, l .0, l .1, l .2)
+-- the test of an AID finds the packages that have it
+pub named-key : (a : Aid) (e : Entry) → namedBy a e ≡ true → packageKey e ≡ some a
+named-key a (domain b) h = absurd (clash (sym h))
+named-key a (loaded d f) h = ap some (sym (same-eq a (ownAid f) (of-true h)))
 
--- an entry that is not the package of an earlier one's AID
-abbrev pub NotThere : Bytes → ℕ → Entry → Type 0
-NotThere s at one = (d c : Aid) (f g : Bytes) (p j : ℕ) → one ≡ loaded d f → Stood s at p (loaded c g) j → ownAid f ≡ ownAid g → ⊥
+pub key-named : (a : Aid) (e : Entry) → packageKey e ≡ some a → namedBy a e ≡ true
+key-named a (domain b) h = absurd (none-some h)
+key-named a (loaded d f) h = ap (same a) (Option·some-injective _ _ h) ∙ is-true (same a a) (same-refl a)
 
--- one entry more
-module _ (s : Bytes) (at next : ℕ) (one : Entry) (index : List ℕ) (small : length s ≤ 65535) (i : IndexIs s at index) (u : EntryAt s at one next) (large : at + 8 ≤ next)
-    (b : ℕ) (is : b ≡ bucketOf (keyOf one)) (bound : b < 4096) (new : NotThere s at one) where
-  below : at < 65536
-  below = omega (arith, u .to)
+-- a package is entered
+module _ (s : Bytes) (at file next : ℕ) (index : List ℕ) (i : IndexIs s at index) (fs : FilesStand s at) (x : PackageStands s at file next) where
+  -- it has bytes enough, and room in the table
+  enough : at + 27 ≤ next
+  enough = package-least (storeLimits s) s at next (x .home) (part s file next) (x .pack) (x .stands) (x .long) (x .reads)
 
-  behind-zero : at ≡ 0 → ⊥
-  behind-zero e = omega (arith, (entries-to s openingLength (i .behind .0) at (i .behind .1)) .0)
+  enter-room : (count index + 1 < length index) × (count index + 1 ≤ length s)
+  enter-room = (omega (arith, enough, i .room, i .few, x .stands .to), omega (arith, enough, i .few, x .stands .to))
 
-  abbrev more : List ℕ
-  more = withPlace index at b
+  enter-keyed : Keyed s at
+  enter-keyed =
+      package-keyed (storeLimits s) s at (x .home) (part s file next) next (x .pack) (x .stands) (x .reads)
+      (entries-to s openingLength (i .table .behind .0) at (i .table .behind .1) .0)
 
-  now-stood : Stood s next at one next
-  now-stood = record { behind = i .behind; stands = u; to = omega arith }
+  -- it may be entered
+  pub enter-ready : length s ≤ 65535 → (Sorted s index × Keyed s at × (at < 65536)) × ((count index + 1 < length index) × (count index < 65535))
+  enter-ready h = ((i .table .sorted, enter-keyed, omega (arith, enough, x .stands .to)), (enter-room .0, omega (arith, enter-room .1)))
 
-  place-more : {p : ℕ} → PlaceOf s at p → PlaceOf s next p
-  place-more t = (t .0, t .1, stood-more next (omega arith) (t .2))
+  key : keyAt s at ≡ ownAid (part s file next)
+  key = package-key (storeLimits s) s at (x .home) (part s file next) next (x .pack) (x .stands) (x .reads)
 
-  or-more : {p : ℕ} → (p ≡ 0) ⊎ PlaceOf s at p → (p ≡ 0) ⊎ PlaceOf s next p
-  or-more (inl e) = inl e
-  or-more (inr t) = inr (place-more t)
+  -- no package that was entered has its AID
+  pub enter-new : (q : ℕ) → Has index q → keyAt s q ≡ keyAt s at → ⊥
+  enter-new q y e =
+      clash (sym (found-any packageKey s at index (i .table) (x .pack .aid) (namedBy (x .pack .aid)) named q y (e ∙ key ∙ own) (fs .0) (fs .1)) ∙ none)
+    where
+      own : ownAid (part s file next) ≡ x .pack .aid
+      own = (own-by (storeLimits s) (part s file next) (x .pack) (x .reads)) .is
 
-  -- the links of the earlier places stay
-  link-stays : (p : ℕ) → PlaceOf s at p → linkOf more p ≡ linkOf index p
-  link-stays p t =
-      let a = i .room p (t .0) (t .1) (t .2) in
-      let l = link-apart p at (omega (arith, (t .2) .to)) in
-      let m = link-below at below in
-      with-other index at b (i .size) below bound (p / 8) (λ e. omega arith) (λ e. omega arith)
+      none : any (namedBy (x .pack .aid)) (fs .0) ≡ false
+      none = named-any (storeLimits s) (x .pack .aid) (fs .0) (fs .2) ∙ not-installed (storeLimits s) (fs .0) (x .pack) (x .new (fs .0) (fs .1) (fs .2))
 
-  chain-stays : (p q : ℕ) → (p ≡ 0) ⊎ PlaceOf s at p → Reaches index p q → Reaches more p q
-  chain-stays p q h r = reaches-stays index more (PlaceOf s at) link-stays (i .linked) p q h r
+      named : (e : Entry) → packageKey e ≡ some (x .pack .aid) → namedBy (x .pack .aid) e ≡ true
+      named e h = key-named (x .pack .aid) e h
 
-  -- the head of the bucket, and those of the others
-  head-new : (a : Aid) → bucketOf a ≡ b → headOf more a ≡ at
-  head-new a e = ap (λ (n : ℕ). getD more (links + n) 0) e ∙ with-head index at b (i .size) below bound
-
-  head-old : (a : Aid) → (bucketOf a ≡ b → ⊥) → headOf more a ≡ headOf index a
-  head-old a n = let m = link-below at below in with-other index at b (i .size) below bound (links + bucketOf a) (λ e. omega arith) (λ e. n (omega arith))
-
-  -- the link of the place
-  link-new : linkOf more at ≡ headOf index (keyOf one)
-  link-new = with-link index at b (i .size) below bound ∙ ap (λ (n : ℕ). getD index (links + n) 0) is
-
-  heads : (a : Aid) → (bucketOf a ≡ b) ⊎ (bucketOf a ≡ b → ⊥) → (headOf more a ≡ 0) ⊎ PlaceOf s next (headOf more a)
-  heads a (inl e) = inr (subst (PlaceOf s next) (sym (head-new a e)) (one, next, now-stood))
-  heads a (inr n) = subst (λ (p : ℕ). (p ≡ 0) ⊎ PlaceOf s next p) (sym (head-old a n)) (or-more (i .heads a))
-
-  abbrev Cases : ℕ → Entry → ℕ → Type 0
-  Cases p e j = Stood s at p e j ⊎ ((p ≡ at) × (e ≡ one) × (j ≡ next))
-
-  cases : {p : ℕ} {e : Entry} {j : ℕ} → Stood s next p e j → Cases p e j
-  cases t = stood-cases at next one (i .behind) u t
-
-  room : (p : ℕ) (e : Entry) (j : ℕ) → Cases p e j → p + 8 ≤ j
-  room p e j (inl o) = i .room p e j o
-  room p e j (inr o) = omega (arith, o .0, o .2)
-
-  linked : (p : ℕ) (e : Entry) (j : ℕ) → Cases p e j → (linkOf more p ≡ 0) ⊎ PlaceOf s next (linkOf more p)
-  linked p e j (inl o) = subst (λ (n : ℕ). (n ≡ 0) ⊎ PlaceOf s next n) (sym (link-stays p (e, j, o))) (or-more (i .linked p (e, j, o)))
-  linked p e j (inr o) = subst (λ (n : ℕ). (n ≡ 0) ⊎ PlaceOf s next n) (sym (ap (linkOf more) (o .0) ∙ link-new)) (or-more (i .heads (keyOf one)))
-
-  head-less : (headOf index (keyOf one) ≡ 0) ⊎ PlaceOf s at (headOf index (keyOf one)) → headOf index (keyOf one) < at
-  head-less (inl e) = omega (arith, (entries-to s openingLength (i .behind .0) at (i .behind .1)) .0)
-  head-less (inr t) = let l = stood-inside (t .2) in omega (arith, l .1, l .2)
-
-  earlier : (p : ℕ) (e : Entry) (j : ℕ) → Cases p e j → linkOf more p < p
-  earlier p e j (inl o) = omega (arith, link-stays p (e, j, o), i .earlier p (e, j, o))
-  earlier p e j (inr o) = subst (λ (n : ℕ). linkOf more n < n) (sym (o .0)) (omega (arith, link-new, head-less (i .heads (keyOf one))))
-
-  reached : (p : ℕ) (e : Entry) (j : ℕ) → Cases p e j → (bucketOf (keyOf e) ≡ b) ⊎ (bucketOf (keyOf e) ≡ b → ⊥) → Reaches more (headOf more (keyOf e)) p
-  reached p e j (inl o) (inl z) =
-      let r = chain-stays (headOf index (keyOf e)) p (i .heads (keyOf e)) (i .reached p e j o) in
-      let y : linkOf more at ≡ headOf index (keyOf e) = with-link index at b (i .size) below bound ∙ ap (λ (n : ℕ). getD index (links + n) 0) (sym z) in
-      subst (λ (n : ℕ). Reaches more n p) (sym (head-new (keyOf e) z)) (onward behind-zero (subst (λ (n : ℕ). Reaches more n p) (sym y) r))
-  reached p e j (inl o) (inr n) = subst (λ (m : ℕ). Reaches more m p) (sym (head-old (keyOf e) n)) (chain-stays (headOf index (keyOf e)) p (i .heads (keyOf e)) (i .reached p e j o))
-  reached p e j (inr o) (inl z) = subst (λ (m : ℕ). Reaches more m p) (sym (head-new (keyOf e) z)) (subst (Reaches more at) (sym (o .0)) itself)
-  reached p e j (inr o) (inr n) = absurd (n (ap (λ (x : Entry). bucketOf (keyOf x)) (o .1) ∙ sym is))
-
-  single : (p q : ℕ) (d c : Aid) (f g : Bytes) (j k : ℕ) → Cases p (loaded d f) j → Cases q (loaded c g) k → ownAid f ≡ ownAid g → p ≡ q
-  single p q d c f g j k (inl o) (inl v) e = i .single p q d c f g j k o v e
-  single p q d c f g j k (inl o) (inr v) e = absurd (new c d g f p j (sym (v .1)) o (sym e))
-  single p q d c f g j k (inr o) (inl v) e = absurd (new d c f g q k (sym (o .1)) v e)
-  single p q d c f g j k (inr o) (inr v) e = o .0 ∙ sym (v .0)
-
-  pub index-more : IndexIs s next more
-  index-more = record {
-    size = with-size index at b (i .size) below bound;
-    behind = (i .behind .0 ++ one ∷ [], entries-more s openingLength (i .behind .0) at one next (i .behind .1) u);
-    room = λ p e j t. room p e j (cases t);
-    heads = λ a. heads a (decide (bucketOf a) b);
-    linked = λ p t. linked p (t .0) (t .1) (cases (t .2));
-    earlier = λ p t. earlier p (t .0) (t .1) (cases (t .2));
-    reached = λ p e j t. reached p e j (cases t) (decide (bucketOf (keyOf e)) b);
-    single = λ p q d c f g j k t v e. single p q d c f g j k (cases t) (cases v) e;
+  -- the entering never refuses
+  pub enter-is : (more : List ℕ) (b : Bool) → Entered s index more at b → IndexIs s next more
+  enter-is more true n = record {
+    table = table-more packageKey s at next (loaded (x .home) (part s file next)) index (i .table) (x .stands) more (ap some (sym key)) n;
+    room = omega (arith, i .room, n .size);
+    few = omega (arith, i .few, n .more, enough);
   }
+  enter-is more false n = absurd (enter-new (n .1) (n .2) (n .3))

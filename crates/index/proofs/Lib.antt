@@ -1,8 +1,7 @@
 -- The laws of the index.
-pub mod Chains
 pub mod Entered
-pub mod Entering
-pub mod Search
-pub mod Buckets
+pub mod Tables
+pub mod Room
 pub mod Here
+pub mod Entering
 pub mod Asked

@@ -1,6 +1,5 @@
--- Laws of judging.
-pub mod Creation
-pub mod Loading
+-- The laws of judging a load and the packages of a store.
+pub mod Answers
 pub mod Stages
-pub mod Sounding
-pub mod Entered
+pub mod Loading
+pub mod Packages

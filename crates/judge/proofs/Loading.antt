@@ -1,131 +1,207 @@
--- A load over sound entries, question by question. Assumes nothing.
-use Prim.Native.Nat.{ℕ, _≤_, _<_}
+-- A load over sound entries: questions 3, 5 and 10 to 14, and what follows them. Assumes nothing.
+use Prim.Native.Nat.{ℕ, _<_}
 use native.Mathlib.Omega.{arith}
 use mathlib.Core.Path.{_≡_, refl, sym, _∙_, ap, subst}
 use mathlib.Core.Bool.{Bool, true, false}
 use mathlib.Core.List.{List, [], _∷_}
 use mathlib.Core.Option.{Option, none, some}
-use lib.Dec.{T, ltb, ltb→lt}
 use lib.ListN.{length}
 use Rattle.rules.specs.Bytes.{Bytes, Aid, aidLength}
 use Rattle.rules.specs.Package.{Limits, storeLimits, Package, readFile}
 use Rattle.rules.specs.Store.{Entry}
-use Rattle.rules.specs.Questions.{q3-lengths, q10-marked, q11-reads}
-use Rattle.rules.specs.Operations.{Question, firstNo, packageQuestions, loadQuestions}
+use Rattle.rules.specs.Classes.{Installed, installed}
+use Rattle.rules.specs.Questions.{q3-lengths, q5-created, q10-marked, q11-reads, q12-new, q13-imports, q14-parents}
+use Rattle.rules.specs.Operations.{firstNo, packageQuestions, loadQuestions, deepest, deepestOf}
+use Rattle.rules.proofs.Tests.{is-true, of-true}
 use Rattle.reader.specs.Answers.{PackageRead}
 use Rattle.reader.specs.Answers as said
 use Rattle.reader.specs.declared.Places.{Places}
 use Rattle.reader.specs.declared.Read.{Read}
 use Rattle.reader.specs.declared.Read.the-variants as reads
-use Rattle.homes.specs.Homes.{Setting}
-use Rattle.judge.specs.Says.{numberOf, Over, CreatedSays, AnswerIs, from12, PackageSays, LoadSays}
+use Rattle.imports.specs.Say.{NewIs, ImportsIs}
+use Rattle.homes.specs.Homes.{Imports}
+use Rattle.depths.specs.Depths.{ParentedIs}
+use Rattle.depths.specs.declared.Parented.the-variants as parented
+use Rattle.store.specs.Sound.{Over}
+use Rattle.store.proofs.Sound.{one-length}
+use Rattle.judge.specs.Says.{FileRead, Asked14, asks, from, AnswerIs, Asked14Some, NumberFrom, fileAsks, ParentsSay, ParentsAnswer, FileSays, LoadSays}
 use Rattle.judge.specs.declared.LoadAnswer.{LoadAnswer}
 use Rattle.judge.specs.declared.LoadAnswer.the-variants.{Refused, Accepted}
-use Rattle.judge.proofs.Creation.{one-length}
+use Rattle.judge.proofs.Answers.{number-no, number-yes, answer-yes, answer-refused, answer-accepted}
+use Rattle.judge.proofs.Stages.{selfOf, setting}
 
--- a no, and a yes with what follows
-pub answer-no : (n : ℕ) (b : Bool) (qs : List Question) (depth : ℕ) → T (ltb 0 n) → b ≡ false → AnswerIs ((n, b) ∷ qs) depth (Refused n)
-answer-no n b qs depth h e =
-    let z : firstNo ((n, b) ∷ qs) ≡ n = rw e in
-    let k : 0 < n = ltb→lt 0 n h in
-    record { number = sym z; figure = λ y. absurd (omega (arith, sym z ∙ y)); real = λ m q. let e : n ≡ m = cc in omega arith }
+module _ (s : Bytes) (end : ℕ) (f : Bytes) where
+  -- 10 and 11 answered no
+  pub parents-10 : q10-marked f ≡ false → ParentsAnswer s end f (Refused 10)
+  unfolding loadQuestions
+  parents-10 h d es o = (omega arith, number-no 10 (q10-marked f) (packageQuestions (storeLimits s) (length s) es d f (readFile (storeLimits s) f)) h)
 
-pub answer-yes : (n : ℕ) (b : Bool) (qs : List Question) (depth : ℕ) (r : LoadAnswer) → b ≡ true → AnswerIs qs depth r → AnswerIs ((n, b) ∷ qs) depth r
-answer-yes n b qs depth r e a =
-    let z : firstNo ((n, b) ∷ qs) ≡ firstNo qs = rw e in
-    record { number = a .number ∙ sym z; figure = λ y. a .figure (sym z ∙ y); real = a .real }
+  module _ (ten : q10-marked f ≡ true) where
+    pub parents-11 : readFile (storeLimits s) f ≡ none → ParentsAnswer s end f (Refused 11)
+    unfolding loadQuestions packageQuestions q11-reads
+    parents-11 e d es o = (omega arith, number-yes 10 (q10-marked f) (packageQuestions (storeLimits s) (length s) es d f (readFile (storeLimits s) f)) 11 ten (rw e))
 
-pub answer-done : (depth : ℕ) → AnswerIs [] depth (Accepted depth)
-answer-done depth = record { number = refl; figure = λ y. refl; real = λ m q. let z : _≡_ {A = ℕ} 0 1 = cc in absurd (omega arith) }
+    module _ (p : Package) (eleven : readFile (storeLimits s) f ≡ some p) where
+      -- a number from 12 on is one from 10 on
+      read-number : (d : Aid) (es : List Entry) (n : ℕ) → n ≡ firstNo (from 12 (asks s es d f p)) → n ≡ firstNo (fileAsks s es d f)
+      unfolding loadQuestions packageQuestions q11-reads
+      read-number d es n h = number-yes 10 (q10-marked f) (packageQuestions (storeLimits s) (length s) es d f (readFile (storeLimits s) f)) n ten (rw eleven h)
 
--- two questions that were asked together: the number of the first no, or 0
-module _ (n m : ℕ) (hn : T (ltb 0 n)) (hm : T (ltb 0 m)) (qs : List Question) (depth : ℕ) where
-  pub pair-no : (a b : Bool) (c : ℕ) → c ≡ firstNo ((n, a) ∷ (m, b) ∷ []) → (c ≡ 0 → ⊥) → AnswerIs ((n, a) ∷ (m, b) ∷ qs) depth (Refused c)
-  pair-no false b c e z = subst (λ (k : ℕ). AnswerIs ((n, false) ∷ (m, b) ∷ qs) depth (Refused k)) (sym e) (answer-no n false _ _ hn refl)
-  pair-no true false c e z = subst (λ (k : ℕ). AnswerIs ((n, true) ∷ (m, false) ∷ qs) depth (Refused k)) (sym e) (answer-yes n true _ _ _ refl (answer-no m false _ _ hm refl))
-  pair-no true true c e z = absurd (z e)
+      -- the file that is read
+      read : (es : List Entry) → Over s end es → FileRead s end f es p
+      read es o = record { over = o; reads = eleven }
 
-  pub pair-yes : (a b : Bool) (r : LoadAnswer) → 0 ≡ firstNo ((n, a) ∷ (m, b) ∷ []) → AnswerIs qs depth r → AnswerIs ((n, a) ∷ (m, b) ∷ qs) depth r
-  pair-yes false b r e x = absurd (omega (arith, e, ltb→lt 0 n hn))
-  pair-yes true false r e x = absurd (omega (arith, e, ltb→lt 0 m hm))
-  pair-yes true true r e x = answer-yes n true _ _ r refl (answer-yes m true _ _ r refl x)
+      pub parents-12 : NewIs f s end false → ParentsAnswer s end f (Refused 12)
+      unfolding packageQuestions
+      parents-12 n d es o =
+          (omega arith, read-number d es 12 (number-no 12 (q12-new (installed (storeLimits s) es) p) (from 13 (asks s es d f p)) (sym (n es (selfOf s end d f p) (setting s end d f es p (read es o))))))
 
--- the number is one of the two, or 0
-pub pair-small : (n m : ℕ) (a b : Bool) (c : ℕ) → n ≤ m → c ≡ firstNo ((n, a) ∷ (m, b) ∷ []) → c ≤ m
-pair-small n m false b c h e = omega (arith, e)
-pair-small n m true false c h e = omega (arith, e)
-pair-small n m true true c h e = omega (arith, e)
+      module _ (twelve : NewIs f s end true) where
+        -- 12 was answered yes
+        is-new : (d : Aid) (es : List Entry) → Over s end es → q12-new (installed (storeLimits s) es) p ≡ true
+        is-new d es o = sym (twelve es (selfOf s end d f p) (setting s end d f es p (read es o)))
 
--- the setting of a file that reads
-pub over-setting : (s : Bytes) (end : ℕ) (es : List Entry) (d : Aid) (f : Bytes) (p : Package) → Over s end es → readFile (storeLimits s) f ≡ some p → Setting f s end es (record { domain = d; pack = p })
-over-setting s end es d f p o e = record { stand = o .stand; size = length s; sound = o .sound; reads = e }
+        pub parents-13 : ImportsIs f s end false → ParentsAnswer s end f (Refused 13)
+        unfolding packageQuestions
+        parents-13 n d es o = (
+          omega arith,
+          read-number d es 13 (number-yes 12 (q12-new (installed (storeLimits s) es) p) (from 13 (asks s es d f p)) 13 (is-new d es o)
+              (number-no 13 (q13-imports (installed (storeLimits s) es) p) (from 14 (asks s es d f p)) (sym (n es (selfOf s end d f p) (setting s end d f es p (read es o)))))),
+        )
+
+        module _ (thirteen : ImportsIs f s end true) where
+          -- 13 was answered yes
+          has-imports : (d : Aid) (es : List Entry) → Over s end es → q13-imports (installed (storeLimits s) es) p ≡ true
+          has-imports d es o = sym (thirteen es (selfOf s end d f p) (setting s end d f es p (read es o)))
+
+          imported : (d : Aid) (es : List Entry) → Over s end es → Imports f s end es (selfOf s end d f p)
+          imported d es o = record { setting = setting s end d f es p (read es o); imports = of-true (has-imports d es o) }
+
+          -- what question 14 is asked over
+          pub imports-there : (d : Aid) (es : List Entry) → Over s end es → (es : List Entry) × (self : Installed) × Imports f s end es self
+          imports-there d es o = (es, selfOf s end d f p, imported d es o)
+
+          pub parents-14 : ParentedIs f s end parented.No → ParentsAnswer s end f (Refused 14)
+          unfolding packageQuestions
+          parents-14 n d es o =
+              let rest = from 15 (asks s es d f p) in
+              let no = number-no 14 (q14-parents (storeLimits s) (installed (storeLimits s) es) (selfOf s end d f p)) rest (n es (selfOf s end d f p) (imported d es o)) in
+              let from-13 = number-yes 13 (q13-imports (installed (storeLimits s) es) p) (from 14 (asks s es d f p)) 14 (has-imports d es o) no in
+              (omega arith, read-number d es 14 (number-yes 12 (q12-new (installed (storeLimits s) es) p) (from 13 (asks s es d f p)) 14 (is-new d es o) from-13))
+
+          pub parents-yes : (depth : ℕ) → ParentedIs f s end (parented.Yes depth) → ParentsAnswer s end f (Accepted depth)
+          unfolding deepest
+          parents-yes depth y d es o =
+              let q = y es (selfOf s end d f p) (imported d es o) in
+              let asked : Asked14 s end d f es p = record { read = read es o; q12 = of-true (is-new d es o); q13 = of-true (has-imports d es o); q14 = of-true (q .0) } in
+              (p, asked, ten, q .1)
+
+module _ (s : Bytes) (end : ℕ) (d : Aid) (f : Bytes) (es : List Entry) where
+  -- a number from 15 on is one from 10 on, where 10 to 14 were answered yes
+  pub behind-14 : (p : Package) → Asked14 s end d f es p → q10-marked f ≡ true → (n : ℕ) → n ≡ firstNo (from 15 (asks s es d f p)) → n ≡ firstNo (fileAsks s es d f)
+  unfolding loadQuestions packageQuestions q11-reads
+  behind-14 p a ten n h =
+      let is = installed (storeLimits s) es in
+      let from-14 = number-yes 14 (q14-parents (storeLimits s) is (selfOf s end d f p)) (from 15 (asks s es d f p)) n (is-true _ (a .q14)) h in
+      let from-13 = number-yes 13 (q13-imports is p) (from 14 (asks s es d f p)) n (is-true _ (a .q13)) from-14 in
+      let from-12 = number-yes 12 (q12-new is p) (from 13 (asks s es d f p)) n (is-true _ (a .q12)) from-13 in
+      number-yes 10 (q10-marked f) (packageQuestions (storeLimits s) (length s) es d f (readFile (storeLimits s) f)) n ten (rw (a .read .reads) from-12)
+
+  -- a number from 10 on is a load's, where 3 and 5 were answered yes
+  pub behind-5 : q3-lengths (d ∷ []) ≡ true → q5-created es d ≡ true → (n : ℕ) → n ≡ firstNo (fileAsks s es d f) → n ≡ firstNo (loadQuestions (storeLimits s) (length s) es d f)
+  unfolding loadQuestions
+  behind-5 three five n h = number-yes 3 (q3-lengths (d ∷ [])) (from 5 (loadQuestions (storeLimits s) (length s) es d f)) n three (number-yes 5 (q5-created es d) (fileAsks s es d f) n five h)
 
 module _ (s : Bytes) (end : ℕ) (d : Aid) (f : Bytes) where
+  -- 3 and 5 answered no
   pub load-3 : aidLength (length d) ≡ false → LoadSays s end d f (Refused 3)
   unfolding loadQuestions
-  load-3 h es o = answer-no 3 (q3-lengths (d ∷ [])) _ _ tt (one-length d ∙ h)
+  load-3 h es o = answer-refused (loadQuestions (storeLimits s) (length s) es d f) _ 3 (number-no 3 (q3-lengths (d ∷ [])) (from 5 (loadQuestions (storeLimits s) (length s) es d f)) (one-length d ∙ h)) (λ z. omega (arith, z))
 
   module _ (three : aidLength (length d) ≡ true) where
-    pub load-5 : CreatedSays s end d false → LoadSays s end d f (Refused 5)
+    pub load-5 : ((es : List Entry) → Over s end es → false ≡ q5-created es d) → LoadSays s end d f (Refused 5)
     unfolding loadQuestions
-    load-5 c es o = answer-yes 3 (q3-lengths (d ∷ [])) _ _ _ (one-length d ∙ three) (answer-no 5 _ _ _ tt (sym (c es o)))
+    load-5 c es o =
+        answer-refused (loadQuestions (storeLimits s) (length s) es d f) _ 5
+        (number-yes 3 (q3-lengths (d ∷ [])) (from 5 (loadQuestions (storeLimits s) (length s) es d f)) 5 (one-length d ∙ three) (number-no 5 (q5-created es d) (fileAsks s es d f) (sym (c es o)))) (λ z. omega (arith, z))
 
-    module _ (five : CreatedSays s end d true) where
-      pub load-10 : q10-marked f ≡ false → LoadSays s end d f (Refused 10)
-      unfolding loadQuestions
-      load-10 h es o =
-          answer-yes 3 (q3-lengths (d ∷ [])) _ _ _ (one-length d ∙ three) (answer-yes 5 _ _ _ _ (sym (five es o)) (answer-no 10 (q10-marked f) _ _ tt h))
+    -- both answered yes
+    pub load-file : ((es : List Entry) → Over s end es → true ≡ q5-created es d) → (r : LoadAnswer) → FileSays s end d f r → LoadSays s end d f r
+    unfolding loadQuestions
+    load-file five r a es o =
+        answer-yes 3 (q3-lengths (d ∷ [])) (from 5 (loadQuestions (storeLimits s) (length s) es d f)) _ r (one-length d ∙ three)
+        (answer-yes 5 (q5-created es d) (fileAsks s es d f) _ r (sym (five es o)) (a es o))
 
-      pub load-11 : q10-marked f ≡ true → readFile (storeLimits s) f ≡ none → LoadSays s end d f (Refused 11)
-      unfolding loadQuestions packageQuestions q11-reads
-      load-11 h e es o =
-          answer-yes 3 (q3-lengths (d ∷ [])) _ _ _ (one-length d ∙ three) (answer-yes 5 _ _ _ _ (sym (five es o)) (answer-yes 10 (q10-marked f) _ _ _ h
-          (rw e (answer-no 11 false [] 0 tt refl))))
+  module _ (r : LoadAnswer) (first : ParentsAnswer s end f r) where
+    -- 10 to 14 answered no
+    pub file-first : (n : ℕ) → r ≡ Refused n → FileSays s end d f (Refused n)
+    file-first n e es o =
+        let x = subst (ParentsSay s end d f es) e (first d es o) in
+        answer-refused (fileAsks s es d f) _ n (x .1) (λ z. omega (arith, x .0, z))
 
-      pub load-reads : q10-marked f ≡ true → (p : Package) → readFile (storeLimits s) f ≡ some p → (r : LoadAnswer) → PackageSays s end d f r → LoadSays s end d f r
-      unfolding loadQuestions packageQuestions q11-reads
-      load-reads h p e r a es o =
-          answer-yes 3 (q3-lengths (d ∷ [])) _ _ _ (one-length d ∙ three) (answer-yes 5 _ _ _ _ (sym (five es o)) (answer-yes 10 (q10-marked f) _ _ _ h
-          (rw e (answer-yes 11 true (from12 (storeLimits s) (length s) es d f p) _ r refl (a es p o e)))))
+    -- answered yes
+    module _ (depth : ℕ) (e : r ≡ Accepted depth) where
+      pub asked-14 : (es : List Entry) × Over s end es → Asked14Some s end d f
+      asked-14 o = let x = subst (ParentsSay s end d f (o .0)) e (first d (o .0) (o .1)) in (o .0, x .0, x .1)
+
+      module _ (n : ℕ) (number : NumberFrom 15 s end d f n) where
+        -- the number of what follows is that of all from 10 on
+        pub file-number : (es : List Entry) → Over s end es → n ≡ firstNo (fileAsks s es d f)
+        file-number es o =
+            let x = subst (ParentsSay s end d f es) e (first d es o) in
+            behind-14 s end d f es (x .0) (x .1) (x .2) n (number es (x .0) (x .1))
+
+        pub file-refused : (n ≡ 0 → ⊥) → FileSays s end d f (Refused n)
+        file-refused z es o = answer-refused (fileAsks s es d f) _ n (file-number es o) z
+
+        pub file-done : n ≡ 0 → FileSays s end d f (Accepted depth)
+        file-done z es o =
+            let x = subst (ParentsSay s end d f es) e (first d es o) in
+            let is : deepestOf (storeLimits s) es d (readFile (storeLimits s) f) ≡ depth = ap (deepestOf (storeLimits s) es d) (x .1 .read .reads) ∙ sym (x .3) in
+            subst (λ (m : ℕ). AnswerIs (fileAsks s es d f) m (Accepted depth)) (sym is) (answer-accepted (fileAsks s es d f) depth (sym z ∙ file-number es o))
 
 -- what the answer of the reader says of questions 10 and 11
-pub read-10 : (b c : Bool) → 10 ≡ firstNo ((10, b) ∷ (11, c) ∷ []) → b ≡ false
+read-10 : (b c : Bool) → 10 ≡ firstNo ((10, b) ∷ (11, c) ∷ []) → b ≡ false
 read-10 false c e = refl
 read-10 true false e = absurd (omega (arith, e))
 read-10 true true e = absurd (omega (arith, e))
 
-pub read-11 : (b c : Bool) → 11 ≡ firstNo ((10, b) ∷ (11, c) ∷ []) → (b ≡ true) × (c ≡ false)
+read-11 : (b c : Bool) → 11 ≡ firstNo ((10, b) ∷ (11, c) ∷ []) → (b ≡ true) × (c ≡ false)
 read-11 false c e = absurd (omega (arith, e))
 read-11 true false e = (refl, refl)
 read-11 true true e = absurd (omega (arith, e))
 
-pub read-0 : (b c : Bool) → 0 ≡ firstNo ((10, b) ∷ (11, c) ∷ []) → (b ≡ true) × (c ≡ true)
+read-0 : (b c : Bool) → 0 ≡ firstNo ((10, b) ∷ (11, c) ∷ []) → (b ≡ true) × (c ≡ true)
 read-0 false c e = absurd (omega (arith, e))
 read-0 true false e = absurd (omega (arith, e))
 read-0 true true e = (refl, refl)
 
 -- as a package that is read, or none
-pub reads-none : (o : Option Package) → q11-reads o ≡ false → o ≡ none
+reads-none : (o : Option Package) → q11-reads o ≡ false → o ≡ none
 unfolding q11-reads
 reads-none none e = refl
 reads-none (some p) e = let z : _≡_ {A = ℕ} 0 1 = cc in absurd (omega arith)
 
-pub reads-some : (o : Option Package) → q11-reads o ≡ true → (p : Package) × (o ≡ some p)
+reads-some : (o : Option Package) → q11-reads o ≡ true → (p : Package) × (o ≡ some p)
 unfolding q11-reads
 reads-some none e = let z : _≡_ {A = ℕ} 0 1 = cc in absurd (omega arith)
 reads-some (some p) e = (p, refl)
 
 -- the answers of the reader over the limits of a store
-module _ (s : Bytes) (l : Limits) (e : l ≡ storeLimits s) (f : Bytes) where
-  pub said-10 : (r : Read) → r ≡ reads.Unmarked → PackageRead l f r → q10-marked f ≡ false
-  said-10 r q p = read-10 (q10-marked f) (q11-reads (readFile l f)) (subst (λ (x : Read). said.numberOf x ≡ firstNo ((10, q10-marked f) ∷ (11, q11-reads (readFile l f)) ∷ [])) q (p .number))
+module _ (s : Bytes) (l : Limits) (e : l ≡ storeLimits s) (f : Bytes) (r : Read) (p : PackageRead l f r) where
+  -- the number of an answer
+  number-said : (x : Read) → r ≡ x → said.numberOf x ≡ firstNo ((10, q10-marked f) ∷ (11, q11-reads (readFile l f)) ∷ [])
+  number-said x q = ap said.numberOf (sym q) ∙ p .number
 
-  pub said-11 : (r : Read) → r ≡ reads.Unreadable → PackageRead l f r → (q10-marked f ≡ true) × (readFile (storeLimits s) f ≡ none)
-  said-11 r q p =
-      let x = read-11 (q10-marked f) (q11-reads (readFile l f)) (subst (λ (x : Read). said.numberOf x ≡ firstNo ((10, q10-marked f) ∷ (11, q11-reads (readFile l f)) ∷ [])) q (p .number)) in
+  pub said-10 : r ≡ reads.Unmarked → q10-marked f ≡ false
+  said-10 q = read-10 (q10-marked f) (q11-reads (readFile l f)) (number-said reads.Unmarked q)
+
+  pub said-11 : r ≡ reads.Unreadable → (q10-marked f ≡ true) × (readFile (storeLimits s) f ≡ none)
+  said-11 q =
+      let x = read-11 (q10-marked f) (q11-reads (readFile l f)) (number-said reads.Unreadable q) in
       (x .0, reads-none (readFile (storeLimits s) f) (ap (λ (m : Limits). q11-reads (readFile m f)) (sym e) ∙ x .1))
 
-  pub said-0 : (r : Read) (t : Places) → r ≡ reads.Package t → PackageRead l f r → (q10-marked f ≡ true) × ((p : Package) × (readFile (storeLimits s) f ≡ some p))
-  said-0 r t q p =
-      let x = read-0 (q10-marked f) (q11-reads (readFile l f)) (subst (λ (x : Read). said.numberOf x ≡ firstNo ((10, q10-marked f) ∷ (11, q11-reads (readFile l f)) ∷ [])) q (p .number)) in
+  pub said-0 : (t : Places) → r ≡ reads.Package t → (q10-marked f ≡ true) × ((p : Package) × (readFile (storeLimits s) f ≡ some p))
+  said-0 t q =
+      let x = read-0 (q10-marked f) (q11-reads (readFile l f)) (number-said (reads.Package t) q) in
       (x .0, reads-some (readFile (storeLimits s) f) (ap (λ (m : Limits). q11-reads (readFile m f)) (sym e) ∙ x .1))

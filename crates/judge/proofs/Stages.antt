@@ -1,158 +1,153 @@
--- A load from 12 on, from 15 on and from 18 on: each stage from the answers of its questions. Assumes nothing.
+-- A load's questions from 12 on: each stage from the answers of its questions. Assumes nothing.
 use Prim.Native.Nat.{ℕ, _≤_}
 use native.Mathlib.Omega.{arith}
-use mathlib.Core.Path.{_≡_, refl, sym, _∙_, subst}
+use mathlib.Core.Path.{_≡_, refl, sym, _∙_, ap}
 use mathlib.Core.Bool.{Bool, true, false}
 use mathlib.Core.List.{List, [], _∷_}
 use mathlib.Core.Option.{some}
-use lib.Dec.{T}
 use lib.ListN.{length}
 use Rattle.rules.specs.Bytes.{Bytes, Aid, pick}
-use Rattle.rules.specs.Package.{storeLimits, Package, readFile}
+use Rattle.rules.specs.Package.{Limits, standard, storeLimits, Package, readFile}
 use Rattle.rules.specs.Store.{Entry, loaded}
 use Rattle.rules.specs.Classes.{Installed, installed}
-use Rattle.rules.specs.Questions.{q12-new, q13-imports, q14-parents, q15-names, q16-splits, q17-targets, q18-calls, q19-allowed, q20-running, q21-fits}
-use Rattle.rules.specs.Operations.{Question, firstNo, deepest}
-use Rattle.rules.proofs.Tests.{of-true}
+use Rattle.rules.specs.Questions.{q15-names, q16-splits, q17-targets, q18-calls, q19-allowed, q20-running, q21-fits}
+use Rattle.rules.specs.Operations.{Question, firstNo, packageQuestions}
 use Rattle.rules.proofs.Asked.{parents-yes}
+use Rattle.rules.proofs.Limits.{store-limits}
 use Rattle.store.specs.Answers.{Fits}
-use Rattle.homes.specs.Homes.{Setting, Imports, Parents}
+use Rattle.store.specs.Sound.{OverSome}
+use Rattle.store.proofs.Sound.{over-used}
+use Rattle.imports.specs.Say.{SettingThere}
 use Rattle.files.specs.Say.{Readable}
+use Rattle.homes.specs.Homes.{Setting, Imports, Parents}
 use Rattle.names.specs.Say.{NamesIs}
-use Rattle.imports.specs.Say.{SettingThere, NewIs, ImportsIs}
-use Rattle.depths.specs.Depths.{ImportsThere, ParentedIs}
-use Rattle.depths.specs.declared.Parented.the-variants as parented
-use Rattle.calls.specs.Codes.{FileHere, FileNumberIs}
+use Rattle.file_codes.specs.Codes.{fileNumber, FileNumberIs}
+use Rattle.file_codes.proofs.Numbers as codes
 use Rattle.calls.specs.Calls.{CodesSplit, CallsNumberIs}
-use Rattle.calls.specs.Named.{Judged}
+use Rattle.rules.proofs.Tests.{of-true}
+use Rattle.named.specs.Named.{Judged}
 use Rattle.running.specs.Say.{JudgedThere, RunningIs}
-use Rattle.judge.specs.Says.{Over, AnswerIs, from12, CallsSay, InsideSays, PackageSays, PackageSome, InsideSome}
-use Rattle.judge.specs.declared.LoadAnswer.{LoadAnswer}
-use Rattle.judge.specs.declared.LoadAnswer.the-variants.{Refused, Accepted}
-use Rattle.judge.proofs.Creation.{over-used}
-use Rattle.judge.proofs.Loading.{answer-no, answer-yes, answer-done, pair-no, pair-yes, pair-small, over-setting}
+use Rattle.judge.specs.Says.{FileRead, Asked14, ReadSome, Asked14Some, NumberFrom, from, asks}
+use Rattle.judge.proofs.Answers.{number-no, number-yes, joined-no, joined-yes}
 
 module _ (s : Bytes) (end : ℕ) (d : Aid) (f : Bytes) where
   -- a package in the domain that loads it
-  abbrev selfOf : Package → Installed
+  abbrev pub selfOf : Package → Installed
   selfOf p = record { domain = d; pack = p }
 
   -- the settings that the questions ask for
-  module _ (es : List Entry) (p : Package) (o : Over s end es) (e : readFile (storeLimits s) f ≡ some p) where
-    setting : Setting f s end es (selfOf p)
-    setting = over-setting s end es d f p o e
+  pub setting : (es : List Entry) (p : Package) → FileRead s end f es p → Setting f s end es (selfOf p)
+  setting es p r = record { stand = r .over .stand; size = length s; sound = r .over .sound; reads = r .reads }
 
-    imports : T (q13-imports (installed (storeLimits s) es) p) → Imports f s end es (selfOf p)
-    imports h = record { setting = setting; imports = h }
+  module _ (es : List Entry) (p : Package) (a : Asked14 s end d f es p) where
+    pub imports : Imports f s end es (selfOf p)
+    imports = record { setting = setting es p (a .read); imports = a .q13 }
 
-    parents : T (q13-imports (installed (storeLimits s) es) p) → T (q14-parents (storeLimits s) (installed (storeLimits s) es) (selfOf p)) → Parents f s end es (selfOf p)
-    parents h k = record { imported = imports h; exist = (parents-yes (storeLimits s) (installed (storeLimits s) es) (selfOf p) k) .exist }
+    pub parents : Parents f s end es (selfOf p)
+    parents = record { imported = imports; exist = (parents-yes (storeLimits s) (installed (storeLimits s) es) (selfOf p) (a .q14)) .exist }
 
-  -- what is required before each
-  pub setting-there : PackageSome s end f → SettingThere f s end
-  setting-there t = (t .0, selfOf (t .1), setting (t .0) (t .1) (t .2) (t .3))
+  pub judged : Asked14Some s end d f → Judged f s end
+  judged t = (t .0, selfOf (t .1), imports (t .0) (t .1) (t .2))
 
-  pub imports-there : PackageSome s end f → ImportsIs f s end true → ImportsThere f s end
-  imports-there t i = (t .0, selfOf (t .1), imports (t .0) (t .1) (t .2) (t .3) (of-true (sym (i (t .0) (selfOf (t .1)) (setting (t .0) (t .1) (t .2) (t .3))))))
+  pub judged-there : Asked14Some s end d f → JudgedThere f s end
+  judged-there t = (t .0, selfOf (t .1), parents (t .0) (t .1) (t .2), t .2 .q14)
 
-  pub inside-some : (depth : ℕ) → PackageSome s end f → ImportsIs f s end true → ParentedIs f s end (parented.Yes depth) → InsideSome s end d f
-  inside-some depth t i q =
-      let g = setting (t .0) (t .1) (t .2) (t .3) in
-      let h : T (q13-imports (installed (storeLimits s) (t .0)) (t .1)) = of-true (sym (i (t .0) (selfOf (t .1)) g)) in
-      let k = q (t .0) (selfOf (t .1)) (imports (t .0) (t .1) (t .2) (t .3) h) in
-      (t .0, t .1, t .2, t .3, h, of-true (k .0))
+  -- the file reads
+  pub read-some : Asked14Some s end d f → ReadSome s f
+  read-some t = (t .1, t .2 .read .reads)
 
-  pub judged : InsideSome s end d f → Judged f s end
-  judged t = (t .0, selfOf (t .1), imports (t .0) (t .1) (t .2) (t .3) (t .4))
+  pub readable : Asked14Some s end d f → Readable f
+  readable t = (storeLimits s, t .1, t .2 .read .reads)
 
-  pub judged-there : InsideSome s end d f → JudgedThere f s end
-  judged-there t = (t .0, selfOf (t .1), parents (t .0) (t .1) (t .2) (t .3) (t .4) (t .5), t .5)
+  -- from 20 on
+  pub number-20 : RunningIs f s end false → NumberFrom 20 s end d f 20
+  unfolding packageQuestions
+  number-20 n es p a =
+      number-no 20 (q20-running (storeLimits s) (installed (storeLimits s) es) (selfOf p)) (from 21 (asks s es d f p)) (sym (n es (selfOf p) (parents es p a) (a .q14)))
 
-  pub readable : InsideSome s end d f → Readable f
-  readable t = (storeLimits s, t .1, t .3)
-
-  pub file-here : (marks : List Bool) → storeLimits s .code ≤ length marks → InsideSome s end d f → FileHere f marks
-  file-here marks b t = (storeLimits s, t .1, t .3, b)
-
-  -- from 12 on
-  pub stage-12 : NewIs f s end false → PackageSays s end d f (Refused 12)
-  stage-12 n es p o e = answer-no 12 (q12-new (installed (storeLimits s) es) p) _ _ tt (sym (n es (selfOf p) (setting es p o e)))
-
-  module _ (twelve : NewIs f s end true) where
-    pub stage-13 : ImportsIs f s end false → PackageSays s end d f (Refused 13)
-    stage-13 n es p o e =
-        answer-yes 12 (q12-new (installed (storeLimits s) es) p) _ _ _ (sym (twelve es (selfOf p) (setting es p o e))) (answer-no 13 (q13-imports (installed (storeLimits s) es) p) _ _ tt (sym (n es (selfOf p) (setting es p o e))))
-
-    module _ (thirteen : ImportsIs f s end true) where
-      has-imports : (es : List Entry) (p : Package) (o : Over s end es) (e : readFile (storeLimits s) f ≡ some p) → T (q13-imports (installed (storeLimits s) es) p)
-      has-imports es p o e = of-true (sym (thirteen es (selfOf p) (setting es p o e)))
-
-      first-two : (es : List Entry) (p : Package) (o : Over s end es) (e : readFile (storeLimits s) f ≡ some p) (qs : List Question) (depth : ℕ) (r : LoadAnswer) → AnswerIs qs depth r →
-          AnswerIs ((12, q12-new (installed (storeLimits s) es) p) ∷ (13, q13-imports (installed (storeLimits s) es) p) ∷ qs) depth r
-      first-two es p o e qs depth r a =
-          answer-yes 12 (q12-new (installed (storeLimits s) es) p) _ _ _ (sym (twelve es (selfOf p) (setting es p o e)))
-          (answer-yes 13 (q13-imports (installed (storeLimits s) es) p) _ _ _ (sym (thirteen es (selfOf p) (setting es p o e))) a)
-
-      pub stage-14 : ParentedIs f s end parented.No → PackageSays s end d f (Refused 14)
-      stage-14 n es p o e =
-          first-two es p o e _ _ _ (answer-no 14 (q14-parents (storeLimits s) (installed (storeLimits s) es) (selfOf p)) _ _ tt (n es (selfOf p) (imports es p o e (has-imports es p o e))))
-
-      pub stage-inside : (depth : ℕ) (r : LoadAnswer) → ParentedIs f s end (parented.Yes depth) → InsideSays s end d f depth r → PackageSays s end d f r
-      unfolding deepest
-      stage-inside depth r y a es p o e =
-          let h = has-imports es p o e in
-          let q = y es (selfOf p) (imports es p o e h) in
-          subst (λ (m : ℕ). AnswerIs (from12 (storeLimits s) (length s) es d f p) m r) (q .1)
-          (first-two es p o e _ _ r (answer-yes 14 (q14-parents (storeLimits s) (installed (storeLimits s) es) (selfOf p)) _ _ r (q .0) (a es p o e h (of-true (q .0)))))
-
-  -- from 15 on
-  module _ (depth : ℕ) where
-    pub stage-15 : NamesIs f false → InsideSays s end d f depth (Refused 15)
-    stage-15 n es p o e h k = answer-no 15 (q15-names p) _ _ tt (sym (n (storeLimits s) p e))
-
-    module _ (fifteen : NamesIs f true) where
-      pub stage-codes : (c : ℕ) → FileNumberIs f c → (c ≡ 0 → ⊥) → InsideSays s end d f depth (Refused c)
-      stage-codes c n z es p o e h k = answer-yes 15 (q15-names p) _ _ _ (sym (fifteen (storeLimits s) p e)) (pair-no 16 17 tt tt _ depth (q16-splits p) (q17-targets p) c (n (storeLimits s) p e) z)
-
-      pub stage-calls : (c : ℕ) → FileNumberIs f c → c ≡ 0 → (r : LoadAnswer) → CallsSay s end d f depth r → InsideSays s end d f depth r
-      stage-calls c n z r a es p o e h k =
-          answer-yes 15 (q15-names p) _ _ _ (sym (fifteen (storeLimits s) p e)) (pair-yes 16 17 tt tt _ depth (q16-splits p) (q17-targets p) r (sym z ∙ n (storeLimits s) p e) (a es p o e h k))
-
-  -- 16 was answered yes
-  pub codes-split : (c : ℕ) → FileNumberIs f c → c ≡ 0 → CodesSplit f
-  codes-split c n z l p e = go (q16-splits p) (q17-targets p) (sym z ∙ n l p e)
+  pub number-21 : (b : Bool) → RunningIs f s end true → Fits s end (loaded d f) b → NumberFrom 20 s end d f (pick b 0 21)
+  unfolding packageQuestions
+  number-21 b twenty n es p a =
+      number-yes 20 (q20-running (storeLimits s) (installed (storeLimits s) es) (selfOf p)) (from 21 (asks s es d f p)) (pick b 0 21)
+      (sym (twenty es (selfOf p) (parents es p a) (a .q14))) (last b (n es (over-used s end es (a .read .over))))
     where
-      go : (x y : Bool) → 0 ≡ firstNo ((16, x) ∷ (17, y) ∷ []) → T x
-      go false y q = absurd (omega (arith, q))
-      go true y q = tt
+      last : (b : Bool) → b ≡ q21-fits (length s) es (loaded d f) → pick b 0 21 ≡ firstNo ((21, q21-fits (length s) es (loaded d f)) ∷ [])
+      last true q = rw (sym q)
+      last false q = rw (sym q)
 
-  -- the numbers are small
-  pub codes-small : (c : ℕ) → InsideSome s end d f → FileNumberIs f c → c ≤ 17
-  codes-small c t n = pair-small 16 17 (q16-splits (t .1)) (q17-targets (t .1)) c (omega arith) (n (storeLimits s) (t .1) (t .3))
+  -- 18 and 19, which are asked together, and what follows them
+  abbrev calls : List Entry → Package → List Question
+  calls es p = (18, q18-calls (installed (storeLimits s) es) (selfOf p)) ∷ (19, q19-allowed (installed (storeLimits s) es) (selfOf p)) ∷ []
 
-  pub calls-small : (c : ℕ) → InsideSome s end d f → CallsNumberIs f s end d c → c ≤ 19
-  calls-small c t n =
-      pair-small 18 19 (q18-calls (installed (storeLimits s) (t .0)) (selfOf (t .1))) (q19-allowed (installed (storeLimits s) (t .0)) (selfOf (t .1))) c (omega arith)
-      (n (t .0) (selfOf (t .1)) (imports (t .0) (t .1) (t .2) (t .3) (t .4)) refl)
+  module _ (c : ℕ) (number : CallsNumberIs f s end d c) where
+    pub number-18 : (c ≡ 0 → ⊥) → NumberFrom 18 s end d f c
+    unfolding packageQuestions
+    number-18 z es p a = joined-no (calls es p) (from 20 (asks s es d f p)) c tt (number es (selfOf p) (imports es p a) refl) z
 
-  -- from 18 on
-  module _ (depth c : ℕ) (number : CallsNumberIs f s end d c) where
-    pub stage-18-19 : (c ≡ 0 → ⊥) → CallsSay s end d f depth (Refused c)
-    stage-18-19 z es p o e h k = pair-no 18 19 tt tt _ depth _ _ c (number es (selfOf p) (imports es p o e h) refl) z
+    pub behind-19 : c ≡ 0 → (r : ℕ) → NumberFrom 20 s end d f r → NumberFrom 18 s end d f r
+    unfolding packageQuestions
+    behind-19 z r n es p a = joined-yes (calls es p) (from 20 (asks s es d f p)) r tt (sym z ∙ number es (selfOf p) (imports es p a) refl) (n es p a)
 
-    module _ (z : c ≡ 0) where
-      both : (es : List Entry) (p : Package) (o : Over s end es) (e : readFile (storeLimits s) f ≡ some p) → T (q13-imports (installed (storeLimits s) es) p) → (qs : List Question) (r : LoadAnswer) → AnswerIs qs depth r →
-          AnswerIs ((18, q18-calls (installed (storeLimits s) es) (selfOf p)) ∷ (19, q19-allowed (installed (storeLimits s) es) (selfOf p)) ∷ qs) depth r
-      both es p o e h qs r a = pair-yes 18 19 tt tt qs depth _ _ r (sym z ∙ number es (selfOf p) (imports es p o e h) refl) a
+  -- 15
+  pub number-15 : NamesIs f false → NumberFrom 15 s end d f 15
+  unfolding packageQuestions
+  number-15 n es p a = number-no 15 (q15-names p) (from 16 (asks s es d f p)) (sym (n (storeLimits s) p (a .read .reads)))
 
-      pub stage-20 : RunningIs f s end false → CallsSay s end d f depth (Refused 20)
-      stage-20 n es p o e h k =
-          both es p o e h _ _ (answer-no 20 (q20-running (storeLimits s) (installed (storeLimits s) es) (selfOf p)) _ _ tt (sym (n es (selfOf p) (parents es p o e h k) k)))
+  module _ (fifteen : NamesIs f true) (c : ℕ) (number : FileNumberIs f c) where
+    -- behind 15
+    behind-15 : (es : List Entry) (p : Package) → Asked14 s end d f es p → (r : ℕ) → r ≡ firstNo (from 16 (asks s es d f p)) → r ≡ firstNo (from 15 (asks s es d f p))
+    unfolding packageQuestions
+    behind-15 es p a r h = number-yes 15 (q15-names p) (from 16 (asks s es d f p)) r (sym (fifteen (storeLimits s) p (a .read .reads))) h
 
-      pub stage-21 : (b : Bool) → RunningIs f s end true → Fits s end (loaded d f) b → CallsSay s end d f depth (pick b (Accepted depth) (Refused 21))
-      stage-21 b twenty n es p o e h k =
-          both es p o e h _ _ (answer-yes 20 (q20-running (storeLimits s) (installed (storeLimits s) es) (selfOf p)) _ _ _ (sym (twenty es (selfOf p) (parents es p o e h k) k)) (go b (n es (over-used s end es o))))
-        where
-          go : (b : Bool) → b ≡ q21-fits (length s) es (loaded d f) → AnswerIs ((21, q21-fits (length s) es (loaded d f)) ∷ []) depth (pick b (Accepted depth) (Refused 21))
-          go true q = answer-yes 21 (q21-fits (length s) es (loaded d f)) _ _ _ (sym q) (answer-done depth)
-          go false q = answer-no 21 (q21-fits (length s) es (loaded d f)) _ _ tt (sym q)
+    -- the number of the codes of the file
+    of-file : (es : List Entry) (p : Package) → Asked14 s end d f es p → c ≡ fileNumber p
+    of-file es p a = number (storeLimits s) p (a .read .reads)
+
+    -- 16 or 17
+    pub number-16 : (c ≡ 0 → ⊥) → (c ≡ 18 → ⊥) → NumberFrom 15 s end d f c
+    unfolding packageQuestions
+    number-16 z y es p a =
+        let e = of-file es p a in
+        behind-15 es p a c (e ∙ sym (codes.number-no p (from 18 (asks s es d f p)) (λ x. z (e ∙ x)) (λ x. y (e ∙ x))))
+
+    -- 16 and 17 answered yes
+    behind-codes : (es : List Entry) (p : Package) → Asked14 s end d f es p → q16-splits p ≡ true → q17-targets p ≡ true → (r : ℕ) →
+        r ≡ firstNo (from 18 (asks s es d f p)) → r ≡ firstNo (from 15 (asks s es d f p))
+    unfolding packageQuestions
+    behind-codes es p a x y r h =
+        behind-15 es p a r (number-yes 16 (q16-splits p) (from 17 (asks s es d f p)) r x (number-yes 17 (q17-targets p) (from 18 (asks s es d f p)) r y h))
+
+    -- neither: 18 and 19 are to be asked
+    pub behind-17 : c ≡ 18 → (r : ℕ) → NumberFrom 18 s end d f r → NumberFrom 15 s end d f r
+    behind-17 e r n es p a =
+        let x = codes.number-18 p (sym (of-file es p a) ∙ e) in
+        behind-codes es p a (x .0) (x .1) r (n es p a)
+
+    -- neither, and there are no calls: 18 and 19 are answered yes
+    pub without-calls : c ≡ 0 → (r : ℕ) → NumberFrom 20 s end d f r → NumberFrom 15 s end d f r
+    unfolding packageQuestions
+    without-calls e r n es p a =
+        let x = codes.number-0 p (sym (of-file es p a) ∙ e) in
+        let is = installed (storeLimits s) es in
+        let from-19 = number-yes 19 (q19-allowed is (selfOf p)) (from 20 (asks s es d f p)) r (codes.quiet-19 is (selfOf p) (x .2)) (n es p a) in
+        let from-18 = number-yes 18 (q18-calls is (selfOf p)) (from 19 (asks s es d f p)) r (codes.quiet-18 is (selfOf p) (x .2)) from-19 in
+        behind-codes es p a (x .0) (x .1) r from-18
+
+    -- every code splits
+    pub codes-split : Asked14Some s end d f → c ≡ 18 → CodesSplit f
+    codes-split t e l p r = of-true ((codes.number-18 p (sym (number l p r) ∙ e)) .0)
+
+-- 512 bytes have a bit for each byte of a code within the limits of a store
+pub code-room : (s f : Bytes) → ReadSome s f → (l : Limits) × (p : Package) × (readFile l f ≡ some p) × ((l .code ≤ 4096) × (l .code ≤ 4096))
+unfolding standard
+code-room s f t =
+    let z : storeLimits s .code ≡ 4096 = ap (λ (x : Limits). x .code) (store-limits s) in
+    (storeLimits s, t .0, t .1, (omega (arith, z), omega (arith, z)))
+
+-- what questions 12 and 13 are asked over, whatever domain loads the file
+pub setting-there : (s : Bytes) (end : ℕ) (f : Bytes) → OverSome s end → ReadSome s f → SettingThere f s end
+setting-there s end f o t = (o .0, selfOf s end [] f (t .0), setting s end [] f (o .0) (t .0) (record { over = o .1; reads = t .1 }))
+
+-- the greatest depth within the limits that were read
+pub depth-limit : (s : Bytes) (l : Limits) → l ≡ storeLimits s → l .depth ≡ storeLimits s .depth
+depth-limit s l e = ap (λ (x : Limits). x .depth) e

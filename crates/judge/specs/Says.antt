@@ -1,30 +1,39 @@
--- What judging a creation, a load and a whole store says: the questions of document 01 over the entries that end at a place. Assumes nothing.
+-- What judging a load and the packages of a store says: the questions of document 01 over the entries that end at a place. Assumes nothing.
 --
--- Over s end es     == es stand in s up to place end, each accepted over the earlier ones in a buffer of that length
--- CreateSays, LoadSays == the number of a creation or a load over them, and a load's depth
--- EntrySays s at e r == whether the entry e would have been accepted over them
--- MemoNext, IndexBehind == what index and memo hold behind an accepted load and behind a sound store
--- SoundSays s r     == whether s is sound, and its used value
-use Prim.Native.Nat.{ℕ, _+_, _≤_, _<_}
+-- numberOf r, figureOf r    == the number of a load's answer, and its depth figure
+-- from k qs                 == the questions of a list from the one with number k on
+-- asks s es d f p           == a load's questions from 11 on, of a file that reads as p
+-- FileRead s end f es p     == over sound entries es that end at a place the file f reads as the package p
+-- Asked14 s end d f es p    == and questions 12 to 14 were answered yes: what every later question may assume
+-- AnswerIs qs depth r       == r is the answer to a list of questions, with the depth where all are answered yes
+-- NumberFrom k s end d f r  == r is the number of a load's questions from k on, those before it answered yes
+-- fileAsks s es d f         == a load's questions from 10 on
+-- ParentsAnswer s end f r   == questions 10 to 14 of a file; ParentsTold == what is found with a yes
+-- FileSays, LoadSays        == a load's answer from 10 on, and whole
+-- DomainYes pre e           == question 3, and 4 or 5, of an entry behind others
+-- DomainsYes s end          == of every entry of those that end at a place
+-- PackageThere s x          == the entry of a package stands at places, and questions 3 and 5 of it are answered yes
+-- PackagesSay s end r       == whether all these entries are accepted
+use Prim.Native.Nat.{ℕ, _<_, _≤_}
 use mathlib.Core.Path.{_≡_}
-use mathlib.Core.Bool.{Bool, true, false}
-use mathlib.Core.List.{List, [], _∷_}
+use mathlib.Core.Bool.{Bool, true}
+use mathlib.Core.List.{List, [], _∷_, _++_}
 use mathlib.Core.Option.{some}
-use lib.Dec.{T}
+use lib.Dec.{T, eqb}
 use lib.ListN.{length}
-use Rattle.rules.specs.Bytes.{Bytes, Aid}
-use Rattle.rules.specs.Package.{Limits, storeLimits, Package, readFile}
-use Rattle.rules.specs.Store.{Entry, loaded, openingLength, used, entriesOf}
-use Rattle.rules.specs.Classes.{Installed, installed}
-use Rattle.rules.specs.Operations.{Question, firstNo, createQuestions, loadQuestions, accepted, acceptedAll, soundEntries, sound, deepest, deepestOf}
-use Rattle.rules.specs.Questions.{q5-created, q12-new, q13-imports, q14-parents, q15-names, q16-splits, q17-targets, q18-calls, q19-allowed, q20-running, q21-fits}
-use Rattle.store.specs.Entries.{Entries, Holds}
-use Rattle.index.specs.Index.{IndexIs}
-use Rattle.homes.specs.Memo.{generation, MemoBelow}
+use Rattle.rules.specs.Bytes.{Bytes, Aid, pick}
+use Rattle.rules.specs.Package.{storeLimits, Package, readFile}
+use Rattle.rules.specs.Store.{Entry, domain, loaded, openingLength}
+use Rattle.rules.specs.Classes.{installed}
+use Rattle.rules.specs.Operations.{Question, firstNo, packageQuestions, loadQuestions, accepted, soundEntries, deepest, deepestOf}
+use Rattle.rules.specs.Questions.{q3-lengths, q4-new, q5-created, q10-marked, q12-new, q13-imports, q14-parents}
+use Rattle.store.specs.Entries.{part, EntryAt, Entries}
+use Rattle.store.specs.Sound.{Over}
+use Rattle.homes.specs.Found.{ImportHomes}
+use Rattle.depths.specs.Depths.{OwnDepths, DepthsFit}
 use Rattle.judge.specs.declared.LoadAnswer.{LoadAnswer}
 use Rattle.judge.specs.declared.LoadAnswer.the-variants.{Refused, Accepted}
-use Rattle.judge.specs.declared.StoreAnswer.{StoreAnswer}
-use Rattle.judge.specs.declared.StoreAnswer.the-variants.{Unsound, Used}
+use Rattle.judge.specs.declared.PackageEntry.{PackageEntry}
 
 -- the number of a load's answer, and its depth figure
 abbrev pub numberOf : LoadAnswer → ℕ
@@ -35,21 +44,26 @@ abbrev pub figureOf : LoadAnswer → ℕ
 figureOf (Refused n) = 0
 figureOf (Accepted d) = d
 
--- sound entries that end at a place
-pub record Over (s : Bytes) (end : ℕ) (es : List Entry) : Type 0 where
-  pub stand : Entries s openingLength es end
-  pub sound : T (acceptedAll (storeLimits s) (length s) [] es)
+-- the questions of a list from the one with number k on
+abbrev pub from : ℕ → List Question → List Question
+from k [] = []
+from k (q ∷ qs) = pick (eqb (q .0) k) (q ∷ qs) (from k qs)
 
-abbrev pub OverSome : Bytes → ℕ → Type 0
-OverSome s end = (es : List Entry) × Over s end es
+-- a load's questions from 11 on, of a file that reads as p
+abbrev pub asks : Bytes → List Entry → Aid → Bytes → Package → List Question
+asks s es d f p = packageQuestions (storeLimits s) (length s) es d f (some p)
 
--- a domain has been created
-abbrev pub CreatedSays : Bytes → ℕ → Aid → Bool → Type 0
-CreatedSays s end a r = (es : List Entry) → Over s end es → r ≡ q5-created es a
+-- a file that reads, over sound entries that end at a place
+pub record FileRead (s : Bytes) (end : ℕ) (f : Bytes) (es : List Entry) (p : Package) : Type 0 where
+  pub over : Over s end es
+  pub reads : readFile (storeLimits s) f ≡ some p
 
--- a creation's number
-abbrev pub CreateSays : Bytes → ℕ → Aid → ℕ → Type 0
-CreateSays s end a r = (es : List Entry) → Over s end es → r ≡ firstNo (createQuestions (length s) es a)
+-- one that passed 12 to 14, loaded by the domain d
+pub record Asked14 (s : Bytes) (end : ℕ) (d : Aid) (f : Bytes) (es : List Entry) (p : Package) : Type 0 where
+  pub read : FileRead s end f es p
+  pub q12 : T (q12-new (installed (storeLimits s) es) p)
+  pub q13 : T (q13-imports (installed (storeLimits s) es) p)
+  pub q14 : T (q14-parents (storeLimits s) (installed (storeLimits s) es) (record { domain = d; pack = p }))
 
 -- an answer to a list of questions: its number, the depth figure where that is 0, and that a refusal has a number
 pub record AnswerIs (qs : List Question) (depth : ℕ) (r : LoadAnswer) : Type 0 where
@@ -57,63 +71,68 @@ pub record AnswerIs (qs : List Question) (depth : ℕ) (r : LoadAnswer) : Type 0
   pub figure : firstNo qs ≡ 0 → figureOf r ≡ depth
   pub real : (n : ℕ) → r ≡ Refused n → 0 < n
 
--- a load's questions from 18 on, from 15 on and from 12 on, of a file that reads as p
-abbrev pub from18 : Limits → ℕ → List Entry → Aid → Bytes → Package → List Question
-from18 l n es d f p =
-    let is : List Installed = installed l es in
-    let self : Installed = record { domain = d; pack = p } in
-    (18, q18-calls is self) ∷ (19, q19-allowed is self) ∷ (20, q20-running l is self) ∷ (21, q21-fits n es (loaded d f)) ∷ []
+-- what is required of a file that reads, and of one that passed 14
+abbrev pub ReadSome : Bytes → Bytes → Type 0
+ReadSome s f = (p : Package) × (readFile (storeLimits s) f ≡ some p)
 
-abbrev pub from15 : Limits → ℕ → List Entry → Aid → Bytes → Package → List Question
-from15 l n es d f p = (15, q15-names p) ∷ (16, q16-splits p) ∷ (17, q17-targets p) ∷ from18 l n es d f p
+abbrev pub Asked14Some : Bytes → ℕ → Aid → Bytes → Type 0
+Asked14Some s end d f = (es : List Entry) × (p : Package) × Asked14 s end d f es p
 
-abbrev pub from12 : Limits → ℕ → List Entry → Aid → Bytes → Package → List Question
-from12 l n es d f p =
-    let is : List Installed = installed l es in
-    let self : Installed = record { domain = d; pack = p } in
-    (12, q12-new is p) ∷ (13, q13-imports is p) ∷ (14, q14-parents l is self) ∷ from15 l n es d f p
+-- the number of a load's questions from k on, of a file that passed those up to 14
+abbrev pub NumberFrom : ℕ → Bytes → ℕ → Aid → Bytes → ℕ → Type 0
+NumberFrom k s end d f r = (es : List Entry) (p : Package) → Asked14 s end d f es p → r ≡ firstNo (from k (asks s es d f p))
 
--- a load's answer, of a file that passed 3 to 17, 3 to 14, of one that reads, of any
-abbrev pub CallsSay : Bytes → ℕ → Aid → Bytes → ℕ → LoadAnswer → Type 0
-CallsSay s end d f depth r = (es : List Entry) (p : Package) → Over s end es → readFile (storeLimits s) f ≡ some p →
-    T (q13-imports (installed (storeLimits s) es) p) → T (q14-parents (storeLimits s) (installed (storeLimits s) es) (record { domain = d; pack = p })) → AnswerIs (from18 (storeLimits s) (length s) es d f p) depth r
+-- a load's questions from 10 on, whatever the file
+abbrev pub fileAsks : Bytes → List Entry → Aid → Bytes → List Question
+fileAsks s es d f = from 10 (loadQuestions (storeLimits s) (length s) es d f)
 
-abbrev pub InsideSays : Bytes → ℕ → Aid → Bytes → ℕ → LoadAnswer → Type 0
-InsideSays s end d f depth r = (es : List Entry) (p : Package) → Over s end es → readFile (storeLimits s) f ≡ some p →
-    T (q13-imports (installed (storeLimits s) es) p) → T (q14-parents (storeLimits s) (installed (storeLimits s) es) (record { domain = d; pack = p })) → AnswerIs (from15 (storeLimits s) (length s) es d f p) depth r
+-- questions 10 to 14: the number of the first no, or that all are answered yes, with the depth of the deepest class
+abbrev pub ParentsSay : Bytes → ℕ → Aid → Bytes → List Entry → LoadAnswer → Type 0
+ParentsSay s end d f es (Refused n) = (0 < n) × (n ≡ firstNo (fileAsks s es d f))
+ParentsSay s end d f es (Accepted depth) = (p : Package) × Asked14 s end d f es p × (q10-marked f ≡ true) × (depth ≡ deepest (storeLimits s) es d p)
 
-abbrev pub PackageSays : Bytes → ℕ → Aid → Bytes → LoadAnswer → Type 0
-PackageSays s end d f r = (es : List Entry) (p : Package) → Over s end es → readFile (storeLimits s) f ≡ some p → AnswerIs (from12 (storeLimits s) (length s) es d f p) (deepest (storeLimits s) es d p) r
+-- of whatever sound entries end at a place, and whatever domain loads the file
+abbrev pub ParentsAnswer : Bytes → ℕ → Bytes → LoadAnswer → Type 0
+ParentsAnswer s end f r = (d : Aid) (es : List Entry) → Over s end es → ParentsSay s end d f es r
+
+-- with a yes: the homes of the imports, and the depths of the own classes
+abbrev pub ParentsTold : Bytes → ℕ → Bytes → List ℕ → List ℕ → LoadAnswer → Type 0
+ParentsTold s end f homes own (Refused n) = Unit {0}
+ParentsTold s end f homes own (Accepted depth) = ImportHomes f s end homes × OwnDepths f s end own × DepthsFit f own
+
+-- a load's answer from 10 on, and whole
+abbrev pub FileSays : Bytes → ℕ → Aid → Bytes → LoadAnswer → Type 0
+FileSays s end d f r = (es : List Entry) → Over s end es → AnswerIs (fileAsks s es d f) (deepestOf (storeLimits s) es d (readFile (storeLimits s) f)) r
 
 abbrev pub LoadSays : Bytes → ℕ → Aid → Bytes → LoadAnswer → Type 0
-LoadSays s end d f r = (es : List Entry) → Over s end es → AnswerIs (loadQuestions (storeLimits s) (length s) es d f) (deepestOf (storeLimits s) es d (readFile (storeLimits s) f)) r
+LoadSays s end d f r = (es : List Entry) → Over s end es →
+    AnswerIs (loadQuestions (storeLimits s) (length s) es d f) (deepestOf (storeLimits s) es d (readFile (storeLimits s) f)) r
 
--- what they require
-abbrev pub PackageSome : Bytes → ℕ → Bytes → Type 0
-PackageSome s end f = (es : List Entry) × (p : Package) × Over s end es × (readFile (storeLimits s) f ≡ some p)
+-- 3 and 4 of a domain behind these entries, 3 and 5 of a package's
+abbrev pub DomainYes : List Entry → Entry → Type 0
+DomainYes pre (domain a) = T (q3-lengths (a ∷ [])) × T (q4-new pre a)
+DomainYes pre (loaded d f) = T (q3-lengths (d ∷ [])) × T (q5-created pre d)
 
-abbrev pub InsideSome : Bytes → ℕ → Aid → Bytes → Type 0
-InsideSome s end d f = (es : List Entry) × (p : Package) × Over s end es × (readFile (storeLimits s) f ≡ some p) ×
-    T (q13-imports (installed (storeLimits s) es) p) × T (q14-parents (storeLimits s) (installed (storeLimits s) es) (record { domain = d; pack = p }))
-
--- an accepted load leaves the memo as the entry behind it asks
-abbrev pub MemoNext : ℕ → Aid → Bytes → LoadAnswer → List ℕ → Type 0
-MemoNext end d f r memo = (depth : ℕ) → r ≡ Accepted depth → 5 ≤ length d → MemoBelow (generation (end + 4 + length d + length f)) memo
+-- of every entry of those that end at a place
+abbrev pub DomainsYes : Bytes → ℕ → Type 0
+DomainsYes s end = (es pre post : List Entry) (e : Entry) → Entries s openingLength es end → es ≡ pre ++ e ∷ post → DomainYes pre e
 
 -- whether an entry would have been accepted over those that end at a place
 abbrev pub EntrySays : Bytes → ℕ → Entry → Bool → Type 0
 EntrySays s at e r = (es : List Entry) → Over s at es → r ≡ accepted (storeLimits s) (length s) es e
 
+-- the entry of a package by its places
+abbrev pub entryOf : Bytes → PackageEntry → Entry
+entryOf s x = loaded (part s (x .from) (x .file)) (part s (x .file) (x .next))
+
+-- it stands there, and questions 3 and 5 of it are answered yes
+pub record PackageThere (s : Bytes) (x : PackageEntry) : Type 0 where
+  pub stands : EntryAt s (x .at) (entryOf s x) (x .next)
+  pub domain : x .from ≤ x .file
+  pub file : x .file ≤ x .next
+  pub inside : x .at < x .file
+  pub known : (pre : List Entry) → Over s (x .at) pre → (q3-lengths (part s (x .from) (x .file) ∷ []) ≡ true) × (q5-created pre (part s (x .from) (x .file)) ≡ true)
+
 -- whether each entry up to a place would have been accepted
-abbrev pub AllAccepted : Bytes → ℕ → Bool → Type 0
-AllAccepted s end r = (es : List Entry) → Entries s openingLength es end → r ≡ soundEntries (storeLimits s) (length s) es
-
--- question 2, and the used value of a sound store
-abbrev pub SoundSays : Bytes → StoreAnswer → Type 0
-SoundSays s Unsound = sound s ≡ false
-SoundSays s (Used u) = (sound s ≡ true) × ((es : List Entry) → entriesOf s ≡ some es → Holds s es × Over s u es × (used es ≡ u))
-
--- index and memo behind the entries of a sound store
-abbrev pub IndexBehind : Bytes → StoreAnswer → List ℕ → List ℕ → Type 0
-IndexBehind s Unsound index memo = Unit {0}
-IndexBehind s (Used u) index memo = IndexIs s u index × MemoBelow (generation u) memo
+abbrev pub PackagesSay : Bytes → ℕ → Bool → Type 0
+PackagesSay s end r = (es : List Entry) → Entries s openingLength es end → r ≡ soundEntries (storeLimits s) (length s) es

@@ -1,27 +1,27 @@
-// A creation, a load and a whole store judged over the entries that end at a place: the same functions for question 2 and for the calls.
-use cursor::Aid;
-use cursor::Limits;
+// A load judged over the entries that end at a place, and the packages of a store one after the other: the same functions for question 2
+// and for the call.
+use depths::Bounds;
 use depths::Parented;
 use reader::Read;
 use store::EntryPart;
-use store::Layout;
 use store::Spot;
 ghost use mathlib.Core.Path.{_≡_};
 ghost use mathlib.Core.Bool.{true};
 ghost use Prim.Native.Nat.{_≤_};
-ghost use lib.ListN.{length, replicate};
-ghost use Rattle.rules.specs.Bytes.{aidLength};
-ghost use Rattle.rules.specs.Package.{storeLimits};
-ghost use Rattle.rules.specs.Store.{domain, loaded};
-ghost use Rattle.cursor.specs.Limits.{limitsOf};
-ghost use Rattle.codes.specs.Table.{TableIs};
-ghost use Rattle.calls.specs.Calls.{CodesSplit};
-ghost use Rattle.store.specs.Entries.{part, EntryAt, StandFrom};
+ghost use lib.ListN.{length};
+ghost use Rattle.rules.specs.Package.{mostClasses};
+ghost use Rattle.rules.specs.Questions.{q10-marked};
+ghost use Rattle.store.specs.Entries.{StandFrom};
+ghost use Rattle.store.specs.Sound.{OverSome};
 ghost use Rattle.index.specs.Index.{IndexIs};
-ghost use Rattle.homes.specs.Memo.{generation, MemoBelow};
+ghost use Rattle.codes.specs.Table.{TableIs};
+ghost use Rattle.file_codes.specs.Codes.{FileNumberIs};
+ghost use Rattle.calls.specs.Calls.{CodesSplit};
+ghost use Rattle.files.specs.Say.{Readable};
 ghost use Rattle.homes.specs.Found.{Indexed, ImportHomes};
-ghost use Rattle.running.specs.Say.{MemoAfter};
-ghost use Rattle.judge.specs.Says.{OverSome, CreatedSays, CreateSays, InsideSome, CallsSay, InsideSays, PackageSome, PackageSays, LoadSays, MemoNext, EntrySays, AllAccepted, SoundSays, IndexBehind};
+ghost use Rattle.depths.specs.Depths.{DepthsKept};
+ghost use Rattle.running.specs.Walk.{seenLength};
+ghost use Rattle.judge.specs.Says.{ReadSome, Asked14Some, NumberFrom, ParentsAnswer, ParentsTold, FileSays, LoadSays, DomainsYes, entryOf, PackageThere, EntrySays, PackagesSay};
 
 // A load: the number of the first no, or the depth of the deepest own class.
 pub enum LoadAnswer {
@@ -29,160 +29,182 @@ pub enum LoadAnswer {
     Accepted(usize),
 }
 
-// A store: not sound, or its used value.
-pub enum StoreAnswer {
-    Unsound,
-    Used(usize),
+// The entry of a package by its places: its start, the domain's first byte, the file's first byte, its end.
+pub struct PackageEntry {
+    pub at: usize,
+    pub from: usize,
+    pub file: usize,
+    pub next: usize,
 }
 
-// 3. Has an AID given to a call 5 to 16 bytes?
-pub fn length_ok(aid: &[u8]) -> bool
-    ensures { λ r. ⌜ r ≡ aidLength (length (now (aid .entry))) ⌝ }
+// Load, from 20 on, of a file that passed 14: the number of the first no, or 0.
+fn running_number<'a>(
+    s: &'a [u8],
+    end: usize,
+    domain: &[u8],
+    file: &'a [u8],
+    index: &[u16],
+    seen: &mut [u8],
+) -> u32
+    requires { ⌜ Asked14Some (now s) end (now domain) (now file) × Indexed (now s) end (now index) ⌝ }
+    requires { ⌜ (length (now s) ≤ 65535) × (seenLength (now s) ≤ length (now seen)) ⌝ }
+    ensures { λ r. ⌜ NumberFrom 20 (now (s .entry)) end (now (domain .entry)) (now (file .entry)) r ⌝ }
 {
-    let made = Aid::from_bytes(aid);
-    made.ok
-}
-
-// Has a domain been created among the entries that end at a place?
-pub fn created(s: &[u8], end: usize, domain: &[u8]) -> bool
-    requires { ⌜ OverSome (now s) end ⌝ }
-    ensures { λ r. ⌜ CreatedSays (now (s .entry)) end (now (domain .entry)) r ⌝ }
-{
-    match store::find_domain(s, end, domain) {
-        Spot::At(at, next) => true,
-        Spot::Nothing => false,
+    if !running::running_ok(file, s, end, index, seen) {
+        return 20;
     }
-}
-
-// Create, of an AID that has been created or not: 3, 4, 21.
-pub fn create_number(s: &[u8], end: usize, aid: &[u8], known: bool) -> u32
-    requires { ⌜ OverSome (now s) end × CreatedSays (now s) end (now aid) known ⌝ }
-    ensures { λ r. ⌜ CreateSays (now (s .entry)) end (now (aid .entry)) r ⌝ }
-{
-    if !length_ok(aid) {
-        return 3;
-    }
-    if known {
-        return 4;
-    }
-    if !store::domain_fits(s, end, aid) {
+    if !store::package_fits(s, end, domain, file) {
         return 21;
     }
     0
 }
 
-// Load, from 18 on, of a file that passed 17.
-fn calls_answer<'a>(
+// Load, from 18 on, of a file each code of which splits.
+fn calls_number<'a>(
     s: &'a [u8],
     end: usize,
     domain: &[u8],
     file: &'a [u8],
-    table: &[u8; 256],
     homes: &[usize; 48],
-    index: &[u16; 12288],
-    memo: &mut [u16; 21880],
-    base: usize,
-    depth: usize,
-) -> LoadAnswer
-    requires { ⌜ InsideSome (now s) end (now domain) (now file) × CodesSplit (now file) ⌝ }
-    requires { ⌜ length (now s) ≤ 65535 ⌝ }
-    requires { ⌜ TableIs (now table) × ImportHomes (now file) (now s) end (now homes) ⌝ }
-    requires { ⌜ MemoBelow base (now memo) × (base ≤ 65000) ⌝ }
-    requires { ⌜ Indexed (now s) end (now index) ⌝ }
-    ensures { λ r. ⌜ CallsSay (now (s .entry)) end (now (domain .entry)) (now (file .entry)) depth r ⌝ }
-    ensures { λ _. ⌜ MemoAfter (now (file .entry)) base (now (memo .exit)) ⌝ }
+    index: &[u16],
+    seen: &mut [u8],
+) -> u32
+    requires { ⌜ Asked14Some (now s) end (now domain) (now file) × CodesSplit (now file) ⌝ }
+    requires { ⌜ ImportHomes (now file) (now s) end (now homes) × Indexed (now s) end (now index) ⌝ }
+    requires { ⌜ (length (now s) ≤ 65535) × (seenLength (now s) ≤ length (now seen)) ⌝ }
+    ensures { λ r. ⌜ NumberFrom 18 (now (s .entry)) end (now (domain .entry)) (now (file .entry)) r ⌝ }
 {
-    let number = calls::calls_ok(file, s, end, domain, table, homes);
+    let table = codes::table();
+    let number = calls::calls_ok(file, s, end, domain, &table, homes);
     if number != 0 {
-        return LoadAnswer::Refused(number as u32);
+        return number as u32;
     }
-    if !running::running_ok(file, s, end, index, memo, base) {
-        return LoadAnswer::Refused(20);
-    }
-    if !store::package_fits(s, end, domain, file) {
-        return LoadAnswer::Refused(21);
-    }
-    LoadAnswer::Accepted(depth)
+    running_number(s, end, domain, file, index, seen)
 }
 
-// Load, from 15 on, of a file that passed 14 with a depth.
-fn inside_answer<'a>(
+// 16 and 17 of a file: the number of the first no; 18 where there is none and the file has calls, 0 where it has none.
+fn codes_number(s: &[u8], file: &[u8]) -> u8
+    requires { ⌜ ReadSome (now s) (now file) ⌝ }
+    ensures { λ r. ⌜ FileNumberIs (now (file .entry)) r ⌝ }
+{
+    let table = codes::table();
+    let mut starts = [0u8; 512];
+    let mut targets = [0u8; 512];
+    file_codes::codes_ok(file, &table, &mut starts, &mut targets)
+}
+
+// Load, from 15 on, of a file that passed 14.
+fn inside_number<'a>(
     s: &'a [u8],
     end: usize,
     domain: &[u8],
     file: &'a [u8],
-    table: &[u8; 256],
-    marks: &mut [bool],
     homes: &[usize; 48],
-    index: &[u16; 12288],
-    memo: &mut [u16; 21880],
-    base: usize,
-    depth: usize,
-) -> LoadAnswer
-    requires { ⌜ InsideSome (now s) end (now domain) (now file) ⌝ }
-    requires { ⌜ length (now s) ≤ 65535 ⌝ }
-    requires { ⌜ TableIs (now table) × (storeLimits (now s) .code ≤ length (now marks)) ⌝ }
-    requires { ⌜ ImportHomes (now file) (now s) end (now homes) ⌝ }
-    requires { ⌜ MemoBelow base (now memo) × (base ≤ 65000) ⌝ }
-    requires { ⌜ Indexed (now s) end (now index) ⌝ }
-    ensures { λ r. ⌜ InsideSays (now (s .entry)) end (now (domain .entry)) (now (file .entry)) depth r ⌝ }
-    ensures { λ _. ⌜ length (now (marks .exit)) ≡ length (now (marks .entry)) ⌝ }
-    ensures { λ _. ⌜ MemoAfter (now (file .entry)) base (now (memo .exit)) ⌝ }
+    index: &[u16],
+    seen: &mut [u8],
+) -> u32
+    requires { ⌜ Asked14Some (now s) end (now domain) (now file) ⌝ }
+    requires { ⌜ ImportHomes (now file) (now s) end (now homes) × Indexed (now s) end (now index) ⌝ }
+    requires { ⌜ (length (now s) ≤ 65535) × (seenLength (now s) ≤ length (now seen)) ⌝ }
+    ensures { λ r. ⌜ NumberFrom 15 (now (s .entry)) end (now (domain .entry)) (now (file .entry)) r ⌝ }
 {
     if !names::names_ok(file) {
-        return LoadAnswer::Refused(15);
+        return 15;
     }
-    let code = calls::codes_ok(file, table, marks);
-    if code != 0 {
-        return LoadAnswer::Refused(code as u32);
+    let number = codes_number(s, file);
+    if number == 0 {
+        return running_number(s, end, domain, file, index, seen);
     }
-    calls_answer(s, end, domain, file, table, homes, index, memo, base, depth)
+    if number != 18 {
+        return number as u32;
+    }
+    calls_number(s, end, domain, file, homes, index, seen)
 }
 
-// Load, from 12 on, of a file that reads.
+// 12 to 14 of a file that reads: the number of the first no, or the depth of the deepest class; with it the homes of the imports and
+// the depths of the own classes.
 fn package_answer<'a>(
     s: &'a [u8],
     end: usize,
-    domain: &[u8],
     file: &'a [u8],
-    limits: Limits,
-    table: &[u8; 256],
-    marks: &mut [bool],
-    index: &[u16; 12288],
-    memo: &mut [u16; 21880],
+    index: &[u16],
+    homes: &mut [usize; 48],
+    depths: &[u8],
+    own: &mut [u8],
 ) -> LoadAnswer
-    requires { ⌜ PackageSome (now s) end (now file) ⌝ }
-    requires { ⌜ length (now s) ≤ 65535 ⌝ }
-    requires { ⌜ TableIs (now table) × (limits .code ≤ length (now marks)) × (limitsOf limits ≡ storeLimits (now s)) ⌝ }
-    requires { ⌜ IndexIs (now s) end (now index) × MemoBelow (generation end) (now memo) ⌝ }
-    ensures { λ r. ⌜ PackageSays (now (s .entry)) end (now (domain .entry)) (now (file .entry)) r ⌝ }
-    ensures { λ _. ⌜ length (now (marks .exit)) ≡ length (now (marks .entry)) ⌝ }
-    ensures { λ r. ⌜ MemoNext end (now (domain .entry)) (now (file .entry)) r (now (memo .exit)) ⌝ }
+    requires { ⌜ OverSome (now s) end × (q10-marked (now file) ≡ true) × ReadSome (now s) (now file) ⌝ }
+    requires { ⌜ Indexed (now s) end (now index) × DepthsKept (now s) end (now depths) × (length (now s) ≤ 65535) ⌝ }
+    requires { ⌜ (length (now homes) ≡ 48) × (length (now own) ≡ mostClasses) ⌝ }
+    ensures { λ r. ⌜ ParentsAnswer (now (s .entry)) end (now (file .entry)) r ⌝ }
+    ensures { λ r. ⌜ ParentsTold (now (s .entry)) end (now (file .entry)) (now (homes .exit)) (now (own .exit)) r ⌝ }
 {
     if !imports::package_new(file, s, end, index) {
         return LoadAnswer::Refused(12);
     }
-    let mut homes = [0usize; 48];
-    if !imports::imports_there(file, s, end, index, &mut homes) {
+    if !imports::imports_there(file, s, end, index, homes) {
         return LoadAnswer::Refused(13);
     }
-    let most = limits.depth;
-    let base = end - end / 8;
-    match depths::parents_ok(file, s, end, index, most, memo, base) {
-        Parented::Yes(depth) => inside_answer(
-            s,
-            end,
-            domain,
-            file,
-            table,
-            marks,
-            &homes,
-            index,
-            memo,
-            base + most + 1,
-            depth,
-        ),
+    let mut rows = [0u16; 512];
+    let limits = cursor::limits_of(s);
+    let bounds = Bounds {
+        end: end,
+        most: limits.depth,
+    };
+    match depths::parents_ok(file, s, homes, &mut rows, depths, own, bounds) {
+        Parented::Yes(depth) => LoadAnswer::Accepted(depth),
         Parented::No => LoadAnswer::Refused(14),
+    }
+}
+
+// 10 to 14 of a file.
+fn parents_answer<'a>(
+    s: &'a [u8],
+    end: usize,
+    file: &'a [u8],
+    index: &[u16],
+    homes: &mut [usize; 48],
+    depths: &[u8],
+    own: &mut [u8],
+) -> LoadAnswer
+    requires { ⌜ OverSome (now s) end ⌝ }
+    requires { ⌜ Indexed (now s) end (now index) × DepthsKept (now s) end (now depths) × (length (now s) ≤ 65535) ⌝ }
+    requires { ⌜ (length (now homes) ≡ 48) × (length (now own) ≡ mostClasses) ⌝ }
+    ensures { λ r. ⌜ ParentsAnswer (now (s .entry)) end (now (file .entry)) r ⌝ }
+    ensures { λ r. ⌜ ParentsTold (now (s .entry)) end (now (file .entry)) (now (homes .exit)) (now (own .exit)) r ⌝ }
+{
+    match reader::read_package(file, cursor::limits_of(s)) {
+        Read::Unmarked => LoadAnswer::Refused(10),
+        Read::Unreadable => LoadAnswer::Refused(11),
+        Read::Package(_) => package_answer(s, end, file, index, homes, depths, own),
+    }
+}
+
+// Load, from 10 on.
+fn file_answer<'a>(
+    s: &'a [u8],
+    end: usize,
+    domain: &[u8],
+    file: &'a [u8],
+    index: &[u16],
+    depths: &[u8],
+    seen: &mut [u8],
+) -> LoadAnswer
+    requires { ⌜ OverSome (now s) end ⌝ }
+    requires { ⌜ Indexed (now s) end (now index) × DepthsKept (now s) end (now depths) ⌝ }
+    requires { ⌜ (length (now s) ≤ 65535) × (seenLength (now s) ≤ length (now seen)) ⌝ }
+    ensures { λ r. ⌜ FileSays (now (s .entry)) end (now (domain .entry)) (now (file .entry)) r ⌝ }
+{
+    let mut homes = [0usize; 48];
+    let mut own = [0u8; 32];
+    match parents_answer(s, end, file, index, &mut homes, depths, &mut own) {
+        LoadAnswer::Refused(n) => LoadAnswer::Refused(n),
+        LoadAnswer::Accepted(depth) => {
+            let number = inside_number(s, end, domain, file, &homes, index, seen);
+            if number != 0 {
+                return LoadAnswer::Refused(number);
+            }
+            LoadAnswer::Accepted(depth)
+        }
     }
 }
 
@@ -192,118 +214,87 @@ pub fn load_answer<'a>(
     end: usize,
     domain: &[u8],
     file: &'a [u8],
-    limits: Limits,
-    table: &[u8; 256],
-    marks: &mut [bool],
-    index: &[u16; 12288],
-    memo: &mut [u16; 21880],
+    index: &[u16],
+    depths: &[u8],
+    seen: &mut [u8],
 ) -> LoadAnswer
     requires { ⌜ OverSome (now s) end ⌝ }
-    requires { ⌜ length (now s) ≤ 65535 ⌝ }
-    requires { ⌜ TableIs (now table) × (limits .code ≤ length (now marks)) × (limitsOf limits ≡ storeLimits (now s)) ⌝ }
-    requires { ⌜ IndexIs (now s) end (now index) × MemoBelow (generation end) (now memo) ⌝ }
+    requires { ⌜ Indexed (now s) end (now index) × DepthsKept (now s) end (now depths) ⌝ }
+    requires { ⌜ (length (now s) ≤ 65535) × (seenLength (now s) ≤ length (now seen)) ⌝ }
     ensures { λ r. ⌜ LoadSays (now (s .entry)) end (now (domain .entry)) (now (file .entry)) r ⌝ }
-    ensures { λ _. ⌜ length (now (marks .exit)) ≡ length (now (marks .entry)) ⌝ }
-    ensures { λ r. ⌜ MemoNext end (now (domain .entry)) (now (file .entry)) r (now (memo .exit)) ⌝ }
 {
-    if !length_ok(domain) {
+    if !cursor::length_ok(domain) {
         return LoadAnswer::Refused(3);
     }
-    if !index::domain_there(s, end, index, domain) {
-        return LoadAnswer::Refused(5);
-    }
-    match reader::read_package(file, limits) {
-        Read::Unmarked => LoadAnswer::Refused(10),
-        Read::Unreadable => LoadAnswer::Refused(11),
-        Read::Package(_) => package_answer(s, end, domain, file, limits, table, marks, index, memo),
+    match store::find_domain(s, end, domain) {
+        Spot::At(_, _) => file_answer(s, end, domain, file, index, depths, seen),
+        Spot::Nothing => LoadAnswer::Refused(5),
     }
 }
 
-// Would a creation have been accepted as the entry from `at` up to `next`, its AID from `from` on? If so, it is entered into the index.
-fn domain_sound(s: &[u8], at: usize, from: usize, next: usize, index: &mut [u16; 12288]) -> bool
-    requires { ⌜ OverSome (now s) at × IndexIs (now s) at (now index) ⌝ }
-    requires { ⌜ EntryAt (now s) at (domain (part (now s) from next)) next × (from ≤ next) ⌝ }
-    requires { ⌜ length (now s) ≤ 65535 ⌝ }
-    ensures { λ r. ⌜ EntrySays (now (s .entry)) at (domain (part (now (s .entry)) from next)) r ⌝ }
-    ensures { λ r. ⌜ (r ≡ true → IndexIs (now (s .entry)) next (now (index .exit))) ⌝ }
-{
-    let known = index::domain_there(s, at, index, &s[from..next]);
-    if create_number(s, at, &s[from..next], known) != 0 {
-        return false;
-    }
-    index::enter_domain(s, at, from, next, index);
-    true
-}
-
-// Would a load have been accepted as that entry, its domain from `from` up to `file`, its file behind? If so, it is entered.
+// Would a load have been accepted as the entry at these places? If so, its package is entered into the index, and the depths of its
+// classes into the table.
 fn package_sound(
     s: &[u8],
-    at: usize,
-    from: usize,
-    file: usize,
-    next: usize,
-    limits: Limits,
-    table: &[u8; 256],
-    marks: &mut [bool],
-    index: &mut [u16; 12288],
-    memo: &mut [u16; 21880],
+    x: PackageEntry,
+    index: &mut [u16],
+    depths: &mut [u8],
+    seen: &mut [u8],
 ) -> bool
-    requires { ⌜ OverSome (now s) at × IndexIs (now s) at (now index) × MemoBelow (generation at) (now memo) ⌝ }
-    requires { ⌜ EntryAt (now s) at (loaded (part (now s) from file) (part (now s) file next)) next × (from ≤ file) × (file ≤ next) ⌝ }
-    requires { ⌜ length (now s) ≤ 65535 ⌝ }
-    requires { ⌜ TableIs (now table) × (limits .code ≤ length (now marks)) × (limitsOf limits ≡ storeLimits (now s)) ⌝ }
-    ensures { λ r. ⌜ EntrySays (now (s .entry)) at (loaded (part (now (s .entry)) from file) (part (now (s .entry)) file next)) r ⌝ }
-    ensures { λ r. ⌜ (r ≡ true → IndexIs (now (s .entry)) next (now (index .exit)) × MemoBelow (generation next) (now (memo .exit))) ⌝ }
-    ensures { λ _. ⌜ length (now (marks .exit)) ≡ length (now (marks .entry)) ⌝ }
+    requires { ⌜ OverSome (now s) (x .at) × PackageThere (now s) x ⌝ }
+    requires { ⌜ IndexIs (now s) (x .at) (now index) × DepthsKept (now s) (x .at) (now depths) ⌝ }
+    requires { ⌜ (length (now s) ≤ 65535) × (seenLength (now s) ≤ length (now seen)) ⌝ }
+    ensures { λ r. ⌜ EntrySays (now (s .entry)) (x .at) (entryOf (now (s .entry)) x) r ⌝ }
+    ensures { λ r. ⌜ (r ≡ true → IndexIs (now (s .entry)) (x .next) (now (index .exit)) × DepthsKept (now (s .entry)) (x .next) (now (depths .exit))) ⌝ }
 {
-    match load_answer(
-        s,
-        at,
-        &s[from..file],
-        &s[file..next],
-        limits,
-        table,
-        marks,
-        index,
-        memo,
-    ) {
+    let at = x.at;
+    let from = x.from;
+    let file = x.file;
+    let next = x.next;
+    let mut homes = [0usize; 48];
+    let mut own = [0u8; 32];
+    match parents_answer(s, at, &s[file..next], index, &mut homes, depths, &mut own) {
+        LoadAnswer::Refused(_) => false,
         LoadAnswer::Accepted(_) => {
+            depths::keep_depths(s, depths, &own, file, next);
+            if inside_number(s, at, &s[from..file], &s[file..next], &homes, index, seen) != 0 {
+                return false;
+            }
             index::enter_package(s, at, file, next, index);
             true
         }
-        LoadAnswer::Refused(_) => false,
     }
 }
 
-// Would each entry up to a place have been accepted by a creation or a load, over the earlier ones?
-fn entries_sound(
+// Would each entry up to a place have been accepted, where questions 3 to 5 of each are answered yes? With tables lent for no entries; those
+// of accepted ones then hold them all.
+pub fn packages_sound(
     s: &[u8],
     end: usize,
-    limits: Limits,
-    table: &[u8; 256],
-    marks: &mut [bool],
-    index: &mut [u16; 12288],
-    memo: &mut [u16; 21880],
+    index: &mut [u16],
+    depths: &mut [u8],
+    seen: &mut [u8],
 ) -> bool
-    requires { ⌜ StandFrom (now s) 7 end ⌝ }
-    requires { ⌜ length (now s) ≤ 65535 ⌝ }
-    requires { ⌜ TableIs (now table) × (limits .code ≤ length (now marks)) × (limitsOf limits ≡ storeLimits (now s)) ⌝ }
-    requires { ⌜ IndexIs (now s) 7 (now index) × MemoBelow (generation 7) (now memo) ⌝ }
-    ensures { λ r. ⌜ AllAccepted (now (s .entry)) end r ⌝ }
-    ensures { λ _. ⌜ length (now (marks .exit)) ≡ length (now (marks .entry)) ⌝ }
-    ensures { λ r. ⌜ (r ≡ true → IndexIs (now (s .entry)) end (now (index .exit)) × MemoBelow (generation end) (now (memo .exit))) ⌝ }
+    requires { ⌜ StandFrom (now s) 7 end × DomainsYes (now s) end ⌝ }
+    requires { ⌜ IndexIs (now s) 7 (now index) × DepthsKept (now s) 7 (now depths) ⌝ }
+    requires { ⌜ (length (now s) ≤ 65535) × (seenLength (now s) ≤ length (now seen)) ⌝ }
+    ensures { λ r. ⌜ PackagesSay (now (s .entry)) end r ⌝ }
+    ensures { λ r. ⌜ (r ≡ true → IndexIs (now (s .entry)) end (now (index .exit)) × DepthsKept (now (s .entry)) end (now (depths .exit))) ⌝ }
 {
     let mut at = 7;
     loop {
         match store::entry_at(s, at, end) {
-            EntryPart::Domain(from, next) => {
-                if !domain_sound(s, at, from, next, index) {
-                    return false;
-                }
+            EntryPart::Domain(_, next) => {
                 at = next;
             }
             EntryPart::Package(from, file, next) => {
-                if !package_sound(s, at, from, file, next, limits, table, marks, index, memo) {
+                let x = PackageEntry {
+                    at: at,
+                    from: from,
+                    file: file,
+                    next: next,
+                };
+                if !package_sound(s, x, index, depths, seen) {
                     return false;
                 }
                 at = next;
@@ -311,35 +302,6 @@ fn entries_sound(
             EntryPart::AtEnd => {
                 return true;
             }
-        }
-    }
-}
-
-// 2. Is the store sound? With an empty index and memo lent; those of a sound store hold all its entries.
-pub fn soundness(
-    s: &[u8],
-    limits: Limits,
-    table: &[u8; 256],
-    marks: &mut [bool],
-    index: &mut [u16; 12288],
-    memo: &mut [u16; 21880],
-) -> StoreAnswer
-    requires { ⌜ TableIs (now table) × (limits .code ≤ length (now marks)) × (limitsOf limits ≡ storeLimits (now s)) ⌝ }
-    requires { ⌜ (now index ≡ replicate 12288 0) × (now memo ≡ replicate 21880 0) ⌝ }
-    ensures { λ r. ⌜ SoundSays (now (s .entry)) r ⌝ }
-    ensures { λ _. ⌜ length (now (marks .exit)) ≡ length (now (marks .entry)) ⌝ }
-    ensures { λ r. ⌜ IndexBehind (now (s .entry)) r (now (index .exit)) (now (memo .exit)) ⌝ }
-{
-    if !store::size_ok(s) {
-        return StoreAnswer::Unsound;
-    }
-    match store::laid_out(s) {
-        Layout::Broken => StoreAnswer::Unsound,
-        Layout::Used(used) => {
-            if entries_sound(s, used, limits, table, marks, index, memo) {
-                return StoreAnswer::Used(used);
-            }
-            StoreAnswer::Unsound
         }
     }
 }

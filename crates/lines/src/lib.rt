@@ -47,7 +47,7 @@ fn find(s: &[u8], from: usize, b: u8) -> usize
 }
 
 // Copies n bytes of a chunk from a place on to a place of a line.
-fn copy(line: &mut [u8], to: usize, chunk: &[u8], from: usize, n: usize)
+pub fn copy(line: &mut [u8], to: usize, chunk: &[u8], from: usize, n: usize)
     requires { ⌜ (to + n ≤ length (now line)) × (from + n ≤ length (now chunk)) ⌝ }
     ensures { λ _. ⌜ now (line .exit) ≡ paste (now (line .entry)) to (drop from (now (chunk .entry))) n ⌝ }
 {
@@ -59,7 +59,7 @@ fn copy(line: &mut [u8], to: usize, chunk: &[u8], from: usize, n: usize)
 }
 
 // The smaller of two numbers.
-fn least(a: usize, b: usize) -> usize
+pub fn least(a: usize, b: usize) -> usize
     ensures { λ r. ⌜ r ≡ min a b ⌝ }
 {
     if a < b { a } else { b }

@@ -14,15 +14,13 @@ use Rattle.rules.specs.Operations.{create, load, firstNo, loadQuestions, number
 use Rattle.rules.proofs.Tests.{and-l, and-r, is-true}
 use Rattle.rules.proofs.Asked.{create-yes, load-yes, deepest-limit}
 use Rattle.rules.proofs.Limits.{store-limits, limits-range}
-use Rattle.store.specs.Answers.{Room, Appended}
+use Rattle.store.specs.Sound.{SoundAt, Asked}
+use Rattle.writing.specs.Changes.{Room, Appended}
 use Rattle.store.proofs.Asked.{size-is}
-use Rattle.judge.specs.Says.{numberOf, figureOf, LoadSays}
-use Rattle.judge.specs.declared.LoadAnswer.{LoadAnswer}
+use Rattle.judge.specs.Says.{LoadSays}
+use Rattle.judge.specs.declared.LoadAnswer.the-variants.{Accepted}
 use Rattle.loader.specs.Promises.{LoadPromise}
-use Rattle.loader.specs.Answers.{SoundAt, Asked, OpenedSays}
-use Rattle.loader.specs.declared.Opened.{Opened}
-use Rattle.loader.specs.declared.Opened.the-variants as opened
-use Rattle.loader.proofs.Numbers.{kept, opening, laid, small, asked-number, asked-done, refused-after, refused-number}
+use Rattle.store.proofs.Sound.{kept, opening, laid, small, asked-number, asked-done, refused-after}
 
 -- fresh
 pub fresh-room : (s : Bytes) → q1-size s ≡ true → 7 ≤ length s
@@ -44,11 +42,8 @@ refused-promise s d f n z e =
     let m : mostDepth s d f ≡ 0 = kept (number s (load d f)) _ 0 (λ y. z (e ∙ y)) in
     record { figure = 0; result = omega (arith, e); least = omega (arith, l); most = omega (arith, m) }
 
-pub load-unopened : (s : Bytes) (d : Aid) (f : Bytes) (r : Opened) (n : ℕ) → r ≡ opened.Refused n → OpenedSays s r → LoadPromise s d f n × (s ≡ after s (load d f))
-load-unopened s d f r n z q =
-    let p = subst (OpenedSays s) z q in
-    let e = refused-number s (load d f) r n z q in
-    (refused-promise s d f n (p .0) (e .0), e .1)
+pub load-refused : (s : Bytes) (d : Aid) (f : Bytes) (n : ℕ) → (n ≡ 0 → ⊥) × (n ≡ number s (load d f)) → LoadPromise s d f n × (s ≡ after s (load d f))
+load-refused s d f n p = (refused-promise s d f n (p .0) (p .1), refused-after s (load d f) n (p .0) (p .1))
 
 module _ (s : Bytes) (u : ℕ) (h : SoundAt s u) where
   -- a creation with all questions yes
@@ -57,52 +52,44 @@ module _ (s : Bytes) (u : ℕ) (h : SoundAt s u) where
       let x = opening s u h in
       record { laid = laid s u h; small = small s u h; fits = is-true _ ((create-yes (length s) (x .es) a (sym (q (x .es) (x .over)))) .q21) }
 
-  module _ (d : Aid) (f : Bytes) (r : LoadAnswer) (q : LoadSays s u d f r) where
-    -- the answer's number is the load's
-    load-asked : Asked s u (load d f) (numberOf r)
+  module _ (d : Aid) (f : Bytes) (depth : ℕ) (q : LoadSays s u d f (Accepted depth)) where
+    -- all questions are answered yes
+    load-asked : Asked s u (load d f) 0
     load-asked es o = (q es o) .number ∙ ap (λ (l : Limits). firstNo (loadQuestions l (length s) es d f)) (store-limits s)
 
-    pub load-number : numberOf r ≡ number s (load d f)
-    load-number = asked-number s u h (load d f) (numberOf r) load-asked
+    yes : firstNo (loadQuestions (storeLimits s) (length s) ((opening s u h) .es) d f) ≡ 0
+    yes = let x = opening s u h in sym ((q (x .es) (x .over)) .number)
 
-    -- a refused load carries 0
-    pub load-refused : (n : ℕ) → n ≡ numberOf r → (n ≡ 0 → ⊥) → LoadPromise s d f n × (s ≡ after s (load d f))
-    load-refused n e z = (refused-promise s d f n z (e ∙ load-number), refused-after s (load d f) n z (e ∙ load-number))
+    -- what is written fits
+    pub load-room : Room s u (loaded d f) × (length d < 256)
+    unfolding q3-lengths
+    load-room =
+        let x = opening s u h in
+        let y = load-yes (storeLimits s) (length s) (x .es) d f yes in
+        let l = leb→le (length d) 16 (and-r (leb 5 (length d)) (leb (length d) 16) (and-l (aidLength (length d)) true (y .1 .q3))) in
+        (record { laid = laid s u h; small = small s u h; fits = is-true _ (y .1 .q21) }, omega arith)
 
-    module _ (z : numberOf r ≡ 0) where
-      yes : firstNo (loadQuestions (storeLimits s) (length s) ((opening s u h) .es) d f) ≡ 0
-      yes = let x = opening s u h in sym ((q (x .es) (x .over)) .number) ∙ z
+    -- the depth figure
+    figure-is : depth ≡ deepestOf (storeLimits s) ((opening s u h) .es) d (readFile (storeLimits s) f)
+    figure-is = let x = opening s u h in (q (x .es) (x .over)) .figure yes
 
-      -- what is written fits
-      pub load-room : Room s u (loaded d f) × (length d < 256)
-      unfolding q3-lengths
-      load-room =
-          let x = opening s u h in
-          let y = load-yes (storeLimits s) (length s) (x .es) d f yes in
-          let l = leb→le (length d) 16 (and-r (leb 5 (length d)) (leb (length d) 16) (and-l (aidLength (length d)) true (y .1 .q3))) in
-          (record { laid = laid s u h; small = small s u h; fits = is-true _ (y .1 .q21) }, omega arith)
+    figure-limit : depth ≤ storeLimits s .depth
+    figure-limit =
+        let x = opening s u h in
+        let y = load-yes (storeLimits s) (length s) (x .es) d f yes in
+        rw (figure-is, y .1 .q11) (deepest-limit (storeLimits s) (length s) (x .es) d f (y .0) (y .1))
 
-      -- the depth figure
-      figure-is : figureOf r ≡ deepestOf (storeLimits s) ((opening s u h) .es) d (readFile (storeLimits s) f)
-      figure-is = let x = opening s u h in (q (x .es) (x .over)) .figure yes
+    pub figure-within : depth ≤ 16
+    figure-within = omega (arith, figure-limit, (limits-range s) .0)
 
-      figure-limit : figureOf r ≤ storeLimits s .depth
-      figure-limit =
-          let x = opening s u h in
-          let y = load-yes (storeLimits s) (length s) (x .es) d f yes in
-          rw (figure-is, y .1 .q11) (deepest-limit (storeLimits s) (length s) (x .es) d f (y .0) (y .1))
-
-      pub figure-within : figureOf r ≤ 16
-      figure-within = omega (arith, figure-limit, (limits-range s) .0)
-
-      pub load-done : (m : ℕ) (t : Bytes) → m ≡ figureOf r → Appended s t (loaded d f) → LoadPromise s d f (256 * m) × (t ≡ after s (load d f))
-      unfolding leastDepth mostDepth
-      load-done m t i w =
-          let x = opening s u h in
-          let e : number s (load d f) ≡ 0 = sym load-number ∙ z in
-          let l : leastDepth s d f ≡ figureOf r = rw (e, x .reads) (sym (figure-is ∙ ap (λ (v : Limits). deepestOf v (x .es) d (readFile v f)) (store-limits s))) in
-          let k : mostDepth s d f ≡ storeLimits s .depth = rw e (ap (λ (v : Limits). v .depth) (sym (store-limits s))) in
-          let b = figure-limit in (
-            record { figure = m; result = omega (arith, e); least = omega (arith, l, i); most = omega (arith, k, i, b) },
-            (asked-done s u h (load d f) t (λ es o. sym z ∙ load-asked es o) w) .1,
-          )
+    pub load-done : (t : Bytes) → Appended s t (loaded d f) → LoadPromise s d f (256 * depth) × (t ≡ after s (load d f))
+    unfolding leastDepth mostDepth
+    load-done t w =
+        let x = opening s u h in
+        let e : number s (load d f) ≡ 0 = sym (asked-number s u h (load d f) 0 load-asked) in
+        let l : leastDepth s d f ≡ depth = rw (e, x .reads) (sym (figure-is ∙ ap (λ (v : Limits). deepestOf v (x .es) d (readFile v f)) (store-limits s))) in
+        let k : mostDepth s d f ≡ storeLimits s .depth = rw e (ap (λ (v : Limits). v .depth) (sym (store-limits s))) in
+        let b = figure-limit in (
+          record { figure = depth; result = omega (arith, e); least = omega (arith, l); most = omega (arith, k, b) },
+          (asked-done s u h (load d f) t load-asked w) .1,
+        )

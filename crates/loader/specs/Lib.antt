@@ -1,4 +1,2 @@
--- What the six operations promise, what the functions behind them answer, and what demands 1 and 2 speak of.
+-- What the six operations promise.
 pub mod Promises
-pub mod Answers
-pub mod Demands

@@ -11,7 +11,8 @@ use lib.Dec.{T, leb, ltb, eqb, leb→le, ltb→lt, eqb→eq}
 use lib.ListN.{length, drop, getD, drop-of-length-le}
 use Rattle.rules.specs.Bytes.{Bytes, Aid, pick, within, aidLength, Reader, _>>=_, ret, when, u1, u2, span, many, aid, counted, atEnd, exactly}
 use Rattle.rules.specs.Code.{u2At}
-use Rattle.rules.specs.Package.{Limits, mostDomains, mostImports, mostReferences, mostClasses, mostMethods, mostAllowed, Policy, every, only, ClassNumber, Reference, Method, Class, Package, classNumber, reference, domainIndex, listed, policy, codeIf, bit, spareZero, methodOf, method, classOf, class, packageOf, classesOf, referencesOf, importsOf, domainsOf, contents, sized, readFile}
+use Rattle.rules.specs.Package.{Limits, mostDomains, mostImports, mostReferences, mostClasses, mostMethods, mostAllowed, Policy, every, only, ClassNumber, Reference, Method, Class, Package, classNumber, reference, domainIndex, listed, policy, codeIf, bit, spareZero, methodOf, method, classOf, class, contents, sized, readFile}
+use Rattle.rules.proofs.Tails.{packageOf, classesOf, referencesOf, importsOf, domainsOf}
 use Rattle.rules.proofs.Tests.{none-some, and-then-is, and-l, and-r, of-true}
 use Rattle.places.specs.Reads.{Reads}
 use Rattle.places.specs.Parts.{AidPart, ClassNumberPart, ReferencePart, IndexPart, PolicyPart, CodePart, MethodPart, ClassPart, FilePart}

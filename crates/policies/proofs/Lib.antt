@@ -3,3 +3,7 @@ pub mod Indexes
 pub mod Numbers
 pub mod Compared
 pub mod Rules
+pub mod Masks
+pub mod Kept
+pub mod Pairs
+pub mod Covered

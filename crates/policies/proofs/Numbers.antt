@@ -1,4 +1,4 @@
--- The number of an AID in a list: two AIDs, one of them of the list, have one number exactly where they are the same. The loops that look for numbers and write them. Assumes nothing.
+-- The number of an AID in a list: two AIDs, one of them of the list, have one number exactly where they are the same. The loop that looks for a number. Assumes nothing.
 use Prim.Native.Nat.{ℕ, zero, suc, _+_, _-_, _≤_, _<_}
 use native.Mathlib.Omega.{arith}
 use native.Mathlib.Decide.{ℕ-discrete}
@@ -18,7 +18,7 @@ use Rattle.places.proofs.Steady.{steady-u1, steady-aid}
 use Rattle.places.proofs.Track.{track-start, track-front, track-more, track-done, many-length}
 use Rattle.files.specs.Say.{Aids, AidBytes, AidIs}
 use Rattle.files.proofs.Loops.{AidLoop, aids-start}
-use Rattle.policies.specs.Numbers.{numberIn, DomainsThere, OfDomains, NumberIs, MapIs, KeptBelow}
+use Rattle.policies.specs.Numbers.{numberIn, DomainsThere, NumberIs}
 
 -- the number of an element is below the length
 number-in : (xs : List Aid) (a : Aid) → List·Memᴰ a xs → numberIn xs a < length xs
@@ -38,16 +38,31 @@ number-found (x ∷ xs) a h = go (same a x) refl h (number-found xs a)
     go true e h r = same-eq a x (of-true e)
     go false e h r = r (omega arith)
 
--- one number exactly where they are the same
-pub numbers-same : (xs : List Aid) (a b : Aid) → List·Memᴰ a xs → eqb (numberIn xs b) (numberIn xs a) ≡ same a b
-numbers-same xs a b m = go (same a b) refl
+-- one number exactly where they are the same: one of them is of the list
+same-number : (xs : List Aid) (a b : Aid) → (numberIn xs b ≡ numberIn xs a → (numberIn xs a < length xs) × (numberIn xs b < length xs)) → eqb (numberIn xs b) (numberIn xs a) ≡ same a b
+same-number xs a b m = go (same a b) refl
   where
     go : (t : Bool) → same a b ≡ t → eqb (numberIn xs b) (numberIn xs a) ≡ t
     go true e = eq-eqb _ _ (ap (numberIn xs) (sym (same-eq a b (of-true e))))
     go false e = ne-eqb _ _ λ q.
-        let h = number-in xs a m in
-        let w : a ≡ b = number-found xs a h ∙ ap (λ (n : ℕ). getD xs n []) (sym q) ∙ sym (number-found xs b (omega arith)) in
+        let h = m q in
+        let w : a ≡ b = number-found xs a (h .0) ∙ ap (λ (n : ℕ). getD xs n []) (sym q) ∙ sym (number-found xs b (h .1)) in
         let t : T (same a b) = subst (λ (x : Aid). T (same a x)) w (same-refl a) in rw e at t
+
+pub numbers-same : (xs : List Aid) (a b : Aid) → List·Memᴰ a xs → eqb (numberIn xs b) (numberIn xs a) ≡ same a b
+numbers-same xs a b m = same-number xs a b λ q. let h = number-in xs a m in (h, omega arith)
+
+pub numbers-same-of : (xs : List Aid) (a b : Aid) → List·Memᴰ b xs → eqb (numberIn xs b) (numberIn xs a) ≡ same a b
+numbers-same-of xs a b m = same-number xs a b λ q. let h = number-in xs b m in (omega arith, h)
+
+-- no number is above the length
+pub number-most : (xs : List Aid) (a : Aid) → numberIn xs a ≤ length xs
+number-most [] a = omega arith
+number-most (x ∷ xs) a = go (same a x) (number-most xs a)
+  where
+    go : (b : Bool) → numberIn xs a ≤ length xs → pick b 0 (suc (numberIn xs a)) ≤ suc (length xs)
+    go true h = omega arith
+    go false h = omega arith
 
 -- the elements of the list that numbers are of
 pub domain-in : (ds : List Aid) (d : Aid) (k : ℕ) → k < length ds → List·Memᴰ (getD ds k []) (ds ++ d ∷ [])
@@ -103,57 +118,3 @@ module _ {f : Bytes} {u : ℕ} (d x : Aid) (k : ℕ) {left c : ℕ} (t : NumberL
       go : (b : Bool) → pick b 0 1 + k ≡ pick b k (k + 1)
       go true = omega arith
       go false = omega arith
-
--- the front of what is left of a list
-front : {A : Type 0} (xs : List A) (i : ℕ) (y : A) (ys : List A) (z : A) → y ∷ ys ≡ drop i xs → (getD xs i z ≡ y) × (drop (i + 1) xs ≡ ys)
-front [] i y ys z e = absurd (omega (arith, ap length (e ∙ drop-of-length-le [] {i = i} (omega arith))))
-front (x ∷ xs) zero y ys z e = (cc, cc)
-front (x ∷ xs) (suc i) y ys z e =
-    let r = front xs i y ys z e in
-    let q : suc i + 1 ≡ suc (i + 1) = omega arith in (r .0, rw q (r .1))
-
--- the loop that writes numbers: i of the domains at t are passed and have their entries
-abbrev pub MapLoop : Bytes → ℕ → Aid → Bytes → ℕ → ℕ → List ℕ → ℕ → ℕ → ℕ → Type 0
-MapLoop f u d g t b m left c i = OfDomains f u λ ds. (gs : List Aid) (j : ℕ) → Reads (counted mostDomains u1 aid) g t gs j →
-    Reads (many left aid) g c (drop i gs) j × ((k : ℕ) → k < i → getD m (b + k) 0 ≡ numberIn (ds ++ d ∷ []) (getD gs k []))
-
-pub map-start : {f : Bytes} {u : ℕ} (d : Aid) {g : Bytes} {t : ℕ} (b : ℕ) (m : List ℕ) {n : ℕ} → n ≡ getD g t 0 → MapLoop f u d g t b m n (t + 1) 0
-map-start d {g} {t} b m {n} h ds j rd gs e rg =
-    let z = track-start aid g (λ xs. xs) mostDomains t gs e rg in
-    (subst (λ (xs : List Aid). Reads (many n aid) g (t + 1) xs e) (sym (z .2)) (rw h (z .1)), λ k q. absurd (omega arith))
-
-module _ {f : Bytes} {u : ℕ} (d : Aid) {g : Bytes} {t : ℕ} (b : ℕ) (m : List ℕ) {left c : ℕ} (i : ℕ) (w : MapLoop f u d g t b m left c i) where
-  pub map-here : 0 < left → DomainsThere f u → DomainsThere g t → Ends aid g c
-  map-here h e n =
-      let y = w (e .0) (e .1) (e .2) (n .0) (n .1) (n .2) in
-      let z = reads-left aid steady-aid left g c (drop i (n .0)) (n .1) h (y .0) in (z .one, z .place, z .reads)
-
-  pub map-more : {x : Bytes} {r e : ℕ} → 0 < left → b + i < length m → AidBytes g c x → NumberIs f u d x r → EndsAt aid g c e → MapLoop f u d g t b (set m (b + i) r) (left - 1) e (i + 1)
-  map-more {x} {r} {e} h l a q n ds j rd gs v rg =
-      let y = w ds j rd gs v rg in
-      let z = reads-left aid steady-aid left g c (drop i gs) v h (y .0) in
-      let p = front gs i (z .one) (z .others) [] (z .are) in
-      let k : e ≡ z .place = n (z .one) (z .place) (z .reads) in
-      let o : r ≡ numberIn (ds ++ d ∷ []) (getD gs i []) = q ds j rd ∙ ap (numberIn (ds ++ d ∷ [])) (a (z .one) (z .place) (z .reads) ∙ sym (p .0)) in
-      (rw (p .1, k) (z .rest), go ds gs o (y .1))
-    where
-      go : (ds gs : List Aid) → r ≡ numberIn (ds ++ d ∷ []) (getD gs i []) → ((k : ℕ) → k < i → getD m (b + k) 0 ≡ numberIn (ds ++ d ∷ []) (getD gs k [])) →
-          (k : ℕ) → k < i + 1 → getD (set m (b + i) r) (b + k) 0 ≡ numberIn (ds ++ d ∷ []) (getD gs k [])
-      go ds gs o y k h = elim (ℕ-discrete k i) [
-        | yes q ↦ rw q (getD-set-same m (b + i) r 0 l ∙ o)
-        | no q ↦ getD-set-other m (b + i) (b + k) r 0 (λ z. q (omega arith)) ∙ y k (omega arith)
-      ]
-
-  pub map-done : left ≤ 0 → MapIs f u d g t b m
-  map-done h ds j rd gs v rg k l =
-      let y = w ds j rd gs v rg in
-      let z = reads-done aid left g c (drop i gs) v h (y .0) in
-      y .1 k (omega (arith, ap length (z .0), length-drop i gs))
-
--- what stands below is not written to
-pub kept-more : (b i : ℕ) (m n : List ℕ) (r : ℕ) → KeptBelow b m n → KeptBelow b m (set n (b + i) r)
-kept-more b i m n r h k l = getD-set-other n (b + i) k r 0 (λ z. omega arith) ∙ h k l
-
--- a list mapped below stays mapped
-pub map-kept : {f : Bytes} {u : ℕ} {d : Aid} {g : Bytes} {t : ℕ} (b c : ℕ) (m n : List ℕ) → c + mostDomains ≤ b → KeptBelow b m n → MapIs f u d g t c m → MapIs f u d g t c n
-map-kept b c m n l h w ds j rd gs e rg i q = let k = domains-length gs e rg in h (c + i) (omega arith) ∙ w ds j rd gs e rg i q

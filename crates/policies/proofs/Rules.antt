@@ -107,10 +107,13 @@ module _ {t : Bytes} {u : ℕ} (k : ℕ) {r : Spot} (h : AidNth t u k r) where
   pub nth-there : {a : ℕ} → r ≡ At a → HasAid t u k → Ends aid t a
   nth-there q e = let z = nth-is q (e .0) (e .1) (e .2) in (getD (e .0) k [], z .0, z .1)
 
-  pub nth-missing : {s : Bytes} {d i : ℕ} → r ≡ Nothing → AdmitsNth s d i t u k false
-  nth-missing q ds j p l =
+  pub nth-none : r ≡ Nothing → (ds : List Aid) (j : ℕ) → Reads (counted mostDomains u1 aid) t u ds j → k < length ds → ⊥
+  nth-none q ds j p l =
       let g : AidNth t u k Nothing = subst (λ (z : Spot). AidNth t u k z) q h in
-      absurd (at-in ds k l (placed-none (g mostDomains ds j p)))
+      at-in ds k l (placed-none (g mostDomains ds j p))
+
+  pub nth-missing : {s : Bytes} {d i : ℕ} → r ≡ Nothing → AdmitsNth s d i t u k false
+  nth-missing q ds j p l = absurd (nth-none q ds j p l)
 
   -- the answer for the AID's bytes is the answer for the AID
   pub nth-admits : {s : Bytes} {d i a : ℕ} {x : Bytes} {b : Bool} → r ≡ At a → AidBytes t a x → Admits s d i x b → AdmitsNth s d i t u k b

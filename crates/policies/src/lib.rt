@@ -1,4 +1,6 @@
 // What a policy allows, across files: a policy stands in a file at one place, the domains that its indexes count at another.
+pub mod rows;
+
 use fields::same_bytes;
 use fields::wide;
 use files::Spot;
@@ -7,12 +9,24 @@ use files::aid_bytes;
 use files::aid_is;
 use files::nth_aid;
 ghost use Prim.Native.Nat.{_≤_};
-ghost use mathlib.Core.Path.{_≡_};
-ghost use lib.ListN.{length};
 ghost use Rattle.rules.specs.Bytes.{aid};
 ghost use Rattle.places.specs.Reads.{Ends};
 ghost use Rattle.policies.specs.Say.{IndexesThere, ListsIs, ListedIs, PolicyOver, HasAid, Admits, AdmitsNth, AdmitsAllOf};
-ghost use Rattle.policies.specs.Numbers.{tableSize, DomainsThere, NumberIs, MapIs, KeptBelow, HasRoom, IndexesBelow, ListsNumber, ListsAll, SomePolicy, CoversIs};
+ghost use Rattle.policies.specs.Numbers.{DomainsThere, NumberIs};
+
+// Two lists of domains: the one that numbers are of, the one whose domains are numbered, and where the numbers stand in a row.
+pub struct TwoLists {
+    pub own: usize,
+    pub other: usize,
+    pub base: usize,
+}
+
+// A caller's policy, the policy of what it calls, and the number of the loading domain.
+pub struct Asked {
+    pub caller: usize,
+    pub called: usize,
+    pub loading: usize,
+}
 
 // Is k one of the indexes of the policy at a place, which is not FF?
 fn lists(s: &[u8], at: usize, k: usize) -> bool
@@ -122,100 +136,4 @@ pub fn number_of(f: &[u8], u: usize, domain: &[u8], x: &[u8]) -> usize
         return k;
     }
     k + 1
-}
-
-// Writes the number of each domain that g lists at t to the table, from base on.
-pub fn map_domains(
-    f: &[u8],
-    u: usize,
-    domain: &[u8],
-    g: &[u8],
-    t: usize,
-    map: &mut [u8; 512],
-    base: usize,
-)
-    requires { ⌜ DomainsThere (now f) u ⌝ }
-    requires { ⌜ DomainsThere (now g) t ⌝ }
-    requires { ⌜ HasRoom (now map) base ⌝ }
-    ensures { λ _. ⌜ MapIs (now (f .entry)) u (now (domain .entry)) (now (g .entry)) t base (now (map .exit)) ⌝ }
-    ensures { λ _. ⌜ length (now (map .exit)) ≡ tableSize ⌝ }
-    ensures { λ _. ⌜ KeptBelow base (now (map .entry)) (now (map .exit)) ⌝ }
-{
-    let mut left = wide(g[t]);
-    let mut c = t + 1;
-    let mut i = 0;
-    while 0 < left {
-        let n = number_of(f, u, domain, aid_bytes(g, c));
-        map[base + i] = n as u8;
-        c = after_aid(g, c);
-        i += 1;
-        left -= 1;
-    }
-}
-
-// Is a number that of a domain listed by the policy at a place, which is not FF?
-fn lists_number(g: &[u8], at: usize, map: &[u8; 512], base: usize, number: usize) -> bool
-    requires { ⌜ IndexesBelow (now g) at ⌝ }
-    requires { ⌜ HasRoom (now map) base ⌝ }
-    ensures { λ r. ⌜ ListsNumber (now (g .entry)) at (now (map .entry)) base number r ⌝ }
-{
-    let mut left = wide(g[at]);
-    let mut c = at + 1;
-    while 0 < left {
-        let i = wide(g[c]);
-        let n = wide(map[base + i]);
-        if n == number {
-            return true;
-        }
-        c += 1;
-        left -= 1;
-    }
-    false
-}
-
-// Does the policy at `at` list the number of each domain that the one at v lists? Neither is FF.
-fn lists_all(f: &[u8], v: usize, g: &[u8], at: usize, map: &[u8; 512], base: usize) -> bool
-    requires { ⌜ IndexesBelow (now f) v ⌝ }
-    requires { ⌜ IndexesBelow (now g) at ⌝ }
-    requires { ⌜ HasRoom (now map) base ⌝ }
-    ensures { λ r. ⌜ ListsAll (now (f .entry)) v (now (g .entry)) at (now (map .entry)) base r ⌝ }
-{
-    let mut left = wide(f[v]);
-    let mut c = v + 1;
-    while 0 < left {
-        let i = wide(f[c]);
-        if !lists_number(g, at, map, base, wide(map[i])) {
-            return false;
-        }
-        c += 1;
-        left -= 1;
-    }
-    true
-}
-
-// Does the policy of g at `at` allow the domain with the number `loading`, and all that the policy of f at v allows? By numbers alone.
-pub fn covers(
-    f: &[u8],
-    v: usize,
-    g: &[u8],
-    at: usize,
-    map: &[u8; 512],
-    base: usize,
-    loading: usize,
-) -> bool
-    requires { ⌜ SomePolicy (now f) v ⌝ }
-    requires { ⌜ SomePolicy (now g) at ⌝ }
-    requires { ⌜ HasRoom (now map) base ⌝ }
-    ensures { λ r. ⌜ CoversIs (now (f .entry)) v (now (g .entry)) at (now (map .entry)) base loading r ⌝ }
-{
-    if wide(g[at]) == 255 {
-        return true;
-    }
-    if wide(f[v]) == 255 {
-        return false;
-    }
-    if !lists_number(g, at, map, base, loading) {
-        return false;
-    }
-    lists_all(f, v, g, at, map, base)
 }

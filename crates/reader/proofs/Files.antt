@@ -10,7 +10,8 @@ use lib.Dec.{eqb}
 use lib.ListN.{length, take, drop, length-take, drop-of-length-le}
 use borrow.Author.Tests.{eq-eqb, ne-eqb}
 use Rattle.rules.specs.Bytes.{Bytes, Aid, isSome, Reader, when, u1, u2, aid, counted}
-use Rattle.rules.specs.Package.{Limits, Package, mostDomains, mostImports, mostReferences, mostClasses, reference, class, fileMark, classesOf, referencesOf, importsOf, domainsOf, contents, sized, packageOf, readFile}
+use Rattle.rules.specs.Package.{Limits, Package, mostDomains, mostImports, mostReferences, mostClasses, reference, class, fileMark, contents, sized, readFile}
+use Rattle.rules.proofs.Tails.{classesOf, referencesOf, importsOf, domainsOf, packageOf}
 use Rattle.rules.specs.Questions.{q10-marked, q11-reads}
 use Rattle.rules.proofs.Tests.{none-some}
 use Rattle.fields.proofs.Same.{same-lengths}
@@ -35,12 +36,12 @@ mark-short f h = sym (same-lengths (take 5 f) fileMark (λ e. absurd (omega (ari
 -- what follows the size: the AID and each list in turn
 module _ (l : Limits) {f : Bytes} {i : ℕ} where
   pub named-none : Says itself aid f i none → Stops (contents l) f i none
-  unfolding contents
+  unfolding contents domainsOf importsOf referencesOf classesOf
   named-none h = then-none (λ a. domainsOf l a) (stop-none h)
 
   module _ {a : Aid} {d : ℕ} (named : Says itself aid f i (some (a, d))) where
     named-leads : Leads (contents l) (domainsOf l a) f i d
-    unfolding contents
+    unfolding contents domainsOf importsOf referencesOf classesOf
     named-leads o p = then-leads (λ a. domainsOf l a) named o p
 
     pub domains-none : Says length (counted mostDomains u1 aid) f d none → Stops (contents l) f i none

@@ -10,9 +10,9 @@ use Rattle.rules.specs.Bytes.{Aid, pick, all, at, find, orElse, _andThen
 use Rattle.rules.specs.Code.{Call, callsOf}
 use Rattle.rules.specs.Package.{Limits, ClassNumber, Class}
 use Rattle.rules.specs.Classes.{Installed, byAid, packageNumbered, ClassAt, recordOf, classNamed, parentsNamed, parentsOf, greatest, depthUpTo, ancestorsUpTo, isKind0, kind0Parent, declaredInstance, MethodAt, methodIn, firstInstance, runsUpTo}
-use Rattle.rules.specs.Questions.{own, parentExists, parentIsKind0, parentKinds, depthWithin, q14-parents, callNames, q18-calls, q19-allowed, runningAllows, q20-running}
+use Rattle.rules.specs.Questions.{own, parentExists, parentIsKind0, parentKinds, depthWithin, q14-parents, callNames, q18-calls, q19-allowed, instancesOf, instancesOver, runsAllowing, q20-running}
 use Rattle.rules.proofs.Tests.{flat-mem-is, listOf-mem, and-then-is, find-some}
-use Rattle.rules.proofs.Lists.{all-cong, allFrom-cong, greatest-cong, flat-cong, count-cong, at-mem, andThen-cong, none-or-cong}
+use Rattle.rules.proofs.Lists.{all-cong, allFrom-cong, greatest-cong, flat-cong, count-cong, at-mem, andThen-cong}
 use Rattle.rules.proofs.Asked.{Inside}
 
 pub listOf-cong : {A B : Type 0} (o : Option A) (f g : A → List B) → ((a : A) → o ≡ some a → f a ≡ g a) → listOf o f ≡ listOf o g
@@ -55,7 +55,7 @@ module _ (is js : List Installed) (R : Installed → Type 0)
       let z : d ≡ e .0 = List·Memᴰ·eq-of-singleton (e .2) in
       subst (λ (y : ClassAt). R (y .home)) (sym z) (classNamed-reached (c .home) r (n .0) (e .0) (e .1))
 
-  depth-agree : (k : ℕ) (c : ClassAt) → R (c .home) → depthUpTo is k c ≡ depthUpTo js k c
+  pub depth-agree : (k : ℕ) (c : ClassAt) → R (c .home) → depthUpTo is k c ≡ depthUpTo js k c
   depth-agree zero c r = refl
   depth-agree (suc k) c r =
       let h = greatest-cong (depthUpTo is k) (depthUpTo js k) (parentsOf is c) (λ d m. depth-agree k d (parent-reached c r d m)) in
@@ -112,14 +112,14 @@ module _ (is js : List Installed) (R : Installed → Type 0)
     unfolding q19-allowed
     q19-agree = allFrom-cong _ _ 0 (self .pack .classes) (λ i k m. all-cong _ _ (k .methods) (λ o m′. all-cong _ _ (callsOf (o .code)) (λ c m″. rw (callNames-agree c))))
 
-    runningAllows-agree : (b a : ClassAt) → R (b .home) → runningAllows l is b a ≡ runningAllows l js b a
-    runningAllows-agree b a s = none-or-cong (recordOf a) _ _ (λ k e. all-cong _ _ (k .methods) (λ m x. rw (runs-agree (l .depth) b (m .name) s)))
+    runs-allowing-agree : (b : ClassAt) (m : MethodAt) → R (b .home) → runsAllowing l is b m ≡ runsAllowing l js b m
+    runs-allowing-agree b m s = rw (runs-agree (l .depth) b (m .method .name) s)
 
     pub q20-agree : q20-running l is self ≡ q20-running l js self
     unfolding q20-running
     q20-agree = allFrom-cong _ _ 0 (self .pack .classes) (λ i k m.
-        all-cong _ _ (ancestorsUpTo is (l .depth) (own self i)) (λ a m′. runningAllows-agree (own self i) a r)
-        ∙ ap (all (runningAllows l js (own self i))) (ancestors-agree (l .depth) (own self i) r))
+        all-cong _ _ (instancesOver l is (own self i)) (λ o m′. runs-allowing-agree (own self i) o r)
+        ∙ ap (λ (cs : List ClassAt). all (runsAllowing l js (own self i)) (flat instancesOf cs)) (ancestors-agree (l .depth) (own self i) r))
 
     pub inside-agree : Inside l is self → Inside l js self
     inside-agree i = record {

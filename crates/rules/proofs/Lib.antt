@@ -1,5 +1,12 @@
--- The laws about the definitions of document 01. Demand3 is the claim; Witness shows that it is not empty.
+-- The laws about the definitions of document 01. Demand1, Demand2 and Demand3 are the claims; Exact says what single definitions are exactly;
+-- Witness shows that demand 3 is not empty.
+pub mod Demand1
+pub mod Demand2
 pub mod Demand3
+pub mod Exact
+pub mod Claims
+pub mod Answers
+pub mod LaidOut
 pub mod Witness
 pub mod Whole
 pub mod Paths
@@ -8,6 +15,15 @@ pub mod Step
 pub mod Less
 pub mod Sound
 pub mod Agree
+pub mod Running
+pub mod Called
+pub mod Distinct
+pub mod Unbounded
+pub mod Fresh
+pub mod Results
+pub mod Runs
+pub mod Policies
+pub mod Tails
 pub mod Asked
 pub mod Written
 pub mod Back

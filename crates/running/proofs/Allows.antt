@@ -1,16 +1,20 @@
 -- What one method allows beside another, and a method beside the one that runs. Assumes nothing.
-use Prim.Native.Nat.{ℕ, _≤_}
-use mathlib.Core.Path.{_≡_, sym, _∙_, ap, subst}
-use mathlib.Core.Bool.{Bool, true, false}
-use mathlib.Core.List.{List}
-use mathlib.Core.Option.{none, some}
-use lib.ListN.{length}
-use Rattle.rules.specs.Bytes.{Bytes}
-use Rattle.rules.specs.Package.{Limits, storeLimits, method, policy, readFile}
+use Prim.Native.Nat.{ℕ, _+_, _≤_, _<_}
+use native.Mathlib.Omega.{arith}
+use mathlib.Core.Path.{_≡_, refl, sym, _∙_, ap, subst}
+use mathlib.Core.Bool.{Bool, true, false, _||_}
+use mathlib.Core.List.{List, []}
+use mathlib.Core.Option.{Option, none, some}
+use lib.ListN.{length, getD}
+use Rattle.rules.specs.Bytes.{Bytes, Aid, noneOr}
+use Rattle.rules.specs.Package.{Limits, storeLimits, Policy, every, only, domainIndex, method, policy, readFile}
 use Rattle.rules.specs.Store.{Entry}
-use Rattle.rules.specs.Classes.{Installed, installed, MethodAt, runsUpTo, allowsAllOf}
+use Rattle.rules.specs.Classes.{Installed, installed, MethodAt, runsUpTo, admitsAllOf, allowsAllOf}
 use Rattle.rules.specs.Questions.{own}
 use Rattle.places.specs.Reads.{Reads}
+use Rattle.places.proofs.Inverse.{reads-done}
+use Rattle.files.proofs.Steps.{policy-in}
+use Rattle.policies.proofs.Rules.{only-list}
 use Rattle.files.specs.Say.{Readable, PolicyAt, NameIs, StaticIs, DomainsAt}
 use Rattle.files.specs.Say as say
 use Rattle.files.proofs.Walks.{domains-read}
@@ -18,8 +22,9 @@ use Rattle.policies.specs.Say.{PolicyOver, AdmitsAllOf}
 use Rattle.homes.specs.Homes.{Imports, fileOf}
 use Rattle.homes.specs.declared.Home.{Home}
 use Rattle.homes.proofs.Homes.{home-reads, home-bounds}
-use Rattle.running.specs.Say.{MethodIn, RunningThere, RunsIs, BothThere, AllowsAllOf, methodPasses, MethodThere, MethodPasses}
-use Rattle.running.specs.declared.RunsFound.the-variants.{At, Nothing}
+use Rattle.chains.specs.Say.{MethodIn, RunningThere, RunsIs}
+use Rattle.running.specs.Say.{BothThere, AllowsAllOf, methodPasses, MethodThere, MethodPasses}
+use Rattle.chains.specs.declared.RunsFound.the-variants.{At, Nothing}
 
 -- a method in its file g
 module _ (f s : Bytes) (h : Home) (i : ℕ) (g : Bytes) (z : g ≡ fileOf f s h) (end : ℕ) (es : List Entry) (self : Installed) (o : MethodAt) (m : MethodIn f s end es self h i o) where
@@ -65,6 +70,26 @@ passes-none l is b o e n = rw (e, n)
 passes-runs : (l : Limits) (is : List Installed) (b : _) (o r : MethodAt) → o .method .static ≡ false → runsUpTo is (l .depth) b (o .method .name) ≡ some r → allowsAllOf r o ≡ methodPasses l is b o
 passes-runs l is b o r e n = rw (e, n)
 
+-- a method that allows nothing
+admits-nothing : (p q : Policy) → q ≡ only [] → admitsAllOf p q ≡ true
+admits-nothing every q e = refl
+admits-nothing (only ds) q e = rw e
+
+passes-nothing : (l : Limits) (is : List Installed) (b : _) (o : MethodAt) → o .method .policy ≡ only [] → true ≡ methodPasses l is b o
+passes-nothing l is b o e = sym (go (o .method .static) (runsUpTo is (l .depth) b (o .method .name)))
+  where
+    go : (a : Bool) (x : Option MethodAt) → (a || noneOr x (λ r. allowsAllOf r o)) ≡ true
+    go true x = refl
+    go false none = refl
+    go false (some r) = admits-nothing (r .method .policy) (o .method .policy) e
+
+-- its list is empty
+list-empty : (ds : List Aid) (g : Bytes) (i : ℕ) (q : Policy) (j : ℕ) → Reads (policy ds) g i q j → getD g i 0 ≡ 0 → q ≡ only []
+list-empty ds g i q j p z =
+    let o = only-list ds g i q j p (λ e. omega arith) in
+    let e = reads-done (domainIndex ds) (getD g i 0) g (i + 1) (o .aids) j (omega arith) (o .list) in
+    sym (o .is) ∙ ap only (e .0)
+
 module _ (f s : Bytes) (end b : ℕ) (h : Home) (i : ℕ) where
   pub method-bounds : MethodThere f s end b h i → (h .from ≤ h .to) × (h .to ≤ length s)
   method-bounds t = home-bounds f s end (t .0) (t .1) h (t .3 .class .home) (t .4 .home)
@@ -79,6 +104,18 @@ module _ (f s : Bytes) (end b : ℕ) (h : Home) (i : ℕ) where
     pub method-static : StaticIs g i true → MethodPasses f s end b h i true
     method-static q es self r o m =
         passes-static (storeLimits s) (installed (storeLimits s) es) (own self b) o (sym (q (storeLimits s) (o .class .home .pack .domains) (o .method) (m .ends) (file-method f s h i g z end es self o m)))
+
+    -- it allows nothing
+    pub policy-inside : MethodThere f s end b h i → (p : ℕ) → PolicyAt g i p → p < length g
+    policy-inside t p q =
+        let o = t .3 in
+        let r = q (storeLimits s) (o .class .home .pack .domains) (o .method) (t .4 .ends) (file-method f s h i g z end (t .0) (t .1) o (t .4)) in
+        policy-in (o .class .home .pack .domains, (o .method .policy, r .0, r .1))
+
+    pub method-nothing : (p : ℕ) → PolicyAt g i p → (w : ℕ) → w ≡ getD g p 0 → w ≡ 0 → MethodPasses f s end b h i true
+    method-nothing p q w v u es self r o m =
+        let y = q (storeLimits s) (o .class .home .pack .domains) (o .method) (m .ends) (file-method f s h i g z end es self o m) in
+        passes-nothing (storeLimits s) (installed (storeLimits s) es) (own self b) o (list-empty (o .class .home .pack .domains) g p (o .method .policy) (y .0) (y .1) (sym v ∙ u))
 
     module _ (q : StaticIs g i false) (name : ℕ) (n : NameIs g i name) where
       static-not : (es : List Entry) (self : Installed) (o : MethodAt) → MethodIn f s end es self h i o → o .method .static ≡ false

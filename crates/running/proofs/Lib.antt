@@ -1,10 +1,8 @@
 -- Laws of question 20.
-pub mod Records
-pub mod Parents
-pub mod Methods
-pub mod Chain
-pub mod Search
 pub mod Allows
 pub mod Loops
+pub mod Visits
+pub mod Keys
 pub mod Walk
+pub mod Steps
 pub mod Whole

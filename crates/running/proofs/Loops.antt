@@ -19,7 +19,9 @@ use Rattle.files.specs.Say as say
 use Rattle.homes.specs.Homes.{fileOf, HomeIs}
 use Rattle.homes.specs.declared.Home.{Home}
 use Rattle.homes.proofs.Homes.{home-bounds}
-use Rattle.running.specs.Say.{Running, ClassThere, MethodsIn, methodPasses, MethodThere, MethodPasses, WalkThere, OfWalk, MethodsPass}
+use Rattle.classes.specs.Say.{ClassThere, MethodsIn}
+use Rattle.chains.specs.Say.{Running}
+use Rattle.running.specs.Say.{methodPasses, MethodThere, MethodPasses, WalkThere, OfWalk, MethodsPass}
 
 -- the test of a method of a class
 abbrev pub passesIn : Bytes → List Entry → Installed → ℕ → ClassAt → Method → Bool

@@ -1,18 +1,21 @@
 -- Question 20 of own classes, one after another. Assumes nothing.
-use Prim.Native.Nat.{ℕ, suc, _+_, _≤_, _<_}
+use Prim.Native.Nat.{ℕ, suc, _+_, _/_, _≤_, _<_}
 use native.Mathlib.Omega.{arith}
 use native.Mathlib.Numerals.{add-one}
-use mathlib.Core.Path.{_≡_, refl, sym, _∙_, ap}
+use mathlib.Core.Path.{_≡_, refl, sym, _∙_, ap, subst}
 use mathlib.Core.Bool.{Bool, true, false, _&&_, _||_}
 use mathlib.Core.List.{List, [], _∷_, List·Memᴰ, List·Memᴰ·head, List·Memᴰ·tail}
 use mathlib.Core.Option.{Option, none, some}
 use lib.ListN.{length, drop, getD, drop-of-length-le}
 use Rattle.rules.specs.Bytes.{Bytes, all, allFrom, at, noneOr, u1}
-use Rattle.rules.specs.Package.{Limits, storeLimits, mostClasses, Method, Class, Package, class, readFile}
-use Rattle.rules.specs.Store.{Entry}
+use Rattle.rules.specs.Package.{Limits, standard, storeLimits, mostClasses, Method, Class, Package, class, readFile}
+use Rattle.rules.specs.Store.{Entry, openingLength}
 use Rattle.rules.specs.Classes.{Installed, installed, ClassAt, recordOf, ancestorsUpTo, isKind0, runsUpTo, allowsAllOf}
-use Rattle.rules.specs.Questions.{own, runningAllows, q20-running}
+use Rattle.rules.specs.Questions.{own, q20-running}
+use Rattle.rules.specs.Running.{runningAllows}
+use Rattle.rules.proofs.Running.{q20-by-class}
 use Rattle.rules.proofs.Tests.{of-true}
+use Rattle.rules.proofs.Limits.{store-limits}
 use Rattle.rules.proofs.Bounds.{ancestors-below, below-ancestors}
 use Rattle.places.proofs.Steady.{steady-u1, steady-class}
 use Rattle.places.proofs.Inverse.{reads-counted, reads-u1}
@@ -21,11 +24,18 @@ use Rattle.files.specs.Say.{Readable, ClassesAt}
 use Rattle.files.proofs.Walks.{classes-read}
 use Rattle.homes.specs.Homes.{ownHome}
 use Rattle.homes.specs.Homes as homes
-use Rattle.homes.specs.Memo.{key, MemoBelow}
-use Rattle.running.specs.Say.{Judged, Running, ClassThere, Kind0Is, WalkThere, Passes, Fails, Answers, ClassPasses, Marks, OwnThere, OwnPasses, JudgedThere, RunningIs, MemoAfter}
-use Rattle.depths.proofs.Keys.{class-below}
-use Rattle.running.proofs.Records.{at-split}
-use Rattle.running.proofs.Methods.{own-depth}
+use Rattle.bits.specs.Bits.{bitAt}
+use Rattle.store.proofs.Stand.{entries-to}
+use Rattle.classes.specs.Say.{Judged, Kind0Is, OwnThere}
+use Rattle.named.proofs.Rows.{file-size}
+use Rattle.chains.specs.Say.{Running, RunningThere, RunsIs}
+use Rattle.chains.specs.Names.{Room}
+use Rattle.chains.specs.declared.RunsFound.the-variants.{Nothing}
+use Rattle.running.specs.Say.{WalkThere, Passes, Fails, Answers, ClassPasses, OwnPasses, JudgedThere, RunningIs}
+use Rattle.running.specs.Walk.{key, seenLength, SeenPass}
+use Rattle.running.proofs.Keys.{key-small}
+use Rattle.classes.proofs.Records.{at-split}
+use Rattle.classes.proofs.Places.{own-depth}
 
 -- all elements pass, or one does not
 all-true : {A : Type 0} (p : A → Bool) (xs : List A) → ((x : A) → List·Memᴰ x xs → p x ≡ true) → all p xs ≡ true
@@ -40,32 +50,26 @@ all-false p _ x (List·Memᴰ·tail {x = y} {xs = ys} m) h = rest (p y) (all-fal
     rest true e = e
     rest false e = refl
 
--- for an interface nothing runs
-interface-allows : (l : Limits) (is : List Installed) (b a : ClassAt) → isKind0 b ≡ false → runningAllows l is b a ≡ true
-interface-allows l is b a z = go (recordOf a) refl
+-- where nothing runs nothing is asked
+nothing-runs : (l : Limits) (is : List Installed) (b a : ClassAt) → ((n : ℕ) → runsUpTo is (l .depth) b n ≡ none) → runningAllows l is b a ≡ true
+nothing-runs l is b a z = go (recordOf a) refl
   where
-    none-runs : (n : ℕ) → runsUpTo is (l .depth) b n ≡ none
-    none-runs n = rw z
-
     or-true : (x : Bool) → (x || true) ≡ true
     or-true true = refl
     or-true false = refl
 
     each : (k : Class) (m : Method) → (m .static || noneOr (runsUpTo is (l .depth) b (m .name)) (λ r. allowsAllOf r (record { class = a; method = m }))) ≡ true
-    each k m = rw (none-runs (m .name)) (or-true (m .static))
+    each k m = rw (z (m .name)) (or-true (m .static))
 
     go : (o : Option Class) → recordOf a ≡ o → runningAllows l is b a ≡ true
     go none e = rw e
     go (some k) e = rw e (all-true _ (k .methods) (λ m i. each k m))
 
--- numbers that do not pass m pass nothing greater
-pub below-more : (m n : ℕ) (memo : List ℕ) → m ≤ n → MemoBelow m memo → MemoBelow n memo
-below-more m n memo z u = record { size = u .size; small = λ i. omega (arith, u .small i) }
+-- for an interface nothing runs
+interface-allows : (l : Limits) (is : List Installed) (b a : ClassAt) → isKind0 b ≡ false → runningAllows l is b a ≡ true
+interface-allows l is b a z = nothing-runs l is b a (λ n. rw z)
 
 module _ (f s : Bytes) (end b : ℕ) where
-  pub own-class-there : OwnThere f s end b → ClassThere f s (ownHome end) b
-  own-class-there t = (end, record { entries = t .0; self = t .1; asked = t .2; pack = t .1; home = homes.own; class = t .3; is = t .4 })
-
   pub own-interface : Kind0Is f s (ownHome end) b false → OwnPasses f s end b true
   own-interface q es self j k e =
       sym (all-true (runningAllows (storeLimits s) (installed (storeLimits s) es) (own self b)) (ancestorsUpTo (installed (storeLimits s) es) (storeLimits s .depth) (own self b))
@@ -74,6 +78,15 @@ module _ (f s : Bytes) (end b : ℕ) where
   module _ (q : Kind0Is f s (ownHome end) b true) where
     own-running : (es : List Entry) (self : Installed) → Judged f s end es self → (k : Class) → at (self .pack .classes) b ≡ some k → Running f s end b es self
     own-running es self j k e = record { judged = j; kind0 = of-true (sym (q end es self j self homes.own k e)) }
+
+    -- the chain has no method
+    pub own-nothing : ((x : ℕ) → RunsIs f s end b x Nothing) → OwnPasses f s end b true
+    own-nothing w es self j k e =
+        sym (all-true (runningAllows (storeLimits s) (installed (storeLimits s) es) (own self b)) (ancestorsUpTo (installed (storeLimits s) es) (storeLimits s .depth) (own self b))
+        (λ a m. nothing-runs (storeLimits s) (installed (storeLimits s) es) (own self b) a (λ n. w n es self (own-running es self j k e))))
+
+    pub own-runs : OwnThere f s end b → RunningThere f s end b
+    own-runs t = (t .0, t .1, own-running (t .0) (t .1) (t .2) (t .3) (t .4))
 
     pub own-walk : OwnThere f s end b → WalkThere f s end b (ownHome end) b
     own-walk t = record { entries = t .0; self = t .1; asked = own-running (t .0) (t .1) (t .2) (t .3) (t .4); pack = t .1; home = homes.own; class = t .3; is = t .4 }
@@ -88,17 +101,35 @@ module _ (f s : Bytes) (end b : ℕ) where
         go false w = sym (all-false _ (ancestorsUpTo (installed (storeLimits s) es) (storeLimits s .depth) (own self b)) (w .0)
             (below-ancestors (installed (storeLimits s) es) (storeLimits s .depth) (own self b) (w .0) (own-depth f s end b es self j k e) (w .1)) (w .2))
 
-  -- own class numbers are small
-  pub own-small : OwnThere f s end b → b < 32
-  own-small t = (class-below (storeLimits s) f (t .1 .pack) (t .2 .parents .imported .setting .reads) b (t .3) (t .4)) .1
+  -- the earlier entries end inside the store
+  pub own-end : OwnThere f s end b → end ≤ length s
+  own-end t = (entries-to s openingLength (t .0) end (t .2 .parents .imported .setting .stand)) .1
 
-  -- the memo between two own classes
-  pub marks-start : (base : ℕ) (memo : List ℕ) → MemoBelow (base + b) memo → base ≤ 65000 → OwnThere f s end b → Marks f s end b (base + b + 1) memo
-  marks-start base memo u z t = record {
-    below = below-more (base + b) (base + b + 1) memo (omega arith) u;
-    fits = omega (arith, own-small t);
-    hold = λ h n e es self r x o k q. absurd (omega (arith, u .small (key h n)));
+  -- no class was seen
+  pub seen-none : (seen : Bytes) → seenLength s ≤ length seen → ((j : ℕ) → j / 8 < end / 24 + 5 → bitAt seen j ≡ false) → SeenPass f s end b seen
+  seen-none seen z w = record {
+    room = z;
+    hold = λ h n e es self r x o k q.
+        let i = key-small f s end es self (r .judged .parents .imported .setting) h x o n k q in
+        absurd (true-false (sym e ∙ w (key h n) (omega (arith, i))));
   }
+    where
+      true-false : true ≡ false → ⊥
+      true-false e = let y : _≡_ {A = ℕ} 0 1 = cc in omega arith
+
+-- a fact of an own class by its numbers
+pub at-own : (q : ℕ → ℕ → Type 0) (x y end b : ℕ) → x ≡ end → y ≡ b → q end b → q x y
+at-own q x y end b e o p = subst (λ (n : ℕ). q n y) (sym e) (subst (q end) (sym o) p)
+
+pub own-at : (q : ℕ → ℕ → Type 0) (x y end b : ℕ) → x ≡ end → y ≡ b → q x y → q end b
+own-at q x y end b e o p = at-own q end b x y (sym e) (sym o) p
+
+-- there is room for the names of a chain
+pub names-room : (f s : Bytes) (names : List ℕ) → Readable f → getD f 5 0 < 256 → getD f 6 0 < 256 → length s ≤ 65535 → length names ≡ 640 → Room f s names
+unfolding standard
+names-room f s names r a b z l =
+    let d : storeLimits s .depth ≤ 8 = subst (λ (x : Limits). x .depth ≤ 8) (sym (store-limits s)) (omega arith) in
+    record { size = omega (arith, d); file = omega (arith, (file-size f r) .1); store = z }
 
 -- the test of own class i
 abbrev pub ownTest : Bytes → List Entry → Installed → ℕ → Class → Bool
@@ -124,10 +155,9 @@ module _ (f s : Bytes) (end : ℕ) where
         counted-inside (class (storeLimits s) (p .domains)) f mostClasses at-classes (p .classes) (length f) (classes-read q (storeLimits s) p (t .2 .imported .setting .reads))
 
     pub own-start : (count : ℕ) → count ≡ getD f at-classes 0 → OwnLeft f s end count 0
-    unfolding q20-running
     own-start count z = record {
       few = omega arith;
-      left = λ es self j. refl;
+      left = λ es self j. q20-by-class (storeLimits s) (installed (storeLimits s) es) self;
       count-is = λ l p r.
           let c = reads-counted mostClasses u1 (class l (p .domains)) steady-u1 f at-classes (p .classes) (length f) (classes-read q l p r) in
           let w = reads-u1 f at-classes (c .number) (c .place) (c .count) in
@@ -137,10 +167,6 @@ module _ (f s : Bytes) (end : ℕ) where
   module _ (count b : ℕ) (inv : OwnLeft f s end count b) where
     own-count : (es : List Entry) (self : Installed) → Judged f s end es self → count ≡ length (self .pack .classes)
     own-count es self j = inv .count-is (storeLimits s) (self .pack) (j .parents .imported .setting .reads)
-
-    -- the memo has no number above those of the classes so far
-    pub memo-after : (base m : ℕ) (memo : List ℕ) → m ≤ base + count → MemoBelow m memo → MemoAfter f base memo
-    memo-after base m memo z u l p r = below-more m (base + length (p .classes)) memo (omega (arith, inv .count-is l p r)) u
 
     pub own-done : count ≤ b → RunningIs f s end true
     own-done z es self p q =

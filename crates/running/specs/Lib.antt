@@ -1,3 +1,3 @@
 -- What the functions of question 20 require and ensure.
 pub mod Say
-pub mod Chain
+pub mod Walk

@@ -1,5 +1,5 @@
 -- What each test of the layout says: mark and version, zeros, kind and body, the entries up to a place. Assumes nothing.
-use Prim.Native.Nat.{ℕ, suc, _+_, _-_, _≤_, _<_}
+use Prim.Native.Nat.{ℕ, zero, suc, max, _+_, _-_, _≤_, _<_}
 use native.Mathlib.Omega.{arith}
 use mathlib.Core.Path.{_≡_, refl, sym, _∙_, ap, ap₂, subst}
 use mathlib.Core.Bool.{Bool, true, false, _&&_}
@@ -33,15 +33,25 @@ pub and-true : (b : Bool) → (b && true) ≡ b
 and-true true = refl
 and-true false = refl
 
--- zeros from a place on
-pub zero-more : (s : Bytes) (i : ℕ) → i < length s → getD s i 0 ≡ 0 → all isZero (drop i s) ≡ all isZero (drop (i + 1) s)
-zero-more s i h e = rw (drop-one s i h, eq-eqb (getD s i 0) 0 e)
+-- the greater of two bytes is zero where both are
+zero-greater : (a b : ℕ) → eqb (max a b) 0 ≡ (eqb a 0 && eqb b 0)
+zero-greater zero zero = refl
+zero-greater zero (suc b) = ne-eqb (max 0 (suc b)) 0 (λ e. omega (arith, e)) ∙ sym (ne-eqb (suc b) 0 (λ e. omega (arith, e)))
+zero-greater (suc a) b =
+    ne-eqb (max (suc a) b) 0 (λ e. omega (arith, e)) ∙ ap (λ (x : Bool). x && eqb b 0) (sym (ne-eqb (suc a) 0 (λ e. omega (arith, e))))
 
-pub zero-other : (s : Bytes) (i : ℕ) → i < length s → (getD s i 0 ≡ 0 → ⊥) → all isZero (drop i s) ≡ false
-zero-other s i h e = rw (drop-one s i h, ne-eqb (getD s i 0) 0 e)
+-- zeros from a place on, with the greatest byte passed
+pub zero-more : (s : Bytes) (i g : ℕ) → i < length s → (eqb g 0 && all isZero (drop i s)) ≡ (eqb (max g (getD s i 0)) 0 && all isZero (drop (i + 1) s))
+zero-more s i g h =
+    ap (λ (t : Bytes). eqb g 0 && all isZero t) (drop-one s i h) ∙ and-joined (eqb g 0) (eqb (getD s i 0) 0) (all isZero (drop (i + 1) s))
+    ∙ ap (λ (b : Bool). b && all isZero (drop (i + 1) s)) (sym (zero-greater g (getD s i 0)))
+  where
+    and-joined : (a b c : Bool) → (a && (b && c)) ≡ ((a && b) && c)
+    and-joined true b c = refl
+    and-joined false b c = refl
 
-pub zero-end : (s : Bytes) (i : ℕ) → length s ≤ i → all isZero (drop i s) ≡ true
-zero-end s i h = rw (drop-of-length-le s {i = i} h)
+pub zero-end : (s : Bytes) (i g : ℕ) → length s ≤ i → (eqb g 0 && all isZero (drop i s)) ≡ eqb g 0
+zero-end s i g h = ap (λ (t : Bytes). eqb g 0 && all isZero t) (drop-of-length-le s {i = i} h) ∙ and-true (eqb g 0)
 
 -- kind and body
 pub body-domain : (k : ℕ) (b : Bytes) → k ≡ 1 → true ≡ isSome (entryOf k b)

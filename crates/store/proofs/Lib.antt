@@ -7,5 +7,5 @@ pub mod Checks
 pub mod Own
 pub mod Find
 pub mod Asked
-pub mod Paste
-pub mod Change
+pub mod Fits
+pub mod Sound

@@ -10,7 +10,8 @@ use lib.Dec.{eqb}
 use lib.ListN.{length, drop, getD, drop-of-length-le}
 use Rattle.rules.specs.Bytes.{Bytes, Aid, Reader, aidLength, when, u1, u2, span, aid, counted, atEnd}
 use Rattle.rules.specs.Code.{u2At}
-use Rattle.rules.specs.Package.{Limits, Reference, Package, mostDomains, mostImports, mostReferences, mostClasses, reference, class, classesOf, referencesOf, importsOf, domainsOf, contents, sized, readFile}
+use Rattle.rules.specs.Package.{Limits, Reference, Package, mostDomains, mostImports, mostReferences, mostClasses, reference, class, contents, sized, readFile}
+use Rattle.rules.proofs.Tails.{classesOf, referencesOf, importsOf, domainsOf}
 use Rattle.rules.proofs.Tests.{none-some, and-then-is}
 use Rattle.store.specs.Entries.{ownAid}
 use Rattle.store.proofs.Parts.{drop-one, span-drop}
@@ -67,7 +68,7 @@ aid-own f v p h e z = elim (decLe (length f) 7) [
         record { inside = k; to = d .0; is = d .1 ∙ sym z }
 
 contents-own : (l : Limits) (f : Bytes) (x : Package × Bytes) → 7 ≤ length f → contents l (drop 7 f) ≡ some x → OwnBy f (x .0)
-unfolding contents
+unfolding contents domainsOf importsOf referencesOf classesOf
 contents-own l f x h e =
     let y = and-then-is (aid (drop 7 f)) (λ (v : Aid × Bytes). domainsOf l (v .0) (v .1)) x e in
     aid-own f (y .0) (x .0) h (y .1) (domains-aid l (y .0 .0) (y .0 .1) x (y .2))

@@ -1,3 +1,4 @@
 -- What the functions over a store require and ensure.
 pub mod Entries
 pub mod Answers
+pub mod Sound

@@ -1,16 +1,15 @@
-// The store by its bytes: layout, entries at their places, what is appended and cut.
+// The store by its bytes: layout, entries at their places, what would fit.
 ghost use mathlib.Core.Path.{_≡_};
-ghost use mathlib.Core.List.{List, [], _∷_};
+ghost use mathlib.Core.List.{List};
 ghost use mathlib.Core.Option.{some};
-ghost use Prim.Native.Nat.{_+_, _<_, _≤_};
-ghost use lib.ListN.{length, getD, take, drop, replicate};
-ghost use lib.Seq.{paste};
-ghost use Rattle.rules.specs.Bytes.{all, isSome, _andThen_, same, high, low};
-ghost use Rattle.rules.specs.Store.{Entry, domain, loaded, used, opening, write, isZero, entryOf, entriesOf};
+ghost use Prim.Native.Nat.{max, _+_, _<_, _≤_};
+ghost use lib.ListN.{length, getD, take, drop};
+ghost use Rattle.rules.specs.Bytes.{all, isSome, _andThen_, same};
+ghost use Rattle.rules.specs.Store.{Entry, domain, loaded, used, opening, isZero, entryOf, entriesOf};
 ghost use Rattle.rules.specs.Questions.{q1-size};
 ghost use Rattle.rules.specs.Operations.{isDomain};
 ghost use Rattle.store.specs.Entries.{StandFrom, Holds, FilesStand, ownAid};
-ghost use Rattle.store.specs.Answers.{usedTold, NextSays, FillSays, PartAt, SpotAt, FileAt, InUse, Fits, Room, Appended, CutAt, CutOut};
+ghost use Rattle.store.specs.Answers.{usedTold, NextSays, FillSays, PartAt, SpotAt, FileAt, InUse, Fits};
 
 // The used value of a store's layout, or that there is no such layout.
 pub enum Layout {
@@ -73,19 +72,25 @@ fn opens(s: &[u8]) -> bool
     s[4] == 1
 }
 
-// Are all bytes from a place on zero?
+// The greater of two bytes.
+fn greater(a: u8, b: u8) -> u8
+    ensures { λ r. ⌜ r ≡ max a b ⌝ }
+{
+    if a < b { b } else { a }
+}
+
+// Are all bytes from a place on zero? By the greatest of them: no test within the loop, so that many are compared at a time.
 fn zeros_from(s: &[u8], from: usize) -> bool
     requires { ⌜ from ≤ length (now s) ⌝ }
     ensures { λ r. ⌜ r ≡ all isZero (drop from (now (s .entry))) ⌝ }
 {
+    let mut greatest = 0;
     let mut i = from;
     while i < s.len() {
-        if s[i] != 0 {
-            return false;
-        }
+        greatest = greater(greatest, s[i]);
         i += 1;
     }
-    true
+    greatest == 0
 }
 
 // Do kind and body of an entry whose body has n bytes read?
@@ -265,76 +270,6 @@ pub fn domain_in_use(s: &[u8], end: usize, aid: &[u8]) -> bool
     }
 }
 
-// Writes a u2 at a place.
-fn put_u2(store: &mut [u8], at: usize, n: usize)
-    requires { ⌜ (at + 1 < length (now store)) × (n < 65536) ⌝ }
-    ensures { λ _. ⌜ now (store .exit) ≡ paste (now (store .entry)) at (high n ∷ low n ∷ []) 2 ⌝ }
-{
-    store[at] = (n / 256) as u8;
-    store[at + 1] = (n % 256) as u8;
-}
-
-// Writes an entry's kind and body length at a place.
-fn put_head(store: &mut [u8], at: usize, kind: u8, n: usize)
-    requires { ⌜ (at + 2 < length (now store)) × (n < 65536) ⌝ }
-    ensures { λ _. ⌜ now (store .exit) ≡ paste (now (store .entry)) at (kind ∷ high n ∷ low n ∷ []) 3 ⌝ }
-{
-    store[at] = kind;
-    put_u2(store, at + 1, n);
-}
-
-// Copies bytes to a place.
-fn copy_in(store: &mut [u8], at: usize, from: &[u8])
-    requires { ⌜ at + length (now from) ≤ length (now store) ⌝ }
-    ensures { λ _. ⌜ now (store .exit) ≡ paste (now (store .entry)) at (now (from .entry)) (length (now (from .entry))) ⌝ }
-{
-    let mut i = 0;
-    while i < from.len() {
-        store[at + i] = from[i];
-        i += 1;
-    }
-}
-
-// Moves n bytes up from one place to an earlier one.
-fn move_up(store: &mut [u8], to: usize, from: usize, n: usize)
-    requires { ⌜ (to ≤ from) × (from + n ≤ length (now store)) ⌝ }
-    ensures { λ _. ⌜ now (store .exit) ≡ paste (now (store .entry)) to (drop from (now (store .entry))) n ⌝ }
-{
-    let mut i = 0;
-    while i < n {
-        store[to + i] = store[from + i];
-        i += 1;
-    }
-}
-
-// Zeros n bytes from a place on.
-fn zero_out(store: &mut [u8], at: usize, n: usize)
-    requires { ⌜ at + n ≤ length (now store) ⌝ }
-    ensures { λ _. ⌜ now (store .exit) ≡ paste (now (store .entry)) at (replicate n 0) n ⌝ }
-{
-    let mut i = 0;
-    while i < n {
-        store[at + i] = 0;
-        i += 1;
-    }
-}
-
-// Writes an empty store over the whole buffer.
-pub fn write_fresh(store: &mut [u8])
-    requires { ⌜ 7 ≤ length (now store) ⌝ }
-    ensures { λ _. ⌜ now (store .exit) ≡ write (length (now (store .entry))) [] ⌝ }
-{
-    let n = store.len();
-    store[0] = 0x42;
-    store[1] = 0x43;
-    store[2] = 0x53;
-    store[3] = 0;
-    store[4] = 1;
-    store[5] = 0;
-    store[6] = 7;
-    zero_out(store, 7, n - 7);
-}
-
 // 21. Does a domain's entry fit?
 pub fn domain_fits(s: &[u8], end: usize, aid: &[u8]) -> bool
     requires { ⌜ end ≤ length (now s) ⌝ }
@@ -360,40 +295,4 @@ pub fn package_fits(s: &[u8], end: usize, domain: &[u8], file: &[u8]) -> bool
         return false;
     }
     file.len() <= free - 4 - domain.len()
-}
-
-// Writes a domain's entry behind the others.
-pub fn append_domain(store: &mut [u8], end: usize, aid: &[u8])
-    requires { ⌜ Room (now store) end (domain (now aid)) ⌝ }
-    ensures { λ _. ⌜ Appended (now (store .entry)) (now (store .exit)) (domain (now (aid .entry))) ⌝ }
-{
-    let n = aid.len();
-    put_head(store, end, 1, n);
-    copy_in(store, end + 3, aid);
-    put_u2(store, 5, end + 3 + n);
-}
-
-// Writes a package's entry behind the others.
-pub fn append_package(store: &mut [u8], end: usize, domain: &[u8], file: &[u8])
-    requires { ⌜ Room (now store) end (loaded (now domain) (now file)) × (length (now domain) < 256) ⌝ }
-    ensures { λ _. ⌜ Appended (now (store .entry)) (now (store .exit)) (loaded (now (domain .entry)) (now (file .entry))) ⌝ }
-{
-    let d = domain.len();
-    let n = 1 + d + file.len();
-    put_head(store, end, 2, n);
-    store[end + 3] = d as u8;
-    copy_in(store, end + 4, domain);
-    copy_in(store, end + 4 + d, file);
-    put_u2(store, 5, end + 3 + n);
-}
-
-// Cuts out the entry from `at` up to `next`: the later ones move up, and the freed end is zeroed.
-pub fn cut_entry(store: &mut [u8], end: usize, at: usize, next: usize)
-    requires { ⌜ CutAt (now store) end at next ⌝ }
-    ensures { λ _. ⌜ CutOut (now (store .entry)) (now (store .exit)) at next ⌝ }
-{
-    let k = next - at;
-    move_up(store, at, next, end - next);
-    zero_out(store, end - k, k);
-    put_u2(store, 5, end - k);
 }

@@ -1,30 +1,38 @@
--- `calls::calls_ok` meets its contract: the tables of what the references name and of the numbers of domains, and the calls by them. Assumes nothing.
-use Rattle.calls.proofs.Tables as tables
-use Rattle.calls.proofs.Asked as asked
-use lib.ListN.{length-replicate}
-use denote.Ref.{now}
-use Prim.Native.Nat.{ℕ}
+-- `calls::calls_ok` meets its contract: the tables are empty at the start, and the calls are asked by them. Assumes nothing.
 use mathlib.Core.Path.{refl}
+use denote.Ref.{now}
+use borrow.Author.Needs.{needs}
+use Rattle.calls.proofs.Lookups as look
+use Rattle.calls.proofs.Covers as covers
+use Rattle.calls.proofs.Asked as asked
 use Rattle.calls.proofs.calls_ok.Statement.{statement}
 use Rattle.calls.proofs.calls_ok.Tie as tie
 
-name-references-requires : tie.Need-name-references-requires
-name-references-requires c κs = (c .before .before .before .before .pre .0, (c .before .before .before .before .pre .1 .1 .1 .0, (tables.names-none 3072 refl, c .before .before .before .before .pre .1 .1 .1 .1)))
+told-of-requires : tie.Need-told-of-requires
+told-of-requires c κs = look.judged-reads (c .before .before .before .pre .0)
 
-map-packages-requires : tie.Need-map-packages-requires
-map-packages-requires c κs = (c .before .before .before .before .before .before .pre .0, (c .before .before .before .before .before .before .pre .1 .1 .1 .0, length-replicate {A = ℕ} 512 0))
+slice-aggregate-file-calls : tie.Need-slice-aggregate-file-calls
+slice-aggregate-file-calls c = search needs
+
+slice-aggregate-file-calls-2 : tie.Need-slice-aggregate-file-calls-2
+slice-aggregate-file-calls-2 c = search needs
 
 file-calls-requires : tie.Need-file-calls-requires
-file-calls-requires c κs = (c .before .before .before .before .before .before .before .before .before .pre .0, (c .before .before .before .before .before .before .before .before .before .pre .1 .0, (c .before .before .before .before .before .before .before .before .before .pre .1 .1 .0, (c .before .before .before .before .name-references .ensures, c .before .before .map-packages .ensures .1))))
+file-calls-requires c κs =
+    let b = c .before .before .before .before .before .before in
+    let p = b .pre in
+    let t = c .before .before .told-of .ensures .1 (now (b .args .s)) (p .0) in
+    rw (c .before .before .told-of .ensures .0) ((p .0, p .1 .0, p .1 .1 .0), (record { file = t .file; loading = t .loading }, covers.tables-start 512 refl (p .1 .1 .1)))
 
 returns : tie.Need-returns
-returns c = asked.calls-number _ (now (c .before .before .before .before .before .before .before .before .before .before .args .domain)) (c .file-calls .result) (c .before .before .before .map-packages .ensures .0) (c .file-calls .ensures)
+returns c = asked.calls-number (now (c .before .before .before .before .before .before .before .before .before .args .domain)) (c .before .before .file-calls .result) (rw (c .before .before .before .before .before .told-of .ensures .0) at (c .before .before .file-calls .ensures))
 
 pub calls-ok-spec : {M : Type 1} → statement M
 calls-ok-spec =
     tie.close
     (tie.spec
-    name-references-requires
-    map-packages-requires
+    told-of-requires
+    slice-aggregate-file-calls
+    slice-aggregate-file-calls-2
     file-calls-requires
     returns)

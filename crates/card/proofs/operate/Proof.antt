@@ -1,10 +1,7 @@
 -- `card::operate` is safe: the parts of the buffer that it lends lie within it. Assumes nothing.
-use denote.Ref.{now}
 use lib.Seq.{length-take-le}
-use Rattle.card.proofs.Forms.{ends, middles}
-use Prim.Native.Nat.{_≤_}
+use Rattle.card.proofs.Forms.{ends, first-within, middles}
 use mathlib.Core.Path.{sym}
-use native.Mathlib.Omega.{arith}
 use lib.ListN.{length}
 use borrow.Author.Needs.{needs}
 use Rattle.card.proofs.operate.Statement.{statement}
@@ -14,7 +11,9 @@ enum-known-form : tie.Need-enum-known-form
 enum-known-form c = search needs
 
 slice-aggregate-loader-create : tie.Need-slice-aggregate-loader-create
-slice-aggregate-loader-create c = sym (length-take-le (c .before .before .before .form .given .0 .0) (now (c .before .before .before .before .before .before .before .args .arguments)) (ends (length (now (c .before .before .before .before .before .before .before .args .arguments))) (c .before .before .before .form .given .1) (c .before .before .before .before .before .before .before .pre .1)))
+slice-aggregate-loader-create c =
+    let pre = c .before .before .before .before .before .before .before .pre in
+    sym (length-take-le _ _ (ends _ (c .before .before .before .form .given .1) (pre .1)))
 
 loader-create-requires : tie.Need-loader-create-requires
 loader-create-requires c κs = search needs
@@ -23,7 +22,9 @@ enum-known-form-2 : tie.Need-enum-known-form-2
 enum-known-form-2 c = search needs
 
 slice-aggregate-loader-delete : tie.Need-slice-aggregate-loader-delete
-slice-aggregate-loader-delete c = sym (length-take-le (c .before .before .before .form2 .given .0 .0) (now (c .before .before .before .before .before .before .before .args .arguments)) (ends (length (now (c .before .before .before .before .before .before .before .args .arguments))) (c .before .before .before .form2 .given .1) (c .before .before .before .before .before .before .before .pre .1)))
+slice-aggregate-loader-delete c =
+    let pre = c .before .before .before .before .before .before .before .pre in
+    sym (length-take-le _ _ (ends _ (c .before .before .before .form2 .given .1) (pre .1)))
 
 loader-delete-requires : tie.Need-loader-delete-requires
 loader-delete-requires c κs = search needs
@@ -32,7 +33,9 @@ enum-known-form-3 : tie.Need-enum-known-form-3
 enum-known-form-3 c = search needs
 
 slice-aggregate-loader-remove : tie.Need-slice-aggregate-loader-remove
-slice-aggregate-loader-remove c = sym (length-take-le (c .before .before .before .form3 .given .0 .0) (now (c .before .before .before .before .before .before .before .args .arguments)) (ends (length (now (c .before .before .before .before .before .before .before .args .arguments))) (c .before .before .before .form3 .given .1) (c .before .before .before .before .before .before .before .pre .1)))
+slice-aggregate-loader-remove c =
+    let pre = c .before .before .before .before .before .before .before .pre in
+    sym (length-take-le _ _ (ends _ (c .before .before .before .form3 .given .1) (pre .1)))
 
 loader-remove-requires : tie.Need-loader-remove-requires
 loader-remove-requires c κs = search needs
@@ -41,16 +44,25 @@ enum-known-form-4 : tie.Need-enum-known-form-4
 enum-known-form-4 c = search needs
 
 slice-aggregate-loader-load : tie.Need-slice-aggregate-loader-load
-slice-aggregate-loader-load c = let h : (c .before .before .before .form4 .given .0 .1 .0) ≤ length (now (c .before .before .before .before .before .before .before .args .arguments)) = ends (length (now (c .before .before .before .before .before .before .before .args .arguments))) (c .before .before .before .form4 .given .1) (c .before .before .before .before .before .before .before .pre .1) in let k : (c .before .before .before .form4 .given .0 .0) ≤ (c .before .before .before .form4 .given .0 .1 .0) = middles (c .before .before .before .form4 .given .1) (c .before .before .before .before .before .before .before .pre .0) in sym (length-take-le (c .before .before .before .form4 .given .0 .0) (now (c .before .before .before .before .before .before .before .args .arguments)) (omega arith))
+slice-aggregate-loader-load c =
+    let pre = c .before .before .before .before .before .before .before .pre in
+    let same = c .before .before .before .form4 .given .1 in
+    sym (length-take-le _ _ (first-within _ same (pre .0) (pre .1)))
 
 sub-loader-load : tie.Need-sub-loader-load
-sub-loader-load c = let h : (c .before .before .before .form4 .given .0 .1 .0) ≤ length (now (c .before .before .before .before .before .before .before .args .arguments)) = ends (length (now (c .before .before .before .before .before .before .before .args .arguments))) (c .before .before .before .form4 .given .1) (c .before .before .before .before .before .before .before .pre .1) in let k : (c .before .before .before .form4 .given .0 .0) ≤ (c .before .before .before .form4 .given .0 .1 .0) = middles (c .before .before .before .form4 .given .1) (c .before .before .before .before .before .before .before .pre .0) in omega arith
+sub-loader-load c =
+    let pre = c .before .before .before .before .before .before .before .pre in
+    middles (c .before .before .before .form4 .given .1) (pre .0)
 
 part-loader-load-start : tie.Need-part-loader-load-start
-part-loader-load-start c = let h : (c .before .before .before .form4 .given .0 .1 .0) ≤ length (now (c .before .before .before .before .before .before .before .args .arguments)) = ends (length (now (c .before .before .before .before .before .before .before .args .arguments))) (c .before .before .before .form4 .given .1) (c .before .before .before .before .before .before .before .pre .1) in let k : (c .before .before .before .form4 .given .0 .0) ≤ (c .before .before .before .form4 .given .0 .1 .0) = middles (c .before .before .before .form4 .given .1) (c .before .before .before .before .before .before .before .pre .0) in omega arith
+part-loader-load-start c =
+    let pre = c .before .before .before .before .before .before .before .pre in
+    middles (c .before .before .before .form4 .given .1) (pre .0)
 
 part-loader-load-end : tie.Need-part-loader-load-end
-part-loader-load-end c = let h : (c .before .before .before .form4 .given .0 .1 .0) ≤ length (now (c .before .before .before .before .before .before .before .args .arguments)) = ends (length (now (c .before .before .before .before .before .before .before .args .arguments))) (c .before .before .before .form4 .given .1) (c .before .before .before .before .before .before .before .pre .1) in let k : (c .before .before .before .form4 .given .0 .0) ≤ (c .before .before .before .form4 .given .0 .1 .0) = middles (c .before .before .before .form4 .given .1) (c .before .before .before .before .before .before .before .pre .0) in omega arith
+part-loader-load-end c =
+    let pre = c .before .before .before .before .before .before .before .pre in
+    ends _ (c .before .before .before .form4 .given .1) (pre .1)
 
 loader-load-requires : tie.Need-loader-load-requires
 loader-load-requires c κs = search needs

@@ -1,8 +1,8 @@
 -- `codes::call_at` meets its contract: one case for each of the four opcodes. Assumes nothing.
 use Prim.Native.Nat.{ℕ}
 use native.Mathlib.Omega.{arith}
-use mathlib.Core.List.{[], _∷_}
 use mathlib.Core.Path.{sym, ap, _∙_}
+use mathlib.Core.List.{[], _∷_}
 use borrow.Author.Needs.{needs}
 use denote.Ref.{now}
 use Rattle.rules.specs.Code.{virtual, special, static, interface}
@@ -15,21 +15,36 @@ shared-slice-read-opcode c = search needs
 
 returns : tie.Need-returns
 returns c =
-    let a = c .before .before .before .args in
-    (sym (no-call (now (a .code)) (a .offset .0) (λ e. omega arith) (λ e. omega arith) (λ e. omega arith) (λ e. omega arith)), tt)
+    let start = c .before .before .before in
+    let a = start .args in (
+      sym (no-call (now (a .code)) (a .offset .0) (λ e. omega arith) (λ e. omega arith) (λ e. omega arith)
+          (λ e. omega arith)),
+      tt,
+    )
+
+returns-2 : tie.Need-returns-2
+returns-2 c =
+    let start = c .before .before .before .before in
+    let a = start .args in (
+      sym (no-call (now (a .code)) (a .offset .0) (λ e. omega arith) (λ e. omega arith) (λ e. omega arith)
+          (λ e. omega arith)),
+      tt,
+    )
 
 add-u2-at : tie.Need-add-u2-at
 add-u2-at c = search needs
 
 u2-at-requires : tie.Need-u2-at-requires
 u2-at-requires c κs =
-    let a = c .before .before .before .before .args in
-    omega (arith, room-8B (now (a .code)) (a .offset .0) (c .if2 .taken) (c .before .before .before .before .pre .1))
+    let start = c .before .before .before .before .before in
+    let a = start .args in omega (arith, room-8B (now (a .code)) (a .offset .0) (c .if3 .taken) (start .pre .1))
 
-returns-2 : tie.Need-returns-2
-returns-2 c =
-    let a = c .before .before .before .before .before .args in (
-      ap (λ (n : ℕ). record { kind = virtual; index = n } ∷ []) (c .u2-at .ensures .0) ∙ sym (call-8B (now (a .code)) (a .offset .0) (c .before .if2 .taken)),
+returns-3 : tie.Need-returns-3
+returns-3 c =
+    let start = c .before .before .before .before .before .before in
+    let a = start .args in (
+      ap (λ (n : ℕ). record { kind = virtual; index = n } ∷ []) (c .u2-at .ensures .0) ∙ sym (call-8B (now (a .code)) (a .offset .0)
+          (c .before .if3 .taken)),
       c .u2-at .ensures .1,
     )
 
@@ -38,13 +53,15 @@ add-u2-at-2 c = search needs
 
 u2-at-requires-2 : tie.Need-u2-at-requires-2
 u2-at-requires-2 c κs =
-    let a = c .before .before .before .before .before .args in
-    omega (arith, room-8C (now (a .code)) (a .offset .0) (c .if3 .taken) (c .before .before .before .before .before .pre .1))
+    let start = c .before .before .before .before .before .before in
+    let a = start .args in omega (arith, room-8C (now (a .code)) (a .offset .0) (c .if4 .taken) (start .pre .1))
 
-returns-3 : tie.Need-returns-3
-returns-3 c =
-    let a = c .before .before .before .before .before .before .args in (
-      ap (λ (n : ℕ). record { kind = special; index = n } ∷ []) (c .u2-at2 .ensures .0) ∙ sym (call-8C (now (a .code)) (a .offset .0) (c .before .if3 .taken)),
+returns-4 : tie.Need-returns-4
+returns-4 c =
+    let start = c .before .before .before .before .before .before .before in
+    let a = start .args in (
+      ap (λ (n : ℕ). record { kind = special; index = n } ∷ []) (c .u2-at2 .ensures .0) ∙ sym (call-8C (now (a .code)) (a .offset .0)
+          (c .before .if4 .taken)),
       c .u2-at2 .ensures .1,
     )
 
@@ -53,13 +70,15 @@ add-u2-at-3 c = search needs
 
 u2-at-requires-3 : tie.Need-u2-at-requires-3
 u2-at-requires-3 c κs =
-    let a = c .before .before .before .before .before .before .args in
-    omega (arith, room-8D (now (a .code)) (a .offset .0) (c .if4 .taken) (c .before .before .before .before .before .before .pre .1))
+    let start = c .before .before .before .before .before .before .before in
+    let a = start .args in omega (arith, room-8D (now (a .code)) (a .offset .0) (c .if5 .taken) (start .pre .1))
 
-returns-4 : tie.Need-returns-4
-returns-4 c =
-    let a = c .before .before .before .before .before .before .before .args in (
-      ap (λ (n : ℕ). record { kind = static; index = n } ∷ []) (c .u2-at3 .ensures .0) ∙ sym (call-8D (now (a .code)) (a .offset .0) (c .before .if4 .taken)),
+returns-5 : tie.Need-returns-5
+returns-5 c =
+    let start = c .before .before .before .before .before .before .before .before in
+    let a = start .args in (
+      ap (λ (n : ℕ). record { kind = static; index = n } ∷ []) (c .u2-at3 .ensures .0) ∙ sym (call-8D (now (a .code)) (a .offset .0)
+          (c .before .if5 .taken)),
       c .u2-at3 .ensures .1,
     )
 
@@ -68,21 +87,16 @@ add-u2-at-4 c = search needs
 
 u2-at-requires-4 : tie.Need-u2-at-requires-4
 u2-at-requires-4 c κs =
-    let a = c .before .before .before .before .before .before .before .args in
-    omega (arith, room-8E (now (a .code)) (a .offset .0) (c .if5 .taken) (c .before .before .before .before .before .before .before .pre .1))
-
-returns-5 : tie.Need-returns-5
-returns-5 c =
-    let a = c .before .before .before .before .before .before .before .before .args in (
-      ap (λ (n : ℕ). record { kind = interface; index = n } ∷ []) (c .u2-at4 .ensures .0) ∙ sym (call-8E (now (a .code)) (a .offset .0) (c .before .if5 .taken)),
-      c .u2-at4 .ensures .1,
-    )
+    let start = c .before .before .before .before .before .before .before in
+    let a = start .args in omega (arith, room-8E (now (a .code)) (a .offset .0) (omega arith) (start .pre .1))
 
 returns-6 : tie.Need-returns-6
 returns-6 c =
-    let a = c .before .before .before .before .before .before .before .args in (
-      sym (no-call (now (a .code)) (a .offset .0) (c .before .before .before .if2 .left) (c .before .before .if3 .left) (c .before .if4 .left) (c .if5 .left)),
-      tt,
+    let start = c .before .before .before .before .before .before .before .before in
+    let a = start .args in (
+      ap (λ (n : ℕ). record { kind = interface; index = n } ∷ []) (c .u2-at4 .ensures .0) ∙ sym (call-8E (now (a .code)) (a .offset .0)
+          (omega arith)),
+      c .u2-at4 .ensures .1,
     )
 
 pub call-at-spec : {M : Type 1} → statement M
@@ -91,16 +105,16 @@ call-at-spec =
     (tie.spec
     shared-slice-read-opcode
     returns
+    returns-2
     add-u2-at
     u2-at-requires
-    returns-2
+    returns-3
     add-u2-at-2
     u2-at-requires-2
-    returns-3
+    returns-4
     add-u2-at-3
     u2-at-requires-3
-    returns-4
+    returns-5
     add-u2-at-4
     u2-at-requires-4
-    returns-5
     returns-6)

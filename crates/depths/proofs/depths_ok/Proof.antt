@@ -1,48 +1,87 @@
--- `depths::depths_ok` meets its contract: the loop passes one own class a turn, with the memo and the greatest depth so far. Assumes nothing.
-use Rattle.depths.specs.Depths as says
-use Rattle.depths.proofs.Figures as figures
-use Rattle.depths.proofs.Memo as memos
-use Rattle.depths.proofs.ParentKinds as kinds
-use Rattle.depths.proofs.Counts as counts
-use denote.Ref.{now}
-use Prim.Native.Nat.{_-_}
+-- `depths::depths_ok` meets its contract. Assumes nothing.
+use Prim.Native.Nat.{_-_, _≤_}
 use native.Mathlib.Omega.{arith}
+use mathlib.Core.Path.{_≡_, refl, subst}
+use lib.ListN.{length-set}
+use lib.ListN.{length}
+use denote.Ref.{now}
 use borrow.Author.Needs.{needs}
+use Rattle.named.specs.Named.{ClassStands, RowsTrue}
+use Rattle.depths.specs.Depths.{OwnTo}
+use Rattle.depths.proofs.Figures as figures
+use Rattle.depths.proofs.Walk as walk
+use Rattle.depths.proofs.Exist as exist
 use Rattle.depths.proofs.depths_ok.Statement.{statement}
 use Rattle.depths.proofs.depths_ok.Tie as tie
 
 abbrev Inv-loop : tie.InvT-loop
-Inv-loop f s end index most memo₀ base k n₀ figure₀ memo n figure = says.MemoIs f s end base most memo × figures.DepthsLeft f s end n figure
+Inv-loop f s homes rows₀ t depths₀ b imports n₀ figure₀ rows depths n figure = figures.KindsLeft f s (b .end) n × figures.DepthsLeft f s (b .end) n figure × OwnTo f s (b .end) n depths × RowsTrue f s (b .end) homes rows × (length rows ≡ length rows₀) × (length depths ≡ length depths₀) × (n ≤ 32)
 
 abbrev μ-loop : tie.MeasureT-loop
-μ-loop f s end index most memo₀ base k n₀ figure₀ memo n figure = k - n
+μ-loop f s homes rows₀ t depths₀ b imports n₀ figure₀ rows depths n figure = 32 - n
 
-class-count-requires : tie.Need-class-count-requires Inv-loop μ-loop
-class-count-requires c κs = counts.parents-read (now (c .before .before .args .f)) (now (c .before .before .args .s)) (c .before .before .args .end) (c .before .before .pre .0)
+import-count-requires : tie.Need-import-count-requires Inv-loop μ-loop
+import-count-requires c κs = (exist.judged-reads (now (c .before .before .before .before .before .args .f)) (now (c .before .before .before .before .before .args .s)) (c .before .before .before .before .before .args .b .end) ((c .before .before .before .before .before .pre .0 .0) .0, (c .before .before .before .before .before .pre .0 .0) .1, (c .before .before .before .before .before .pre .0 .0) .2 .imported))
 
 loop-holds : tie.Need-loop-holds Inv-loop μ-loop
-loop-holds c = (memos.memo-start (now (c .before .before .before .args .f)) (now (c .before .before .before .args .s)) (c .before .before .before .args .end) (c .before .before .before .args .base) (c .before .before .before .args .most) (now (c .before .before .before .args .memo)) (c .before .before .before .pre .1 .1 .0), figures.depths-start (now (c .before .before .before .args .f)) (now (c .before .before .before .args .s)) (c .before .before .before .args .end))
+loop-holds c = (figures.kinds-start (now (c .before .before .before .before .before .before .args .f)) (now (c .before .before .before .before .before .before .args .s)) (c .before .before .before .before .before .before .args .b .end), figures.depths-start (now (c .before .before .before .before .before .before .args .f)) (now (c .before .before .before .before .before .before .args .s)) (c .before .before .before .before .before .before .args .b .end), figures.own-start (now (c .before .before .before .before .before .before .args .f)) (now (c .before .before .before .before .before .before .args .s)) (c .before .before .before .before .before .before .args .b .end) (now (c .before .before .before .before .before .before .args .depths)) (c .before .before .before .before .before .before .pre .1 .1 .1 .1), (c .before .before .before .before .before .before .pre .1 .0), refl, refl, omega arith)
 
-class-depth-requires : tie.Need-class-depth-requires Inv-loop μ-loop
-class-depth-requires c κs = (kinds.own-class (now (c .before .before .before .before .before .before .args .f)) (now (c .before .before .before .before .before .before .args .s)) (c .before .before .before .before .before .before .args .end) (c .before .before .before .class-count .result) (c .before .before .before .class-count .ensures .0) (c .before .before .loop .n) (c .before .loop-test .taken) (c .before .before .before .before .before .before .pre .0), (c .before .before .before .before .before .before .pre .1 .0, (c .before .before .loop .inv .0, c .before .before .before .before .before .before .pre .1 .1 .1)))
+stands-at-requires : tie.Need-stands-at-requires Inv-loop μ-loop
+stands-at-requires c κs = ((exist.judged-reads (now (c .before .before .before .before .before .before .before .before .args .f)) (now (c .before .before .before .before .before .before .before .before .args .s)) (c .before .before .before .before .before .before .before .before .args .b .end) ((c .before .before .before .before .before .before .before .before .pre .0 .0) .0, (c .before .before .before .before .before .before .before .before .pre .0 .0) .1, (c .before .before .before .before .before .before .before .before .pre .0 .0) .2 .imported)), exist.own-row (now (c .before .before .before .before .before .before .before .before .args .f)) (now (c .before .before .before .before .before .before .before .before .args .s)) (c .before .before .before .before .before .before .before .before .args .b .end) (now (c .before .before .before .before .before .before .before .before .args .homes)) (c .before .loop .rows) (c .before .loop .inv .3))
+
+enum-known-place : tie.Need-enum-known-place Inv-loop μ-loop
+enum-known-place c = search needs
+
+own-depth-requires : tie.Need-own-depth-requires Inv-loop μ-loop
+own-depth-requires c κs = (((c .before .before .before .before .before .before .before .before .before .before .before .before .before .before .before .before .pre .0 .0), (c .before .before .before .before .before .before .before .before .before .before .before .before .before .before .before .before .pre .0 .1)), ((c .before .before .before .before .before .before .before .before .before .before .import-count .ensures, (subst (ClassStands (now (c .before .before .before .before .before .before .before .before .before .before .before .before .before .before .before .before .args .f)) (c .before .before .before .before .before .before .before .before .before .loop .n)) (c .before .before .before .place .given .1) (c .before .before .before .before .before .before .before .stands-at .ensures .0))), ((exist.own-written (now (c .before .before .before .before .before .before .before .before .before .before .before .before .before .before .before .before .args .f)) (now (c .before .before .before .before .before .before .before .before .before .before .before .before .before .before .before .before .args .s)) (c .before .before .before .before .before .before .before .before .before .before .before .before .before .before .before .before .args .b .end) (now (c .before .before .before .before .before .before .before .before .before .before .before .before .before .before .before .before .args .homes)) (c .before .before .before .before .before .before .before .before .before .loop .rows) (c .before .before .before .before .before .before .before .stands-at .last .1 .0) (c .before .before .before .before .before .before .before .stands-at .kept .1 .0) (c .before .before .before .before .before .before .before .before .before .loop .inv .3) (c .before .before .before .before .before .before .before .stands-at .ensures .1)), (((c .before .before .before .before .before .before .before .before .before .before .before .before .before .before .before .before .pre .1 .1 .0 .0), (c .before .before .before .before .before .before .before .before .before .before .before .before .before .before .before .before .pre .1 .1 .0 .1), c .before .before .before .before .before .before .before .before .before .loop .inv .2), (c .before .before .before .before .before .before .before .before .before .before .before .before .before .before .before .before .pre .1 .1 .1 .0)))))
+
+same-length : tie.Need-same-length Inv-loop μ-loop
+same-length c = omega (arith, c .before .before .before .before .before .before .before .before .before .before .before .before .before .loop .inv .4, c .before .before .before .before .before .before .before .before .before .before .before .stands-at .kept .1 .0, c .before .before .before .own-depth .kept .1 .1 .1 .0)
+
+same-length-2 : tie.Need-same-length-2 Inv-loop μ-loop
+same-length-2 c = c .before .before .before .before .before .before .before .before .before .before .before .before .before .loop .inv .5
 
 returns : tie.Need-returns Inv-loop μ-loop
-returns c = (figures.depths-bad (now (c .before .before .before .before .before .before .before .before .args .f)) (now (c .before .before .before .before .before .before .before .before .args .s)) (c .before .before .before .before .before .before .before .before .args .end) (c .before .before .before .before .before .class-count .result) (c .before .before .before .before .before .class-count .ensures .0) (c .before .before .before .before .loop .n) (c .before .before .before .before .loop .figure) (c .before .before .before .before .loop .inv .1) (c .before .before .before .before .before .before .before .before .args .most) (c .before .before .before .before .before .before .before .before .pre .1 .0 .1) (c .before .before .before .loop-test .taken) (c .before .class-depth .result) (c .before .class-depth .ensures .0) (c .if1 .taken), memos.memo-end (now (c .before .before .before .before .before .before .before .before .args .f)) (now (c .before .before .before .before .before .before .before .before .args .s)) (c .before .before .before .before .before .before .before .before .args .end) (c .before .before .before .before .before .before .before .before .args .base) (c .before .before .before .before .before .before .before .before .args .most) _ (c .before .class-depth .ensures .1))
+returns c = (figures.kinds-bad (now (c .before .before .before .before .before .before .before .before .before .before .before .before .before .before .before .before .before .before .before .before .args .f)) (now (c .before .before .before .before .before .before .before .before .before .before .before .before .before .before .before .before .before .before .before .before .args .s)) (c .before .before .before .before .before .before .before .before .before .before .before .before .before .before .before .before .before .before .before .before .args .b .end) (c .before .before .before .before .before .before .before .before .before .before .before .before .before .loop .n) (c .before .before .before .before .before .before .before .place .given .0 .0) (subst (ClassStands (now (c .before .before .before .before .before .before .before .before .before .before .before .before .before .before .before .before .before .before .before .before .args .f)) (c .before .before .before .before .before .before .before .before .before .before .before .before .before .loop .n)) (c .before .before .before .before .before .before .before .place .given .1) (c .before .before .before .before .before .before .before .before .before .before .before .stands-at .ensures .0)) (c .before .before .before .before .before .before .before .before .before .before .before .before .before .loop .depths) (c .before .before .before .before .before .before .before .before .before .before .before .before .before .loop .inv .0) (c .before .before .before .own-depth .ensures .0 .0 .bad (c .if1 .taken)), c .before .before .before .own-depth .ensures .1)
+
+same-length-3 : tie.Need-same-length-3 Inv-loop μ-loop
+same-length-3 c = omega (arith, c .before .before .before .before .before .before .before .before .before .before .before .before .before .before .before .loop .inv .4, c .before .before .before .before .before .before .before .before .before .before .before .before .before .stands-at .kept .1 .0, c .before .before .before .before .before .own-depth .kept .1 .1 .1 .0)
+
+same-length-4 : tie.Need-same-length-4 Inv-loop μ-loop
+same-length-4 c = c .before .before .before .before .before .before .before .before .before .before .before .before .before .before .before .loop .inv .5
+
+returns-2 : tie.Need-returns-2 Inv-loop μ-loop
+returns-2 c = (figures.depths-bad (now (c .before .before .before .before .before .before .before .before .before .before .before .before .before .before .before .before .before .before .before .before .before .before .args .f)) (now (c .before .before .before .before .before .before .before .before .before .before .before .before .before .before .before .before .before .before .before .before .before .before .args .s)) (c .before .before .before .before .before .before .before .before .before .before .before .before .before .before .before .before .before .before .before .before .before .before .args .b .end) (c .before .before .before .before .before .before .before .before .before .before .before .before .before .before .before .loop .n) (c .before .before .before .before .before .before .before .before .before .place .given .0 .0) (subst (ClassStands (now (c .before .before .before .before .before .before .before .before .before .before .before .before .before .before .before .before .before .before .before .before .before .before .args .f)) (c .before .before .before .before .before .before .before .before .before .before .before .before .before .before .before .loop .n)) (c .before .before .before .before .before .before .before .before .before .place .given .1) (c .before .before .before .before .before .before .before .before .before .before .before .before .before .stands-at .ensures .0)) (c .before .before .before .before .before .before .before .before .before .before .before .before .before .before .before .loop .figure) (c .before .before .before .before .before .before .before .before .before .before .before .before .before .before .before .loop .inv .1) (c .before .before .before .before .before .before .before .before .before .before .before .before .before .before .before .before .before .before .before .before .before .before .args .b .most) (c .before .before .before .before .before .before .before .before .before .before .before .before .before .before .before .before .before .before .before .before .before .before .pre .1 .1 .1 .0) (c .before .before .before .before .before .own-depth .result) (c .before .before .before .before .before .own-depth .ensures .0 .0 .depth (omega (arith, c .before .before .if1 .left))) (c .before .before .before .before .before .before .before .before .before .before .before .before .before .before .before .loop .depths) (c .if2 .taken), c .before .before .before .before .before .own-depth .ensures .1)
+
+cast-depths : tie.Need-cast-depths Inv-loop μ-loop
+cast-depths c = omega (arith, c .if2 .left, walk.depth-small (now (c .before .before .before .before .before .before .before .before .before .before .before .before .before .before .before .before .before .before .before .before .before .before .args .s)) (c .before .before .before .before .before .before .before .before .before .before .before .before .before .before .before .before .before .before .before .before .before .before .args .b .most) (c .before .before .before .before .before .before .before .before .before .before .before .before .before .before .before .before .before .before .before .before .before .before .pre .1 .1 .1 .0))
+
+slice-write-depths : tie.Need-slice-write-depths Inv-loop μ-loop
+slice-write-depths c = omega (arith, (exist.own-few (now (c .before .before .before .before .before .before .before .before .before .before .before .before .before .before .before .before .before .before .before .before .before .before .args .f)) (c .before .before .before .before .before .before .before .before .before .before .before .before .before .before .before .loop .n) (c .before .before .before .before .before .before .before .before .before .place .given .0 .0) (exist.judged-reads (now (c .before .before .before .before .before .before .before .before .before .before .before .before .before .before .before .before .before .before .before .before .before .before .args .f)) (now (c .before .before .before .before .before .before .before .before .before .before .before .before .before .before .before .before .before .before .before .before .before .before .args .s)) (c .before .before .before .before .before .before .before .before .before .before .before .before .before .before .before .before .before .before .before .before .before .before .args .b .end) ((c .before .before .before .before .before .before .before .before .before .before .before .before .before .before .before .before .before .before .before .before .before .before .pre .0 .0) .0, (c .before .before .before .before .before .before .before .before .before .before .before .before .before .before .before .before .before .before .before .before .before .before .pre .0 .0) .1, (c .before .before .before .before .before .before .before .before .before .before .before .before .before .before .before .before .before .before .before .before .before .before .pre .0 .0) .2 .imported)) (subst (ClassStands (now (c .before .before .before .before .before .before .before .before .before .before .before .before .before .before .before .before .before .before .before .before .before .before .args .f)) (c .before .before .before .before .before .before .before .before .before .before .before .before .before .before .before .loop .n)) (c .before .before .before .before .before .before .before .before .before .place .given .1) (c .before .before .before .before .before .before .before .before .before .before .before .before .before .stands-at .ensures .0))), c .before .before .before .before .before .before .before .before .before .before .before .before .before .before .before .loop .inv .2 .size)
 
 larger-requires : tie.Need-larger-requires Inv-loop μ-loop
 larger-requires c κs = search needs
 
 add-n : tie.Need-add-n Inv-loop μ-loop
-add-n c = omega (arith, c .before .before .before .before .before .before .class-count .ensures .1)
+add-n c = omega (arith, (exist.own-few (now (c .before .before .before .before .before .before .before .before .before .before .before .before .before .before .before .before .before .before .before .before .before .before .before .args .f)) (c .before .before .before .before .before .before .before .before .before .before .before .before .before .before .before .before .loop .n) (c .before .before .before .before .before .before .before .before .before .before .place .given .0 .0) (exist.judged-reads (now (c .before .before .before .before .before .before .before .before .before .before .before .before .before .before .before .before .before .before .before .before .before .before .before .args .f)) (now (c .before .before .before .before .before .before .before .before .before .before .before .before .before .before .before .before .before .before .before .before .before .before .before .args .s)) (c .before .before .before .before .before .before .before .before .before .before .before .before .before .before .before .before .before .before .before .before .before .before .before .args .b .end) ((c .before .before .before .before .before .before .before .before .before .before .before .before .before .before .before .before .before .before .before .before .before .before .before .pre .0 .0) .0, (c .before .before .before .before .before .before .before .before .before .before .before .before .before .before .before .before .before .before .before .before .before .before .before .pre .0 .0) .1, (c .before .before .before .before .before .before .before .before .before .before .before .before .before .before .before .before .before .before .before .before .before .before .before .pre .0 .0) .2 .imported)) (subst (ClassStands (now (c .before .before .before .before .before .before .before .before .before .before .before .before .before .before .before .before .before .before .before .before .before .before .before .args .f)) (c .before .before .before .before .before .before .before .before .before .before .before .before .before .before .before .before .loop .n)) (c .before .before .before .before .before .before .before .before .before .before .place .given .1) (c .before .before .before .before .before .before .before .before .before .before .before .before .before .before .stands-at .ensures .0))))
 
 loop-less : tie.Need-loop-less Inv-loop μ-loop
-loop-less c = omega arith
+loop-less c = omega (arith, (exist.own-few (now (c .before .before .before .before .before .before .before .before .before .before .before .before .before .before .before .before .before .before .before .before .before .before .before .args .f)) (c .before .before .before .before .before .before .before .before .before .before .before .before .before .before .before .before .loop .n) (c .before .before .before .before .before .before .before .before .before .before .place .given .0 .0) (exist.judged-reads (now (c .before .before .before .before .before .before .before .before .before .before .before .before .before .before .before .before .before .before .before .before .before .before .before .args .f)) (now (c .before .before .before .before .before .before .before .before .before .before .before .before .before .before .before .before .before .before .before .before .before .before .before .args .s)) (c .before .before .before .before .before .before .before .before .before .before .before .before .before .before .before .before .before .before .before .before .before .before .before .args .b .end) ((c .before .before .before .before .before .before .before .before .before .before .before .before .before .before .before .before .before .before .before .before .before .before .before .pre .0 .0) .0, (c .before .before .before .before .before .before .before .before .before .before .before .before .before .before .before .before .before .before .before .before .before .before .before .pre .0 .0) .1, (c .before .before .before .before .before .before .before .before .before .before .before .before .before .before .before .before .before .before .before .before .before .before .before .pre .0 .0) .2 .imported)) (subst (ClassStands (now (c .before .before .before .before .before .before .before .before .before .before .before .before .before .before .before .before .before .before .before .before .before .before .before .args .f)) (c .before .before .before .before .before .before .before .before .before .before .before .before .before .before .before .before .loop .n)) (c .before .before .before .before .before .before .before .before .before .before .place .given .1) (c .before .before .before .before .before .before .before .before .before .before .before .before .before .before .stands-at .ensures .0))))
 
 loop-again : tie.Need-loop-again Inv-loop μ-loop
-loop-again c = (c .before .before .class-depth .ensures .1, figures.depths-more (now (c .before .before .before .before .before .before .before .before .before .args .f)) (now (c .before .before .before .before .before .before .before .before .before .args .s)) (c .before .before .before .before .before .before .before .before .before .args .end) (c .before .before .before .before .before .before .class-count .result) (c .before .before .before .before .before .before .class-count .ensures .0) (c .before .before .before .before .before .loop .n) (c .before .before .before .before .before .loop .figure) (c .before .before .before .before .before .loop .inv .1) (c .before .before .before .before .before .before .before .before .before .args .most) (c .before .before .before .before .before .before .before .before .before .pre .1 .0 .1) (c .before .before .before .before .loop-test .taken) (c .before .before .class-depth .result) (c .before .before .class-depth .ensures .0) (c .before .if1 .left) (c .larger .result) (c .larger .ensures))
+loop-again c = (figures.kinds-next (now (c .before .before .before .before .before .before .before .before .before .before .before .before .before .before .before .before .before .before .before .before .before .before .before .args .f)) (now (c .before .before .before .before .before .before .before .before .before .before .before .before .before .before .before .before .before .before .before .before .before .before .before .args .s)) (c .before .before .before .before .before .before .before .before .before .before .before .before .before .before .before .before .before .before .before .before .before .before .before .args .b .end) (c .before .before .before .before .before .before .before .before .before .before .before .before .before .before .before .before .loop .n) (c .before .before .before .before .before .before .before .before .before .before .place .given .0 .0) (subst (ClassStands (now (c .before .before .before .before .before .before .before .before .before .before .before .before .before .before .before .before .before .before .before .before .before .before .before .args .f)) (c .before .before .before .before .before .before .before .before .before .before .before .before .before .before .before .before .loop .n)) (c .before .before .before .before .before .before .before .before .before .before .place .given .1) (c .before .before .before .before .before .before .before .before .before .before .before .before .before .before .stands-at .ensures .0)) (c .before .before .before .before .before .before .before .before .before .before .before .before .before .before .before .before .loop .inv .0) (c .before .before .before .before .before .before .own-depth .ensures .0 .0 .right (omega (arith, c .before .before .before .if1 .left))), figures.depths-more (now (c .before .before .before .before .before .before .before .before .before .before .before .before .before .before .before .before .before .before .before .before .before .before .before .args .f)) (now (c .before .before .before .before .before .before .before .before .before .before .before .before .before .before .before .before .before .before .before .before .before .before .before .args .s)) (c .before .before .before .before .before .before .before .before .before .before .before .before .before .before .before .before .before .before .before .before .before .before .before .args .b .end) (c .before .before .before .before .before .before .before .before .before .before .before .before .before .before .before .before .loop .n) (c .before .before .before .before .before .before .before .before .before .before .place .given .0 .0) (subst (ClassStands (now (c .before .before .before .before .before .before .before .before .before .before .before .before .before .before .before .before .before .before .before .before .before .before .before .args .f)) (c .before .before .before .before .before .before .before .before .before .before .before .before .before .before .before .before .loop .n)) (c .before .before .before .before .before .before .before .before .before .before .place .given .1) (c .before .before .before .before .before .before .before .before .before .before .before .before .before .before .stands-at .ensures .0)) (c .before .before .before .before .before .before .before .before .before .before .before .before .before .before .before .before .loop .figure) (c .before .before .before .before .before .before .before .before .before .before .before .before .before .before .before .before .loop .inv .1) (c .before .before .before .before .before .before .before .before .before .before .before .before .before .before .before .before .before .before .before .before .before .before .before .args .b .most) (c .before .before .before .before .before .before .before .before .before .before .before .before .before .before .before .before .before .before .before .before .before .before .before .pre .1 .1 .1 .0) (c .before .before .before .before .before .before .own-depth .result) (c .before .before .before .before .before .before .own-depth .ensures .0 .0 .depth (omega (arith, c .before .before .before .if1 .left))) (c .before .if2 .left) (c .larger .result) (c .larger .ensures), figures.own-more (now (c .before .before .before .before .before .before .before .before .before .before .before .before .before .before .before .before .before .before .before .before .before .before .before .args .f)) (now (c .before .before .before .before .before .before .before .before .before .before .before .before .before .before .before .before .before .before .before .before .before .before .before .args .s)) (c .before .before .before .before .before .before .before .before .before .before .before .before .before .before .before .before .before .before .before .before .before .before .before .args .b .end) (c .before .before .before .before .before .before .before .before .before .before .before .before .before .before .before .before .loop .n) (c .before .before .before .before .before .before .own-depth .result) (c .before .before .before .before .before .before .before .before .before .before .before .before .before .before .before .before .loop .depths) (exist.own-few (now (c .before .before .before .before .before .before .before .before .before .before .before .before .before .before .before .before .before .before .before .before .before .before .before .args .f)) (c .before .before .before .before .before .before .before .before .before .before .before .before .before .before .before .before .loop .n) (c .before .before .before .before .before .before .before .before .before .before .place .given .0 .0) (exist.judged-reads (now (c .before .before .before .before .before .before .before .before .before .before .before .before .before .before .before .before .before .before .before .before .before .before .before .args .f)) (now (c .before .before .before .before .before .before .before .before .before .before .before .before .before .before .before .before .before .before .before .before .before .before .before .args .s)) (c .before .before .before .before .before .before .before .before .before .before .before .before .before .before .before .before .before .before .before .before .before .before .before .args .b .end) ((c .before .before .before .before .before .before .before .before .before .before .before .before .before .before .before .before .before .before .before .before .before .before .before .pre .0 .0) .0, (c .before .before .before .before .before .before .before .before .before .before .before .before .before .before .before .before .before .before .before .before .before .before .before .pre .0 .0) .1, (c .before .before .before .before .before .before .before .before .before .before .before .before .before .before .before .before .before .before .before .before .before .before .before .pre .0 .0) .2 .imported)) (subst (ClassStands (now (c .before .before .before .before .before .before .before .before .before .before .before .before .before .before .before .before .before .before .before .before .before .before .before .args .f)) (c .before .before .before .before .before .before .before .before .before .before .before .before .before .before .before .before .loop .n)) (c .before .before .before .before .before .before .before .before .before .before .place .given .1) (c .before .before .before .before .before .before .before .before .before .before .before .before .before .before .stands-at .ensures .0))) (c .before .before .before .before .before .before .before .before .before .before .before .before .before .before .before .before .loop .inv .2) (c .before .before .before .before .before .before .own-depth .ensures .0 .0 .depth (omega (arith, c .before .before .before .if1 .left))), c .before .before .before .before .before .before .own-depth .ensures .1, omega (arith, c .before .before .before .before .before .before .before .before .before .before .before .before .before .before .before .before .loop .inv .4, c .before .before .before .before .before .before .before .before .before .before .before .before .before .before .stands-at .kept .1 .0, c .before .before .before .before .before .before .own-depth .kept .1 .1 .1 .0), simp length-set (c .before .before .before .before .before .before .before .before .before .before .before .before .before .before .before .before .loop .inv .5), omega (arith, (exist.own-few (now (c .before .before .before .before .before .before .before .before .before .before .before .before .before .before .before .before .before .before .before .before .before .before .before .args .f)) (c .before .before .before .before .before .before .before .before .before .before .before .before .before .before .before .before .loop .n) (c .before .before .before .before .before .before .before .before .before .before .place .given .0 .0) (exist.judged-reads (now (c .before .before .before .before .before .before .before .before .before .before .before .before .before .before .before .before .before .before .before .before .before .before .before .args .f)) (now (c .before .before .before .before .before .before .before .before .before .before .before .before .before .before .before .before .before .before .before .before .before .before .before .args .s)) (c .before .before .before .before .before .before .before .before .before .before .before .before .before .before .before .before .before .before .before .before .before .before .before .args .b .end) ((c .before .before .before .before .before .before .before .before .before .before .before .before .before .before .before .before .before .before .before .before .before .before .before .pre .0 .0) .0, (c .before .before .before .before .before .before .before .before .before .before .before .before .before .before .before .before .before .before .before .before .before .before .before .pre .0 .0) .1, (c .before .before .before .before .before .before .before .before .before .before .before .before .before .before .before .before .before .before .before .before .before .before .before .pre .0 .0) .2 .imported)) (subst (ClassStands (now (c .before .before .before .before .before .before .before .before .before .before .before .before .before .before .before .before .before .before .before .before .before .before .before .args .f)) (c .before .before .before .before .before .before .before .before .before .before .before .before .before .before .before .before .loop .n)) (c .before .before .before .before .before .before .before .before .before .before .place .given .1) (c .before .before .before .before .before .before .before .before .before .before .before .before .before .before .stands-at .ensures .0)))))
 
-returns-2 : tie.Need-returns-2 Inv-loop μ-loop
-returns-2 c = (figures.depths-done (now (c .before .before .before .before .before .args .f)) (now (c .before .before .before .before .before .args .s)) (c .before .before .before .before .before .args .end) (c .before .before .class-count .result) (c .before .before .class-count .ensures .0) (c .before .loop .n) (c .before .loop .figure) (c .before .loop .inv .1) (c .before .before .before .before .before .args .most) (c .before .before .before .before .before .pre .1 .0 .1) (c .loop-test .left), memos.memo-end (now (c .before .before .before .before .before .args .f)) (now (c .before .before .before .before .before .args .s)) (c .before .before .before .before .before .args .end) (c .before .before .before .before .before .args .base) (c .before .before .before .before .before .args .most) (c .before .loop .memo) (c .before .loop .inv .0))
+enum-told : tie.Need-enum-told Inv-loop μ-loop
+enum-told c = search needs
+
+same-length-5 : tie.Need-same-length-5 Inv-loop μ-loop
+same-length-5 c = omega (arith, c .before .before .before .before .before .before .loop .inv .4, c .before .before .before .before .stands-at .kept .1 .0)
+
+same-length-6 : tie.Need-same-length-6 Inv-loop μ-loop
+same-length-6 c = c .before .before .before .before .before .before .loop .inv .5
+
+returns-3 : tie.Need-returns-3 Inv-loop μ-loop
+returns-3 c = (figures.later-done (now (c .before .before .before .before .before .before .before .before .before .before .before .before .before .args .f)) (now (c .before .before .before .before .before .before .before .before .before .before .before .before .before .args .s)) (c .before .before .before .before .before .before .before .before .before .before .before .before .before .args .b .end) (c .before .before .before .before .before .before .loop .n) (subst (ClassStands (now (c .before .before .before .before .before .before .before .before .before .before .before .before .before .args .f)) (c .before .before .before .before .before .before .loop .n)) (c .enum-told .given .1) (c .before .before .before .before .stands-at .ensures .0)) (c .before .before .before .before .before .before .loop .figure) (c .before .before .before .before .before .before .loop .depths) (c .before .before .before .before .before .before .loop .inv .0) (c .before .before .before .before .before .before .loop .inv .1) (c .before .before .before .before .before .before .loop .inv .2), (exist.own-written (now (c .before .before .before .before .before .before .before .before .before .before .before .before .before .args .f)) (now (c .before .before .before .before .before .before .before .before .before .before .before .before .before .args .s)) (c .before .before .before .before .before .before .before .before .before .before .before .before .before .args .b .end) (now (c .before .before .before .before .before .before .before .before .before .before .before .before .before .args .homes)) (c .before .before .before .before .before .before .loop .rows) (c .before .before .before .before .stands-at .last .1 .0) (c .before .before .before .before .stands-at .kept .1 .0) (c .before .before .before .before .before .before .loop .inv .3) (c .before .before .before .before .stands-at .ensures .1)))
 
 pub depths-ok-spec : {M : Type 1} → statement M
 depths-ok-spec =
@@ -50,12 +89,24 @@ depths-ok-spec =
     (tie.spec
     Inv-loop
     μ-loop
-    class-count-requires
+    import-count-requires
     loop-holds
-    class-depth-requires
+    stands-at-requires
+    enum-known-place
+    own-depth-requires
+    same-length
+    same-length-2
     returns
+    same-length-3
+    same-length-4
+    returns-2
+    cast-depths
+    slice-write-depths
     larger-requires
     add-n
     loop-less
     loop-again
-    returns-2)
+    enum-told
+    same-length-5
+    same-length-6
+    returns-3)

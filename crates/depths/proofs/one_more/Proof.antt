@@ -1,7 +1,7 @@
 -- `depths::one_more` meets its contract. Assumes nothing.
-use Rattle.depths.proofs.Walk as walk
 use native.Mathlib.Omega.{arith}
 use borrow.Author.Needs.{needs}
+use Rattle.depths.proofs.Walk as walk
 use Rattle.depths.proofs.one_more.Statement.{statement}
 use Rattle.depths.proofs.one_more.Tie as tie
 

@@ -1,54 +1,56 @@
--- `judge::load_answer` meets its contract. Assumes nothing.
-use Rattle.cursor.specs.Limits.{limitsOf}
-use Rattle.rules.specs.Store.{domain}
-use Rattle.judge.specs.Says.{CreatedSays}
-use denote.Ref.{now}
-use Rattle.judge.proofs.Entered as entered
-use Rattle.judge.proofs.Loading as loading
-use mathlib.Core.Path.{refl, sym, _∙_, subst}
+use Rattle.store.proofs.Sound.{over-stand, created-is}
+use Rattle.store.specs.declared.Spot.{Spot}
+use Rattle.store.specs.Answers.{spot}
+use Rattle.rules.specs.Bytes.{isSome}
 use borrow.Author.Tests.{not-true, not-false}
+use mathlib.Core.Path.{sym, _∙_, ap}
+use denote.Ref.{now}
+use Rattle.judge.proofs.Loading as loading
+-- `judge::load_answer` meets its contract. Assumes nothing.
 use borrow.Author.Needs.{needs}
 use Rattle.judge.proofs.load_answer.Statement.{statement}
 use Rattle.judge.proofs.load_answer.Tie as tie
+use Rattle.judge.proofs.load_answer.Reads as reads
+use Rattle.judge.proofs.load_answer.Lts as lts
+use Rattle.cursor.proofs.length_ok.Reads as length-ok-reads
+use Rattle.judge.proofs.file_answer.Reads as file-answer-reads
+use Rattle.store.proofs.find_domain.Reads as find-domain-reads
 
 length-ok-requires : tie.Need-length-ok-requires
 length-ok-requires c κs = search needs
 
 returns : tie.Need-returns
-returns c = (loading.load-3 (now (c .before .before .before .before .before .before .args .s)) (c .before .before .before .before .before .before .args .end) (now (c .before .before .before .before .before .before .args .domain)) (now (c .before .before .before .before .before .before .args .file)) (sym (c .before .length-ok .ensures) ∙ (not-true (c .before .length-ok .result) (c .if1 .taken))), (refl, entered.memo-refused (c .before .before .before .before .before .before .args .end) (now (c .before .before .before .before .before .before .args .domain)) (now (c .before .before .before .before .before .before .args .file)) 3 _))
+returns c =
+    let a = c .before .before .before .before .before .before .before .before .args in
+    loading.load-3 (now (a .s)) (a .end) (now (a .domain)) (now (a .file)) (sym (c .before .length-ok .ensures) ∙ not-true (c .before .length-ok .result) (c .if1 .taken))
 
-domain-there-requires : tie.Need-domain-there-requires
-domain-there-requires c κs = c .before .before .before .before .before .before .pre .1 .1 .1 .0
-
-returns-2 : tie.Need-returns-2
-returns-2 c = (loading.load-5 (now (c .before .before .before .before .before .before .before .before .args .s)) (c .before .before .before .before .before .before .before .before .args .end) (now (c .before .before .before .before .before .before .before .before .args .domain)) (now (c .before .before .before .before .before .before .before .before .args .file)) (sym (c .before .before .before .length-ok .ensures) ∙ (not-false (c .before .before .before .length-ok .result) (c .before .before .if1 .left))) (subst (CreatedSays (now (c .before .before .before .before .before .before .before .before .args .s)) (c .before .before .before .before .before .before .before .before .args .end) (now (c .before .before .before .before .before .before .before .before .args .domain))) (not-true (c .before .domain-there .result) (c .if2 .taken)) (entered.created-there (now (c .before .before .before .before .before .before .before .before .args .s)) (c .before .before .before .before .before .before .before .before .args .end) (now (c .before .before .before .before .before .before .before .before .args .domain)) (c .before .domain-there .result) (c .before .domain-there .ensures))), (refl, entered.memo-refused (c .before .before .before .before .before .before .before .before .args .end) (now (c .before .before .before .before .before .before .before .before .args .domain)) (now (c .before .before .before .before .before .before .before .before .args .file)) 5 _))
-
-read-package-requires : tie.Need-read-package-requires
-read-package-requires c κs = search needs
+find-domain-requires : tie.Need-find-domain-requires
+find-domain-requires c κs = over-stand (now (c .before .before .before .before .before .before .before .before .args .s)) (c .before .before .before .before .before .before .before .before .args .end) (c .before .before .before .before .before .before .before .before .pre .0)
 
 enum-told : tie.Need-enum-told
 enum-told c = search needs
 
+file-answer-requires : tie.Need-file-answer-requires
+file-answer-requires c κs = search needs
+
 enum-told-2 : tie.Need-enum-told-2
 enum-told-2 c = search needs
-
-enum-told-3 : tie.Need-enum-told-3
-enum-told-3 c = search needs
-
-package-answer-requires : tie.Need-package-answer-requires
-package-answer-requires c κs = (((c .before .before .before .before .before .before .before .before .before .before .before .before .before .pre .0) .0, (loading.said-0 (now (c .before .before .before .before .before .before .before .before .before .before .before .before .before .args .s)) (limitsOf (c .before .before .before .before .before .before .before .before .before .before .before .before .before .args .limits)) (c .before .before .before .before .before .before .before .before .before .before .before .before .before .pre .1 .1 .0 .2) (now (c .before .before .before .before .before .before .before .before .before .before .before .before .before .args .file)) (c .before .before .before .before .read-package .result) (c .before .before .enum-told3 .given .0 .0) (c .before .before .enum-told3 .given .1) (c .before .before .before .before .read-package .ensures)) .1 .0, (c .before .before .before .before .before .before .before .before .before .before .before .before .before .pre .0) .1, (loading.said-0 (now (c .before .before .before .before .before .before .before .before .before .before .before .before .before .args .s)) (limitsOf (c .before .before .before .before .before .before .before .before .before .before .before .before .before .args .limits)) (c .before .before .before .before .before .before .before .before .before .before .before .before .before .pre .1 .1 .0 .2) (now (c .before .before .before .before .before .before .before .before .before .before .before .before .before .args .file)) (c .before .before .before .before .read-package .result) (c .before .before .enum-told3 .given .0 .0) (c .before .before .enum-told3 .given .1) (c .before .before .before .before .read-package .ensures)) .1 .1), c .before .before .before .before .before .before .before .before .before .before .before .before .before .pre .1)
-
-returns-3 : tie.Need-returns-3
-returns-3 c = (loading.load-10 (now (c .before .before .before .before .before .before .before .before .before .before .before .args .s)) (c .before .before .before .before .before .before .before .before .before .before .before .args .end) (now (c .before .before .before .before .before .before .before .before .before .before .before .args .domain)) (now (c .before .before .before .before .before .before .before .before .before .before .before .args .file)) (sym (c .before .before .before .before .before .before .length-ok .ensures) ∙ (not-false (c .before .before .before .before .before .before .length-ok .result) (c .before .before .before .before .before .if1 .left))) (subst (CreatedSays (now (c .before .before .before .before .before .before .before .before .before .before .before .args .s)) (c .before .before .before .before .before .before .before .before .before .before .before .args .end) (now (c .before .before .before .before .before .before .before .before .before .before .before .args .domain))) (not-false (c .before .before .before .before .domain-there .result) (c .before .before .before .if2 .left)) (entered.created-there (now (c .before .before .before .before .before .before .before .before .before .before .before .args .s)) (c .before .before .before .before .before .before .before .before .before .before .before .args .end) (now (c .before .before .before .before .before .before .before .before .before .before .before .args .domain)) (c .before .before .before .before .domain-there .result) (c .before .before .before .before .domain-there .ensures))) (loading.said-10 (now (c .before .before .before .before .before .before .before .before .before .before .before .args .s)) (limitsOf (c .before .before .before .before .before .before .before .before .before .before .before .args .limits)) (c .before .before .before .before .before .before .before .before .before .before .before .pre .1 .1 .0 .2) (now (c .before .before .before .before .before .before .before .before .before .before .before .args .file)) (c .before .before .read-package .result) (c .enum-told .given .1) (c .before .before .read-package .ensures)), (refl, entered.memo-refused (c .before .before .before .before .before .before .before .before .before .before .before .args .end) (now (c .before .before .before .before .before .before .before .before .before .before .before .args .domain)) (now (c .before .before .before .before .before .before .before .before .before .before .before .args .file)) 10 _))
-
-returns-4 : tie.Need-returns-4
-returns-4 c = (loading.load-11 (now (c .before .before .before .before .before .before .before .before .before .before .before .args .s)) (c .before .before .before .before .before .before .before .before .before .before .before .args .end) (now (c .before .before .before .before .before .before .before .before .before .before .before .args .domain)) (now (c .before .before .before .before .before .before .before .before .before .before .before .args .file)) (sym (c .before .before .before .before .before .before .length-ok .ensures) ∙ (not-false (c .before .before .before .before .before .before .length-ok .result) (c .before .before .before .before .before .if1 .left))) (subst (CreatedSays (now (c .before .before .before .before .before .before .before .before .before .before .before .args .s)) (c .before .before .before .before .before .before .before .before .before .before .before .args .end) (now (c .before .before .before .before .before .before .before .before .before .before .before .args .domain))) (not-false (c .before .before .before .before .domain-there .result) (c .before .before .before .if2 .left)) (entered.created-there (now (c .before .before .before .before .before .before .before .before .before .before .before .args .s)) (c .before .before .before .before .before .before .before .before .before .before .before .args .end) (now (c .before .before .before .before .before .before .before .before .before .before .before .args .domain)) (c .before .before .before .before .domain-there .result) (c .before .before .before .before .domain-there .ensures))) ((loading.said-11 (now (c .before .before .before .before .before .before .before .before .before .before .before .args .s)) (limitsOf (c .before .before .before .before .before .before .before .before .before .before .before .args .limits)) (c .before .before .before .before .before .before .before .before .before .before .before .pre .1 .1 .0 .2) (now (c .before .before .before .before .before .before .before .before .before .before .before .args .file)) (c .before .before .read-package .result) (c .enum-told2 .given .1) (c .before .before .read-package .ensures)) .0) ((loading.said-11 (now (c .before .before .before .before .before .before .before .before .before .before .before .args .s)) (limitsOf (c .before .before .before .before .before .before .before .before .before .before .before .args .limits)) (c .before .before .before .before .before .before .before .before .before .before .before .pre .1 .1 .0 .2) (now (c .before .before .before .before .before .before .before .before .before .before .before .args .file)) (c .before .before .read-package .result) (c .enum-told2 .given .1) (c .before .before .read-package .ensures)) .1), (refl, entered.memo-refused (c .before .before .before .before .before .before .before .before .before .before .before .args .end) (now (c .before .before .before .before .before .before .before .before .before .before .before .args .domain)) (now (c .before .before .before .before .before .before .before .before .before .before .before .args .file)) 11 _))
 
 same-length : tie.Need-same-length
 same-length c = search needs
 
-returns-5 : tie.Need-returns-5
-returns-5 c = (loading.load-reads (now (c .before .before .before .before .before .before .before .before .before .before .before .before .before .before .before .before .args .s)) (c .before .before .before .before .before .before .before .before .before .before .before .before .before .before .before .before .args .end) (now (c .before .before .before .before .before .before .before .before .before .before .before .before .before .before .before .before .args .domain)) (now (c .before .before .before .before .before .before .before .before .before .before .before .before .before .before .before .before .args .file)) (sym (c .before .before .before .before .before .before .before .before .before .before .before .length-ok .ensures) ∙ (not-false (c .before .before .before .before .before .before .before .before .before .before .before .length-ok .result) (c .before .before .before .before .before .before .before .before .before .before .if1 .left))) (subst (CreatedSays (now (c .before .before .before .before .before .before .before .before .before .before .before .before .before .before .before .before .args .s)) (c .before .before .before .before .before .before .before .before .before .before .before .before .before .before .before .before .args .end) (now (c .before .before .before .before .before .before .before .before .before .before .before .before .before .before .before .before .args .domain))) (not-false (c .before .before .before .before .before .before .before .before .before .domain-there .result) (c .before .before .before .before .before .before .before .before .if2 .left)) (entered.created-there (now (c .before .before .before .before .before .before .before .before .before .before .before .before .before .before .before .before .args .s)) (c .before .before .before .before .before .before .before .before .before .before .before .before .before .before .before .before .args .end) (now (c .before .before .before .before .before .before .before .before .before .before .before .before .before .before .before .before .args .domain)) (c .before .before .before .before .before .before .before .before .before .domain-there .result) (c .before .before .before .before .before .before .before .before .before .domain-there .ensures))) ((loading.said-0 (now (c .before .before .before .before .before .before .before .before .before .before .before .before .before .before .before .before .args .s)) (limitsOf (c .before .before .before .before .before .before .before .before .before .before .before .before .before .before .before .before .args .limits)) (c .before .before .before .before .before .before .before .before .before .before .before .before .before .before .before .before .pre .1 .1 .0 .2) (now (c .before .before .before .before .before .before .before .before .before .before .before .before .before .before .before .before .args .file)) (c .before .before .before .before .before .before .before .read-package .result) (c .before .before .before .before .before .enum-told3 .given .0 .0) (c .before .before .before .before .before .enum-told3 .given .1) (c .before .before .before .before .before .before .before .read-package .ensures)) .0) ((loading.said-0 (now (c .before .before .before .before .before .before .before .before .before .before .before .before .before .before .before .before .args .s)) (limitsOf (c .before .before .before .before .before .before .before .before .before .before .before .before .before .before .before .before .args .limits)) (c .before .before .before .before .before .before .before .before .before .before .before .before .before .before .before .before .pre .1 .1 .0 .2) (now (c .before .before .before .before .before .before .before .before .before .before .before .before .before .before .before .before .args .file)) (c .before .before .before .before .before .before .before .read-package .result) (c .before .before .before .before .before .enum-told3 .given .0 .0) (c .before .before .before .before .before .enum-told3 .given .1) (c .before .before .before .before .before .before .before .read-package .ensures)) .1 .0) ((loading.said-0 (now (c .before .before .before .before .before .before .before .before .before .before .before .before .before .before .before .before .args .s)) (limitsOf (c .before .before .before .before .before .before .before .before .before .before .before .before .before .before .before .before .args .limits)) (c .before .before .before .before .before .before .before .before .before .before .before .before .before .before .before .before .pre .1 .1 .0 .2) (now (c .before .before .before .before .before .before .before .before .before .before .before .before .before .before .before .before .args .file)) (c .before .before .before .before .before .before .before .read-package .result) (c .before .before .before .before .before .enum-told3 .given .0 .0) (c .before .before .before .before .before .enum-told3 .given .1) (c .before .before .before .before .before .before .before .read-package .ensures)) .1 .1) (c .before .before .package-answer .result) (c .before .before .package-answer .ensures .0), c .before .before .package-answer .ensures .1)
+returns-2 : tie.Need-returns-2
+returns-2 c =
+    let a = c .before .before .before .before .before .before .before .before .before .before .before .before .before .before .before .args in
+    loading.load-file (now (a .s)) (a .end) (now (a .domain)) (now (a .file)) (sym (c .before .before .before .before .before .before .before .before .length-ok .ensures) ∙ not-false (c .before .before .before .before .before .before .before .before .length-ok .result) (c .before .before .before .before .before .before .before .if1 .left))
+    (λ es o. ap (λ (x : Spot). isSome (spot x)) (sym (c .before .before .before .before .enum-told .given .1)) ∙ created-is (now (a .s)) (a .end) (now (a .domain)) (c .before .before .before .before .before .before .find-domain .result) (c .before .before .before .before .before .before .find-domain .ensures) es o)
+    (c .before .before .file-answer .result) (c .before .before .file-answer .ensures)
+
+returns-3 : tie.Need-returns-3
+returns-3 c =
+    let a = c .before .before .before .before .before .before .before .before .before .before .before .args in
+    loading.load-5 (now (a .s)) (a .end) (now (a .domain)) (now (a .file)) (sym (c .before .before .before .before .length-ok .ensures) ∙ not-false (c .before .before .before .before .length-ok .result) (c .before .before .before .if1 .left))
+    (λ es o. ap (λ (x : Spot). isSome (spot x)) (sym (c .enum-told2 .given .1)) ∙ created-is (now (a .s)) (a .end) (now (a .domain)) (c .before .before .find-domain .result) (c .before .before .find-domain .ensures) es o)
 
 pub load-answer-spec : {M : Type 1} → statement M
 load-answer-spec =
@@ -56,14 +58,10 @@ load-answer-spec =
     (tie.spec
     length-ok-requires
     returns
-    domain-there-requires
-    returns-2
-    read-package-requires
+    find-domain-requires
     enum-told
+    file-answer-requires
     enum-told-2
-    enum-told-3
-    package-answer-requires
-    returns-3
-    returns-4
     same-length
-    returns-5)
+    returns-2
+    returns-3)

@@ -1,48 +1,74 @@
--- `judge::package_answer` meets its contract. Assumes nothing.
-use Rattle.cursor.specs.Limits.{limitsOf}
-use Rattle.depths.specs.Depths.{ParentedIs}
-use Rattle.imports.specs.Say.{NewIs, ImportsIs}
-use Rattle.rules.specs.Store.{domain}
-use denote.Ref.{now}
-use Rattle.judge.proofs.Entered as entered
-use Rattle.judge.proofs.Stages as stages
-use Rattle.judge.proofs.Creation as creation
-use mathlib.Core.Path.{refl, subst}
+use Rattle.named.proofs.Numbers.{rows-empty}
+use Rattle.index.proofs.Entering.{zeros}
 use native.Mathlib.Omega.{arith}
+use Rattle.depths.proofs.Kept.{depths-fit}
+use Rattle.depths.specs.Depths.{ParentedIs, OwnTold}
+use Rattle.imports.specs.Say.{NewIs, ImportsIs}
 use borrow.Author.Tests.{not-true, not-false}
+use mathlib.Core.List.{[]}
+use mathlib.Core.Path.{_≡_, refl, sym, _∙_, subst}
+use denote.Ref.{now}
+use Rattle.judge.proofs.Loading as loading
+use Rattle.judge.proofs.Stages as stages
+-- `judge::package_answer` meets its contract. Assumes nothing.
 use borrow.Author.Needs.{needs}
 use Rattle.judge.proofs.package_answer.Statement.{statement}
 use Rattle.judge.proofs.package_answer.Tie as tie
+use Rattle.judge.proofs.package_answer.Reads as reads
+use Rattle.judge.proofs.package_answer.Lts as lts
+use Rattle.cursor.proofs.limits_of.Reads as limits-of-reads
+use Rattle.depths.proofs.parents_ok.Reads as parents-ok-reads
+use Rattle.imports.proofs.imports_there.Reads as imports-there-reads
+use Rattle.imports.proofs.package_new.Reads as package-new-reads
 
 package-new-requires : tie.Need-package-new-requires
-package-new-requires c κs = (stages.setting-there (now (c .before .before .before .before .args .s)) (c .before .before .before .before .args .end) (now (c .before .before .before .before .args .domain)) (now (c .before .before .before .before .args .file)) (c .before .before .before .before .pre .0), c .before .before .before .before .pre .1 .1 .1 .0)
+package-new-requires c κs =
+    let a = c .before .before .before .before .before .args in
+    let o = c .before .before .before .before .before .pre .0 in
+    (stages.setting-there (now (a .s)) (a .end) (now (a .file)) (o .0) (o .2), c .before .before .before .before .before .pre .1 .0 .0 .is)
 
 returns : tie.Need-returns
-returns c = (stages.stage-12 (now (c .before .before .before .before .before .before .args .s)) (c .before .before .before .before .before .before .args .end) (now (c .before .before .before .before .before .before .args .domain)) (now (c .before .before .before .before .before .before .args .file)) (subst (NewIs (now (c .before .before .before .before .before .before .args .file)) (now (c .before .before .before .before .before .before .args .s)) (c .before .before .before .before .before .before .args .end)) (not-true (c .before .package-new .result) (c .if1 .taken)) (c .before .package-new .ensures)), (refl, entered.memo-refused (c .before .before .before .before .before .before .args .end) (now (c .before .before .before .before .before .before .args .domain)) (now (c .before .before .before .before .before .before .args .file)) 12 _))
+returns c =
+    let a = c .before .before .before .before .before .before .before .args in
+    let o = c .before .before .before .before .before .before .before .pre .0 in
+    (loading.parents-12 (now (a .s)) (a .end) (now (a .file)) (o .1) (o .2 .0) (o .2 .1) (subst (NewIs (now (a .file)) (now (a .s)) (a .end)) (not-true _ (c .if1 .taken)) (c .before .package-new .ensures)), tt)
 
 imports-there-requires : tie.Need-imports-there-requires
-imports-there-requires c κs = (stages.setting-there (now (c .before .before .before .before .before .before .before .args .s)) (c .before .before .before .before .before .before .before .args .end) (now (c .before .before .before .before .before .before .before .args .domain)) (now (c .before .before .before .before .before .before .before .args .file)) (c .before .before .before .before .before .before .before .pre .0), (c .before .before .before .before .before .before .before .pre .1 .1 .1 .0, search needs))
+imports-there-requires c κs =
+    let a = c .before .before .before .before .before .before .before .before .args in
+    let o = c .before .before .before .before .before .before .before .before .pre .0 in
+    (stages.setting-there (now (a .s)) (a .end) (now (a .file)) (o .0) (o .2), (c .before .before .before .before .before .before .before .before .pre .1 .0 .0 .is, c .before .before .before .before .before .before .before .before .pre .1 .1 .0))
 
 returns-2 : tie.Need-returns-2
-returns-2 c = (stages.stage-13 (now (c .before .before .before .before .before .before .before .before .before .args .s)) (c .before .before .before .before .before .before .before .before .before .args .end) (now (c .before .before .before .before .before .before .before .before .before .args .domain)) (now (c .before .before .before .before .before .before .before .before .before .args .file)) (subst (NewIs (now (c .before .before .before .before .before .before .before .before .before .args .file)) (now (c .before .before .before .before .before .before .before .before .before .args .s)) (c .before .before .before .before .before .before .before .before .before .args .end)) (not-false (c .before .before .before .before .package-new .result) (c .before .before .before .if1 .left)) (c .before .before .before .before .package-new .ensures)) (subst (ImportsIs (now (c .before .before .before .before .before .before .before .before .before .args .file)) (now (c .before .before .before .before .before .before .before .before .before .args .s)) (c .before .before .before .before .before .before .before .before .before .args .end)) (not-true (c .before .imports-there .result) (c .if2 .taken)) (c .before .imports-there .ensures .0)), (refl, entered.memo-refused (c .before .before .before .before .before .before .before .before .before .args .end) (now (c .before .before .before .before .before .before .before .before .before .args .domain)) (now (c .before .before .before .before .before .before .before .before .before .args .file)) 13 _))
+returns-2 c =
+    let a = c .before .before .before .before .before .before .before .before .before .before .args in
+    let o = c .before .before .before .before .before .before .before .before .before .before .pre .0 in (
+      loading.parents-13 (now (a .s)) (a .end) (now (a .file)) (o .1) (o .2 .0) (o .2 .1)
+          (subst (NewIs (now (a .file)) (now (a .s)) (a .end)) (not-false _ (c .before .before .before .if1 .left)) (c .before .before .before .before .package-new .ensures)) (subst (ImportsIs (now (a .file)) (now (a .s)) (a .end)) (not-true _ (c .if2 .taken)) (c .before .imports-there .ensures .0)),
+      tt,
+    )
 
-sub-base : tie.Need-sub-base
-sub-base c = omega arith
+limits-of-requires : tie.Need-limits-of-requires
+limits-of-requires c κs = search needs
+
+slice-aggregate-parents-ok : tie.Need-slice-aggregate-parents-ok
+slice-aggregate-parents-ok c = search needs
 
 parents-ok-requires : tie.Need-parents-ok-requires
-parents-ok-requires c κs = (stages.imports-there (now (c .before .before .before .before .before .before .before .before .before .before .args .s)) (c .before .before .before .before .before .before .before .before .before .before .args .end) (now (c .before .before .before .before .before .before .before .before .before .before .args .domain)) (now (c .before .before .before .before .before .before .before .before .before .before .args .file)) (c .before .before .before .before .before .before .before .before .before .before .pre .0) (subst (ImportsIs (now (c .before .before .before .before .before .before .before .before .before .before .args .file)) (now (c .before .before .before .before .before .before .before .before .before .before .args .s)) (c .before .before .before .before .before .before .before .before .before .before .args .end)) (not-false (c .before .before .imports-there .result) (c .before .if2 .left)) (c .before .before .imports-there .ensures .0)), (c .before .before .before .before .before .before .before .before .before .before .pre .1 .0, (entered.limits-depth (now (c .before .before .before .before .before .before .before .before .before .before .args .s)) (limitsOf (c .before .before .before .before .before .before .before .before .before .before .args .limits)) (c .before .before .before .before .before .before .before .before .before .before .pre .1 .1 .0 .2), ((c .before .before .before .before .before .before .before .before .before .before .pre .1 .1 .1 .1, omega (arith, c .before .before .before .before .before .before .before .before .before .before .pre .1 .0, creation.over-to (now (c .before .before .before .before .before .before .before .before .before .before .args .s)) (c .before .before .before .before .before .before .before .before .before .before .args .end) ((c .before .before .before .before .before .before .before .before .before .before .pre .0) .0, (c .before .before .before .before .before .before .before .before .before .before .pre .0) .2))), entered.indexed (now (c .before .before .before .before .before .before .before .before .before .before .args .s)) (c .before .before .before .before .before .before .before .before .before .before .args .end) _ ((c .before .before .before .before .before .before .before .before .before .before .pre .0) .0, (c .before .before .before .before .before .before .before .before .before .before .pre .0) .2) (c .before .before .before .before .before .before .before .before .before .before .pre .1 .1 .1 .0)))))
+parents-ok-requires c κs =
+    let a = c .before .before .before .before .before .before .before .before .before .before .before .before .before .before .args in
+    let o = c .before .before .before .before .before .before .before .before .before .before .before .before .before .before .pre .0 in
+    let judged = loading.imports-there (now (a .s)) (a .end) (now (a .file)) (o .1) (o .2 .0) (o .2 .1)
+    (subst (NewIs (now (a .file)) (now (a .s)) (a .end)) (not-false _ (c .before .before .before .before .before .before .before .if1 .left)) (c .before .before .before .before .before .before .before .before .package-new .ensures)) (subst (ImportsIs (now (a .file)) (now (a .s)) (a .end)) (not-false _ (c .before .before .before .before .if2 .left)) (c .before .before .before .before .before .imports-there .ensures .0)) [] (o .0 .0) (o .0 .1) in (
+      (judged, c .before .before .before .before .before .imports-there .ensures .1),
+      (
+        rows-empty (now (a .file)) (now (a .s)) (a .end) _ _ refl (zeros 512),
+        ((c .before .before .before .before .before .before .before .before .before .before .before .before .before .before .pre .1 .0 .1, c .before .before .before .before .before .before .before .before .before .before .before .before .before .before .pre .1 .0 .2), (stages.depth-limit (now (a .s)) _ (c .before .before .before .limits-of .ensures), c .before .before .before .before .before .before .before .before .before .before .before .before .before .before .pre .1 .1 .1)),
+      ),
+    )
 
 enum-known-depth : tie.Need-enum-known-depth
 enum-known-depth c = search needs
-
-add-inside-answer : tie.Need-add-inside-answer
-add-inside-answer c = omega (arith, c .before .before .before .before .before .before .before .before .before .before .before .before .before .before .before .before .before .pre .1 .0, creation.over-to (now (c .before .before .before .before .before .before .before .before .before .before .before .before .before .before .before .before .before .args .s)) (c .before .before .before .before .before .before .before .before .before .before .before .before .before .before .before .before .before .args .end) ((c .before .before .before .before .before .before .before .before .before .before .before .before .before .before .before .before .before .pre .0) .0, (c .before .before .before .before .before .before .before .before .before .before .before .before .before .before .before .before .before .pre .0) .2), entered.depth-limit (now (c .before .before .before .before .before .before .before .before .before .before .before .before .before .before .before .before .before .args .s)) (limitsOf (c .before .before .before .before .before .before .before .before .before .before .before .before .before .before .before .before .before .args .limits)) (c .before .before .before .before .before .before .before .before .before .before .before .before .before .before .before .before .before .pre .1 .1 .0 .2))
-
-add-inside-answer-2 : tie.Need-add-inside-answer-2
-add-inside-answer-2 c = omega (arith, c .before .before .before .before .before .before .before .before .before .before .before .before .before .before .before .before .before .pre .1 .0, creation.over-to (now (c .before .before .before .before .before .before .before .before .before .before .before .before .before .before .before .before .before .args .s)) (c .before .before .before .before .before .before .before .before .before .before .before .before .before .before .before .before .before .args .end) ((c .before .before .before .before .before .before .before .before .before .before .before .before .before .before .before .before .before .pre .0) .0, (c .before .before .before .before .before .before .before .before .before .before .before .before .before .before .before .before .before .pre .0) .2), entered.depth-limit (now (c .before .before .before .before .before .before .before .before .before .before .before .before .before .before .before .before .before .args .s)) (limitsOf (c .before .before .before .before .before .before .before .before .before .before .before .before .before .before .before .before .before .args .limits)) (c .before .before .before .before .before .before .before .before .before .before .before .before .before .before .before .before .before .pre .1 .1 .0 .2))
-
-inside-answer-requires : tie.Need-inside-answer-requires
-inside-answer-requires c κs = (stages.inside-some (now (c .before .before .before .before .before .before .before .before .before .before .before .before .before .before .before .before .before .args .s)) (c .before .before .before .before .before .before .before .before .before .before .before .before .before .before .before .before .before .args .end) (now (c .before .before .before .before .before .before .before .before .before .before .before .before .before .before .before .before .before .args .domain)) (now (c .before .before .before .before .before .before .before .before .before .before .before .before .before .before .before .before .before .args .file)) (c .before .before .before .before .depth .given .0 .0) (c .before .before .before .before .before .before .before .before .before .before .before .before .before .before .before .before .before .pre .0) (subst (ImportsIs (now (c .before .before .before .before .before .before .before .before .before .before .before .before .before .before .before .before .before .args .file)) (now (c .before .before .before .before .before .before .before .before .before .before .before .before .before .before .before .before .before .args .s)) (c .before .before .before .before .before .before .before .before .before .before .before .before .before .before .before .before .before .args .end)) (not-false (c .before .before .before .before .before .before .before .before .before .imports-there .result) (c .before .before .before .before .before .before .before .before .if2 .left)) (c .before .before .before .before .before .before .before .before .before .imports-there .ensures .0)) (subst (ParentedIs (now (c .before .before .before .before .before .before .before .before .before .before .before .before .before .before .before .before .before .args .file)) (now (c .before .before .before .before .before .before .before .before .before .before .before .before .before .before .before .before .before .args .s)) (c .before .before .before .before .before .before .before .before .before .before .before .before .before .before .before .before .before .args .end)) (c .before .before .before .before .depth .given .1) (c .before .before .before .before .before .before .parents-ok .ensures .0)), (c .before .before .before .before .before .before .before .before .before .before .before .before .before .before .before .before .before .pre .1 .0, ((c .before .before .before .before .before .before .before .before .before .before .before .before .before .before .before .before .before .pre .1 .1 .0 .0, entered.code-limit (now (c .before .before .before .before .before .before .before .before .before .before .before .before .before .before .before .before .before .args .s)) (limitsOf (c .before .before .before .before .before .before .before .before .before .before .before .before .before .before .before .before .before .args .limits)) _ (c .before .before .before .before .before .before .before .before .before .before .before .before .before .before .before .before .before .pre .1 .1 .0 .2) (c .before .before .before .before .before .before .before .before .before .before .before .before .before .before .before .before .before .pre .1 .1 .0 .1)), (c .before .before .before .before .before .before .before .before .before .imports-there .ensures .1, ((c .before .before .before .before .before .before .parents-ok .ensures .1, omega (arith, c .before .before .before .before .before .before .before .before .before .before .before .before .before .before .before .before .before .pre .1 .0, creation.over-to (now (c .before .before .before .before .before .before .before .before .before .before .before .before .before .before .before .before .before .args .s)) (c .before .before .before .before .before .before .before .before .before .before .before .before .before .before .before .before .before .args .end) ((c .before .before .before .before .before .before .before .before .before .before .before .before .before .before .before .before .before .pre .0) .0, (c .before .before .before .before .before .before .before .before .before .before .before .before .before .before .before .before .before .pre .0) .2), entered.depth-limit (now (c .before .before .before .before .before .before .before .before .before .before .before .before .before .before .before .before .before .args .s)) (limitsOf (c .before .before .before .before .before .before .before .before .before .before .before .before .before .before .before .before .before .args .limits)) (c .before .before .before .before .before .before .before .before .before .before .before .before .before .before .before .before .before .pre .1 .1 .0 .2))), entered.indexed (now (c .before .before .before .before .before .before .before .before .before .before .before .before .before .before .before .before .before .args .s)) (c .before .before .before .before .before .before .before .before .before .before .before .before .before .before .before .before .before .args .end) _ ((c .before .before .before .before .before .before .before .before .before .before .before .before .before .before .before .before .before .pre .0) .0, (c .before .before .before .before .before .before .before .before .before .before .before .before .before .before .before .before .before .pre .0) .2) (c .before .before .before .before .before .before .before .before .before .before .before .before .before .before .before .before .before .pre .1 .1 .1 .0))))))
 
 enum-told : tie.Need-enum-told
 enum-told c = search needs
@@ -51,10 +77,29 @@ same-length : tie.Need-same-length
 same-length c = search needs
 
 returns-3 : tie.Need-returns-3
-returns-3 c = (stages.stage-inside (now (c .before .before .before .before .before .before .before .before .before .before .before .before .before .before .before .before .before .before .before .before .args .s)) (c .before .before .before .before .before .before .before .before .before .before .before .before .before .before .before .before .before .before .before .before .args .end) (now (c .before .before .before .before .before .before .before .before .before .before .before .before .before .before .before .before .before .before .before .before .args .domain)) (now (c .before .before .before .before .before .before .before .before .before .before .before .before .before .before .before .before .before .before .before .before .args .file)) (subst (NewIs (now (c .before .before .before .before .before .before .before .before .before .before .before .before .before .before .before .before .before .before .before .before .args .file)) (now (c .before .before .before .before .before .before .before .before .before .before .before .before .before .before .before .before .before .before .before .before .args .s)) (c .before .before .before .before .before .before .before .before .before .before .before .before .before .before .before .before .before .before .before .before .args .end)) (not-false (c .before .before .before .before .before .before .before .before .before .before .before .before .before .before .before .package-new .result) (c .before .before .before .before .before .before .before .before .before .before .before .before .before .before .if1 .left)) (c .before .before .before .before .before .before .before .before .before .before .before .before .before .before .before .package-new .ensures)) (subst (ImportsIs (now (c .before .before .before .before .before .before .before .before .before .before .before .before .before .before .before .before .before .before .before .before .args .file)) (now (c .before .before .before .before .before .before .before .before .before .before .before .before .before .before .before .before .before .before .before .before .args .s)) (c .before .before .before .before .before .before .before .before .before .before .before .before .before .before .before .before .before .before .before .before .args .end)) (not-false (c .before .before .before .before .before .before .before .before .before .before .before .before .imports-there .result) (c .before .before .before .before .before .before .before .before .before .before .before .if2 .left)) (c .before .before .before .before .before .before .before .before .before .before .before .before .imports-there .ensures .0)) (c .before .before .before .before .before .before .before .depth .given .0 .0) (c .before .before .inside-answer .result) (subst (ParentedIs (now (c .before .before .before .before .before .before .before .before .before .before .before .before .before .before .before .before .before .before .before .before .args .file)) (now (c .before .before .before .before .before .before .before .before .before .before .before .before .before .before .before .before .before .before .before .before .args .s)) (c .before .before .before .before .before .before .before .before .before .before .before .before .before .before .before .before .before .before .before .before .args .end)) (c .before .before .before .before .before .before .before .depth .given .1) (c .before .before .before .before .before .before .before .before .before .parents-ok .ensures .0)) (c .before .before .inside-answer .ensures .0), (c .before .before .inside-answer .ensures .1 .0, entered.memo-next (now (c .before .before .before .before .before .before .before .before .before .before .before .before .before .before .before .before .before .before .before .before .args .s)) (c .before .before .before .before .before .before .before .before .before .before .before .before .before .before .before .before .before .before .before .before .args .end) (now (c .before .before .before .before .before .before .before .before .before .before .before .before .before .before .before .before .before .before .before .before .args .domain)) (now (c .before .before .before .before .before .before .before .before .before .before .before .before .before .before .before .before .before .before .before .before .args .file)) (c .before .before .inside-answer .result) (c .before .before .before .before .before .before .before .before .before .before .before .before .before .before .before .before .before .before .before .before .args .limits .depth) _ (omega (arith, entered.depth-limit (now (c .before .before .before .before .before .before .before .before .before .before .before .before .before .before .before .before .before .before .before .before .args .s)) (limitsOf (c .before .before .before .before .before .before .before .before .before .before .before .before .before .before .before .before .before .before .before .before .args .limits)) (c .before .before .before .before .before .before .before .before .before .before .before .before .before .before .before .before .before .before .before .before .pre .1 .1 .0 .2))) (c .before .before .before .before .before .before .before .before .before .before .before .before .before .before .before .before .before .before .before .before .pre .0) (c .before .before .inside-answer .ensures .1 .1)))
+returns-3 c =
+    let a = c .before .before .before .before .before .before .before .before .before .before .before .before .before .before .before .before .before .before .before .before .before .args in
+    let o = c .before .before .before .before .before .before .before .before .before .before .before .before .before .before .before .before .before .before .before .before .before .pre .0 in
+    let yes = subst (ParentedIs (now (a .file)) (now (a .s)) (a .end)) (c .before .depth .given .1) (c .before .before .before .before .before .before .parents-ok .ensures .0) in
+    let own = subst (OwnTold (now (a .file)) (now (a .s)) (a .end) _) (c .before .depth .given .1) (c .before .before .before .before .before .before .parents-ok .ensures .1 .0) in
+    let judged = loading.imports-there (now (a .s)) (a .end) (now (a .file)) (o .1) (o .2 .0) (o .2 .1)
+    (subst (NewIs (now (a .file)) (now (a .s)) (a .end)) (not-false _ (c .before .before .before .before .before .before .before .before .before .before .before .before .before .before .if1 .left)) (c .before .before .before .before .before .before .before .before .before .before .before .before .before .before .before .package-new .ensures)) (subst (ImportsIs (now (a .file)) (now (a .s)) (a .end)) (not-false _ (c .before .before .before .before .before .before .before .before .before .before .before .if2 .left)) (c .before .before .before .before .before .before .before .before .before .before .before .before .imports-there .ensures .0)) [] (o .0 .0) (o .0 .1) in (
+      loading.parents-yes (now (a .s)) (a .end) (now (a .file)) (o .1) (o .2 .0) (o .2 .1)
+          (subst (NewIs (now (a .file)) (now (a .s)) (a .end)) (not-false _ (c .before .before .before .before .before .before .before .before .before .before .before .before .before .before .if1 .left)) (c .before .before .before .before .before .before .before .before .before .before .before .before .before .before .before .package-new .ensures)) (subst (ImportsIs (now (a .file)) (now (a .s)) (a .end)) (not-false _ (c .before .before .before .before .before .before .before .before .before .before .before .if2 .left)) (c .before .before .before .before .before .before .before .before .before .before .before .before .imports-there .ensures .0)) (c .before .depth .given .0 .0) yes,
+      (c .before .before .before .before .before .before .before .before .before .before .before .before .imports-there .ensures .1, own, depths-fit (now (a .file)) (now (a .s)) (a .end) (c .before .depth .given .0 .0) _ judged yes own (omega (arith, c .before .before .before .before .before .before .parents-ok .kept .1 .1 .1 .1 .1 .0, c .before .before .before .before .before .before .before .before .before .before .before .before .before .before .before .before .before .before .before .before .before .pre .1 .1 .1))),
+    )
+
+same-length-2 : tie.Need-same-length-2
+same-length-2 c = search needs
 
 returns-4 : tie.Need-returns-4
-returns-4 c = (stages.stage-14 (now (c .before .before .before .before .before .before .before .before .before .before .before .before .before .args .s)) (c .before .before .before .before .before .before .before .before .before .before .before .before .before .args .end) (now (c .before .before .before .before .before .before .before .before .before .before .before .before .before .args .domain)) (now (c .before .before .before .before .before .before .before .before .before .before .before .before .before .args .file)) (subst (NewIs (now (c .before .before .before .before .before .before .before .before .before .before .before .before .before .args .file)) (now (c .before .before .before .before .before .before .before .before .before .before .before .before .before .args .s)) (c .before .before .before .before .before .before .before .before .before .before .before .before .before .args .end)) (not-false (c .before .before .before .before .before .before .before .before .package-new .result) (c .before .before .before .before .before .before .before .if1 .left)) (c .before .before .before .before .before .before .before .before .package-new .ensures)) (subst (ImportsIs (now (c .before .before .before .before .before .before .before .before .before .before .before .before .before .args .file)) (now (c .before .before .before .before .before .before .before .before .before .before .before .before .before .args .s)) (c .before .before .before .before .before .before .before .before .before .before .before .before .before .args .end)) (not-false (c .before .before .before .before .before .imports-there .result) (c .before .before .before .before .if2 .left)) (c .before .before .before .before .before .imports-there .ensures .0)) (subst (ParentedIs (now (c .before .before .before .before .before .before .before .before .before .before .before .before .before .args .file)) (now (c .before .before .before .before .before .before .before .before .before .before .before .before .before .args .s)) (c .before .before .before .before .before .before .before .before .before .before .before .before .before .args .end)) (c .enum-told .given .1) (c .before .before .parents-ok .ensures .0)), (refl, entered.memo-refused (c .before .before .before .before .before .before .before .before .before .before .before .before .before .args .end) (now (c .before .before .before .before .before .before .before .before .before .before .before .before .before .args .domain)) (now (c .before .before .before .before .before .before .before .before .before .before .before .before .before .args .file)) 14 _))
+returns-4 c =
+    let a = c .before .before .before .before .before .before .before .before .before .before .before .before .before .before .before .before .before .before .before .before .args in
+    let o = c .before .before .before .before .before .before .before .before .before .before .before .before .before .before .before .before .before .before .before .before .pre .0 in (
+      loading.parents-14 (now (a .s)) (a .end) (now (a .file)) (o .1) (o .2 .0) (o .2 .1)
+          (subst (NewIs (now (a .file)) (now (a .s)) (a .end)) (not-false _ (c .before .before .before .before .before .before .before .before .before .before .before .before .before .if1 .left)) (c .before .before .before .before .before .before .before .before .before .before .before .before .before .before .package-new .ensures)) (subst (ImportsIs (now (a .file)) (now (a .s)) (a .end)) (not-false _ (c .before .before .before .before .before .before .before .before .before .before .if2 .left)) (c .before .before .before .before .before .before .before .before .before .before .before .imports-there .ensures .0)) (subst (ParentedIs (now (a .file)) (now (a .s)) (a .end)) (c .enum-told .given .1) (c .before .before .before .before .before .parents-ok .ensures .0)),
+      tt,
+    )
 
 pub package-answer-spec : {M : Type 1} → statement M
 package-answer-spec =
@@ -64,13 +109,12 @@ package-answer-spec =
     returns
     imports-there-requires
     returns-2
-    sub-base
+    limits-of-requires
+    slice-aggregate-parents-ok
     parents-ok-requires
     enum-known-depth
-    add-inside-answer
-    add-inside-answer-2
-    inside-answer-requires
     enum-told
     same-length
     returns-3
+    same-length-2
     returns-4)

@@ -19,7 +19,12 @@ digit-requires : tie.Need-digit-requires
 digit-requires c κs = search needs
 
 returns-2 : tie.Need-returns-2
-returns-2 c = (no-high (now (c .before .before .before .before .before .args .digits)) (c .before .before .before .before .before .args .at) (omega arith) (c .before .digit .result) (c .before .digit .ensures .0) (omega arith), omega arith)
+returns-2 c =
+    let args = c .before .before .before .before .before .args in
+    let digit = c .before .digit in (
+      no-high (now (args .digits)) (args .at) (omega arith) (digit .result) (digit .ensures .0) (omega arith),
+      omega arith,
+    )
 
 shared-slice-read-digit-2 : tie.Need-shared-slice-read-digit-2
 shared-slice-read-digit-2 c = search needs
@@ -28,7 +33,14 @@ digit-requires-2 : tie.Need-digit-requires-2
 digit-requires-2 c κs = search needs
 
 returns-3 : tie.Need-returns-3
-returns-3 c = (no-low (now (c .before .before .before .before .before .before .before .before .args .digits)) (c .before .before .before .before .before .before .before .before .args .at) (omega arith) (c .before .before .before .before .digit .result) (c .before .digit2 .result) (c .before .before .before .before .digit .ensures .0) (omega arith) (c .before .digit2 .ensures .0) (omega arith), omega arith)
+returns-3 c =
+    let args = c .before .before .before .before .before .before .before .before .args in
+    let digit = c .before .before .before .before .digit in
+    let digit2 = c .before .digit2 in (
+      no-low (now (args .digits)) (args .at) (omega arith) (digit .result) (digit2 .result) (digit .ensures .0)
+          (omega arith) (digit2 .ensures .0) (omega arith),
+      omega arith,
+    )
 
 mul-result : tie.Need-mul-result
 mul-result c = search needs
@@ -37,7 +49,14 @@ add-result : tie.Need-add-result
 add-result c = search needs
 
 returns-4 : tie.Need-returns-4
-returns-4 c = (two-digits (now (c .before .before .before .before .before .before .before .before .args .digits)) (c .before .before .before .before .before .before .before .before .args .at) (omega arith) (c .before .before .before .before .digit .result) (c .before .digit2 .result) (c .before .before .before .before .digit .ensures .0) (omega arith) (c .before .digit2 .ensures .0) (omega arith), omega arith)
+returns-4 c =
+    let args = c .before .before .before .before .before .before .before .before .args in
+    let digit = c .before .before .before .before .digit in
+    let digit2 = c .before .digit2 in (
+      two-digits (now (args .digits)) (args .at) (omega arith) (digit .result) (digit2 .result) (digit .ensures .0)
+          (omega arith) (digit2 .ensures .0) (omega arith),
+      omega arith,
+    )
 
 pub byte-at-spec : {M : Type 1} → statement M
 byte-at-spec =

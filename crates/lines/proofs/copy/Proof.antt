@@ -38,13 +38,23 @@ loop-less : tie.Need-loop-less Inv-loop μ-loop
 loop-less c = omega arith
 
 loop-again : tie.Need-loop-again Inv-loop μ-loop
-loop-again c = (omega arith, simp length-set (c .before .before .loop .inv .1), copy-step (now (c .before .before .before .args .line)) (c .before .before .loop .line) (now (c .before .before .before .args .chunk)) (c .before .before .before .args .to) (c .before .before .before .args .from) (c .before .before .loop .i) (omega arith) (omega arith) (c .before .before .loop .inv .2))
+loop-again c =
+    let loop = c .before .before .loop in
+    let args = c .before .before .before .args in (
+      omega arith,
+      simp length-set (loop .inv .1),
+      copy-step (now (args .line)) (loop .line) (now (args .chunk))
+          (args .to) (args .from) (loop .i) (omega arith) (omega arith) (loop .inv .2),
+    )
 
 same-length : tie.Need-same-length Inv-loop μ-loop
 same-length c = c .before .loop .inv .1
 
 returns : tie.Need-returns Inv-loop μ-loop
-returns c = let e : (c .before .loop .i) ≡ c .before .before .args .n = omega arith in c .before .loop .inv .2 ∙ ap (paste (now (c .before .before .args .line)) (c .before .before .args .to) (drop (c .before .before .args .from) (now (c .before .before .args .chunk)))) e
+returns c =
+    let loop = c .before .loop in
+    let args = c .before .before .args in
+    let e : (loop .i) ≡ args .n = omega arith in loop .inv .2 ∙ ap (paste (now (args .line)) (args .to) (drop (args .from) (now (args .chunk)))) e
 
 pub copy-spec : {M : Type 1} → statement M
 copy-spec =

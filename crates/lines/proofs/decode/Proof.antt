@@ -34,7 +34,17 @@ same-length : tie.Need-same-length Inv-loop μ-loop
 same-length c = c .before .before .before .loop .inv .1
 
 returns : tie.Need-returns Inv-loop μ-loop
-returns c = (decode-stop (now (c .before .before .before .before .before .before .args .digits)) (take (c .before .before .before .loop .n) (drop (c .before .before .before .before .before .before .args .at) (c .before .before .before .loop .out))) (2 * (c .before .before .before .loop .n)) (omega arith) (limit-none 256 (c .before .byte-at .result) (c .before .byte-at .ensures .0) (omega arith)) (c .before .before .before .loop .inv .3), (c .before .before .before .loop .inv .2, omega arith))
+returns c =
+    let args = c .before .before .before .before .before .before .args in
+    let loop = c .before .before .before .loop in
+    let byte-at = c .before .byte-at in (
+      decode-stop (now (args .digits)) (take (loop .n) (drop (args .at) (loop .out))) (2 * (loop .n)) (omega arith)
+          (limit-none 256 (byte-at .result) (byte-at .ensures .0) (omega arith)) (loop .inv .3),
+      (
+        loop .inv .2,
+        omega arith,
+      ),
+    )
 
 cast-out : tie.Need-cast-out Inv-loop μ-loop
 cast-out c = omega arith
@@ -52,13 +62,27 @@ loop-less : tie.Need-loop-less Inv-loop μ-loop
 loop-less c = omega arith
 
 loop-again : tie.Need-loop-again Inv-loop μ-loop
-loop-again c = (decode-two (now (c .before .before .before .before .before .before .args .digits)) (c .before .before .before .loop .n) (c .before .byte-at .result) (limit-some 256 (c .before .byte-at .result) (c .before .byte-at .ensures .0) (omega arith)), simp length-set (c .before .before .before .loop .inv .1), take-set-le (c .before .before .before .before .before .before .args .at) (c .before .before .before .loop .out) ((c .before .before .before .before .before .before .args .at) + (c .before .before .before .loop .n)) (c .before .byte-at .result) (omega arith) ∙ c .before .before .before .loop .inv .2, decode-step (now (c .before .before .before .before .before .before .args .digits)) (c .before .before .before .loop .out) (c .before .before .before .before .before .before .args .at) (c .before .before .before .loop .n) (c .before .byte-at .result) (omega arith) (limit-some 256 (c .before .byte-at .result) (c .before .byte-at .ensures .0) (omega arith)) (c .before .before .before .loop .inv .3))
+loop-again c =
+    let args = c .before .before .before .before .before .before .args in
+    let loop = c .before .before .before .loop in
+    let byte-at = c .before .byte-at in (
+      decode-two (now (args .digits)) (loop .n) (byte-at .result) (limit-some 256 (byte-at .result) (byte-at .ensures .0) (omega arith)),
+      simp length-set (loop .inv .1),
+      take-set-le (args .at) (loop .out) ((args .at) + (loop .n))
+          (byte-at .result) (omega arith) ∙ loop .inv .2,
+      decode-step (now (args .digits)) (loop .out) (args .at) (loop .n) (byte-at .result) (omega arith) (limit-some 256 (byte-at .result) (byte-at .ensures .0) (omega arith)) (loop .inv .3),
+    )
 
 same-length-2 : tie.Need-same-length-2 Inv-loop μ-loop
 same-length-2 c = c .before .loop .inv .1
 
 returns-2 : tie.Need-returns-2 Inv-loop μ-loop
-returns-2 c = (decode-end (now (c .before .before .before .before .args .digits)) (c .before .loop .out) (c .before .before .before .before .args .at) (c .before .loop .n) (omega arith) (omega arith) (c .before .loop .inv .3), (c .before .loop .inv .2, c .before .loop .inv .0))
+returns-2 c =
+    let args = c .before .before .before .before .args in
+    let loop = c .before .loop in (
+      decode-end (now (args .digits)) (loop .out) (args .at) (loop .n) (omega arith) (omega arith) (loop .inv .3),
+      (loop .inv .2, loop .inv .0),
+    )
 
 pub decode-spec : {M : Type 1} → statement M
 decode-spec =

@@ -21,7 +21,10 @@ add-result : tie.Need-add-result
 add-result c = search needs
 
 returns-4 : tie.Need-returns-4
-returns-4 c = (rw (c .before .before .before .before .wide .ensures .0) (digit-capital (c .before .before .before .before .before .args .c) (omega arith) (omega arith)), omega arith)
+returns-4 c =
+    let wide = c .before .before .before .before .wide in
+    let args = c .before .before .before .before .before .args in
+    (rw (wide .ensures .0) (digit-capital (args .c) (omega arith) (omega arith)), omega arith)
 
 returns-5 : tie.Need-returns-5
 returns-5 c = (digit-over (c .before .before .before .before .before .args .c) (omega arith), omega arith)

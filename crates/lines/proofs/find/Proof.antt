@@ -22,7 +22,12 @@ shared-slice-read-if1 : tie.Need-shared-slice-read-if1 Inv-loop μ-loop
 shared-slice-read-if1 c = omega arith
 
 returns : tie.Need-returns Inv-loop μ-loop
-returns c = (sym (c .before .before .before .loop .inv .1 ∙ before-stop (c .before .before .before .before .args .b) (now (c .before .before .before .before .args .s)) (c .before .before .before .loop .i) (omega arith) (c .if1 .taken)), c .before .before .before .loop .inv .0)
+returns c =
+    let loop = c .before .before .before .loop in
+    let args = c .before .before .before .before .args in (
+      sym (loop .inv .1 ∙ before-stop (args .b) (now (args .s)) (loop .i) (omega arith) (c .if1 .taken)),
+      loop .inv .0,
+    )
 
 add-i : tie.Need-add-i Inv-loop μ-loop
 add-i c = omega arith
@@ -31,10 +36,16 @@ loop-less : tie.Need-loop-less Inv-loop μ-loop
 loop-less c = omega arith
 
 loop-again : tie.Need-loop-again Inv-loop μ-loop
-loop-again c = (omega arith, c .before .before .before .loop .inv .1 ∙ before-step (c .before .before .before .before .args .b) (now (c .before .before .before .before .args .s)) (c .before .before .before .loop .i) (omega arith) (c .if1 .left))
+loop-again c =
+    let loop = c .before .before .before .loop in
+    let args = c .before .before .before .before .args in
+    (omega arith, loop .inv .1 ∙ before-step (args .b) (now (args .s)) (loop .i) (omega arith) (c .if1 .left))
 
 returns-2 : tie.Need-returns-2 Inv-loop μ-loop
-returns-2 c = (sym (c .before .loop .inv .1 ∙ before-end (c .before .before .args .b) (now (c .before .before .args .s)) (c .before .loop .i) (omega arith)), c .before .loop .inv .0)
+returns-2 c =
+    let loop = c .before .loop in
+    let args = c .before .before .args in
+    (sym (loop .inv .1 ∙ before-end (args .b) (now (args .s)) (loop .i) (omega arith)), loop .inv .0)
 
 pub find-spec : {M : Type 1} → statement M
 find-spec =

@@ -31,7 +31,18 @@ same-length : tie.Need-same-length
 same-length c = search needs
 
 returns : tie.Need-returns
-returns c = (ap (take (c .before .before .before .before .before .before .before .before .args .held + c .before .before .before .before .least .result)) (c .before .before .copy .ensures) ∙ gathered (now (c .before .before .before .before .before .before .before .before .args .line)) (drop (c .before .before .before .before .before .before .before .before .args .from) (now (c .before .before .before .before .before .before .before .before .args .chunk))) (c .before .before .before .before .before .before .before .before .args .held) (c .before .before .before .before .least .result) (omega arith) (omega arith) (omega arith), (c .before .before .before .before .before .find .ensures .0, (omega arith, c .before .before .before .before .before .find .ensures .1)))
+returns c =
+    let args = c .before .before .before .before .before .before .before .before .args in
+    let least = c .before .before .before .before .least in
+    let copy = c .before .before .copy in
+    let find = c .before .before .before .before .before .find in (
+      ap (take (args .held + least .result)) (copy .ensures) ∙ gathered (now (args .line)) (drop (args .from) (now
+          (args .chunk))) (args .held) (least .result) (omega arith) (omega arith) (omega arith),
+      (
+        find .ensures .0,
+        (omega arith, find .ensures .1),
+      ),
+    )
 
 pub gather-spec : {M : Type 1} → statement M
 gather-spec =

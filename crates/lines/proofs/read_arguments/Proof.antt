@@ -14,7 +14,10 @@ find-requires : tie.Need-find-requires
 find-requires c κs = search needs
 
 slice-aggregate-read-two : tie.Need-slice-aggregate-read-two
-slice-aggregate-read-two c = sym (length-take-le (c .before .before .find .result) (now (c .before .before .before .before .before .args .rest)) (c .before .before .find .ensures .1))
+slice-aggregate-read-two c =
+    let find = c .before .before .find in
+    let args = c .before .before .before .before .before .args in
+    sym (length-take-le (find .result) (now (args .rest)) (find .ensures .1))
 
 add-read-two : tie.Need-add-read-two
 add-read-two c = search needs
@@ -35,7 +38,14 @@ same-length : tie.Need-same-length
 same-length c = search needs
 
 returns : tie.Need-returns
-returns c = (c .before .before .read-two .ensures .0 ∙ two-parts (c .before .before .before .before .before .before .before .before .before .before .args .letter) (c .before .before .before .before .before .before .before .find .result) (now (c .before .before .before .before .before .before .before .before .before .before .args .rest)) (c .before .before .before .before .before .before .before .find .ensures .0) (c .before .before .before .before .before .before .if1 .taken), c .before .before .read-two .ensures .1)
+returns c =
+    let read-two = c .before .before .read-two in
+    let args = c .before .before .before .before .before .before .before .before .before .before .args in
+    let find = c .before .before .before .before .before .before .before .find in
+    let if1 = c .before .before .before .before .before .before .if1 in (
+      read-two .ensures .0 ∙ two-parts (args .letter) (find .result) (now (args .rest)) (find .ensures .0) (if1 .taken),
+      read-two .ensures .1,
+    )
 
 decode-requires : tie.Need-decode-requires
 decode-requires c κs = search needs
@@ -44,7 +54,12 @@ same-length-2 : tie.Need-same-length-2
 same-length-2 c = search needs
 
 returns-2 : tie.Need-returns-2
-returns-2 c = (sym (one-argument (c .before .before .before .before .before .before .before .before .before .args .letter) (now (c .before .before .before .before .before .before .before .before .before .args .rest)) (omega arith) ∙ rw (found-none (c .before .before .before .decode .result) 0 (c .before .before .before .decode .last .1 .0) (c .before .before .before .decode .ensures .0) (c .if2 .taken))), (omega arith, omega arith))
+returns-2 c =
+    let args = c .before .before .before .before .before .before .before .before .before .args in
+    let decode = c .before .before .before .decode in (
+      sym (one-argument (args .letter) (now (args .rest)) (omega arith) ∙ rw (found-none (decode .result) 0 (decode .last .1 .0) (decode .ensures .0) (c .if2 .taken))),
+      (omega arith, omega arith),
+    )
 
 with-one-requires : tie.Need-with-one-requires
 with-one-requires c κs = search needs
@@ -53,7 +68,16 @@ same-length-3 : tie.Need-same-length-3
 same-length-3 c = search needs
 
 returns-3 : tie.Need-returns-3
-returns-3 c = (c .with-one .ensures .0 (c .before .before .before .before .decode .last .1 .0) ∙ sym (one-argument (c .before .before .before .before .before .before .before .before .before .before .args .letter) (now (c .before .before .before .before .before .before .before .before .before .before .args .rest)) (omega arith) ∙ rw (found-some (c .before .before .before .before .decode .result) 0 (c .before .before .before .before .decode .last .1 .0) (c .before .before .before .before .decode .ensures .0) (c .before .if2 .left))), (omega arith, omega arith))
+returns-3 c =
+    let decode = c .before .before .before .before .decode in
+    let args = c .before .before .before .before .before .before .before .before .before .before .args in
+    let if2 = c .before .if2 in (
+      c .with-one .ensures .0 (decode .last .1 .0) ∙ sym (one-argument (args .letter) (now (args .rest)) (omega arith) ∙ rw (found-some (decode .result) 0 (decode .last .1 .0) (decode .ensures .0) (if2 .left))),
+      (
+        omega arith,
+        omega arith,
+      ),
+    )
 
 pub read-arguments-spec : {M : Type 1} → statement M
 read-arguments-spec =

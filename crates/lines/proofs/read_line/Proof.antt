@@ -40,7 +40,12 @@ same-length : tie.Need-same-length
 same-length c = search needs
 
 returns-4 : tie.Need-returns-4
-returns-4 c = (c .before .before .read-arguments .ensures .0 ∙ line-rest (now (c .before .before .before .before .before .before .before .before .before .before .before .before .args .line)) (omega arith) (omega arith) (omega arith), c .before .before .read-arguments .ensures .1)
+returns-4 c =
+    let read-arguments = c .before .before .read-arguments in
+    let args = c .before .before .before .before .before .before .before .before .before .before .before .before .args in (
+      read-arguments .ensures .0 ∙ line-rest (now (args .line)) (omega arith) (omega arith) (omega arith),
+      read-arguments .ensures .1,
+    )
 
 pub read-line-spec : {M : Type 1} → statement M
 read-line-spec =

@@ -8,7 +8,14 @@ use Rattle.lines.proofs.read_two.Statement.{statement}
 use Rattle.lines.proofs.read_two.Tie as tie
 
 returns : tie.Need-returns
-returns c = (not-load (c .before .before .before .before .args .letter) (argument (now (c .before .before .before .before .args .first))) (argument (now (c .before .before .before .before .args .second))) (c .if1 .taken), (omega arith, omega arith))
+returns c =
+    let args = c .before .before .before .before .args in (
+      not-load (args .letter) (argument (now (args .first))) (argument (now (args .second))) (c .if1 .taken),
+      (
+        omega arith,
+        omega arith,
+      ),
+    )
 
 decode-requires : tie.Need-decode-requires
 decode-requires c κs = search needs
@@ -17,7 +24,12 @@ same-length : tie.Need-same-length
 same-length c = search needs
 
 returns-2 : tie.Need-returns-2
-returns-2 c = (no-first (c .before .before .before .before .before .before .before .before .before .args .letter) (argument (now (c .before .before .before .before .before .before .before .before .before .args .first))) (argument (now (c .before .before .before .before .before .before .before .before .before .args .second))) (found-none (c .before .before .before .decode .result) 0 (c .before .before .before .decode .last .1 .0) (c .before .before .before .decode .ensures .0) (c .if2 .taken)), (omega arith, omega arith))
+returns-2 c =
+    let args = c .before .before .before .before .before .before .before .before .before .args in
+    let decode = c .before .before .before .decode in (
+      no-first (args .letter) (argument (now (args .first))) (argument (now (args .second))) (found-none (decode .result) 0 (decode .last .1 .0) (decode .ensures .0) (c .if2 .taken)),
+      (omega arith, omega arith),
+    )
 
 decode-requires-2 : tie.Need-decode-requires-2
 decode-requires-2 c κs = search needs
@@ -26,7 +38,16 @@ same-length-2 : tie.Need-same-length-2
 same-length-2 c = search needs
 
 returns-3 : tie.Need-returns-3
-returns-3 c = (no-second (c .before .before .before .before .before .before .before .before .before .before .before .before .before .before .args .letter) (argument (now (c .before .before .before .before .before .before .before .before .before .before .before .before .before .before .args .first))) (argument (now (c .before .before .before .before .before .before .before .before .before .before .before .before .before .before .args .second))) (found-none (c .before .before .before .decode2 .result) (c .before .before .before .before .before .before .before .before .decode .result) (c .before .before .before .decode2 .last .1 .0) (c .before .before .before .decode2 .ensures .0) (c .if3 .taken)), (omega arith, omega arith))
+returns-3 c =
+    let args = c .before .before .before .before .before .before .before .before .before .before .before .before .before .before .args in
+    let decode2 = c .before .before .before .decode2 in
+    let decode = c .before .before .before .before .before .before .before .before .decode in (
+      no-second (args .letter) (argument (now (args .first))) (argument (now (args .second))) (found-none (decode2 .result) (decode .result) (decode2 .last .1 .0) (decode2 .ensures .0) (c .if3 .taken)),
+      (
+        omega arith,
+        omega arith,
+      ),
+    )
 
 add-t12 : tie.Need-add-t12
 add-t12 c = search needs
@@ -35,7 +56,17 @@ same-length-3 : tie.Need-same-length-3
 same-length-3 c = search needs
 
 returns-4 : tie.Need-returns-4
-returns-4 c = (load-said (c .before .before .before .before .before .before .before .before .before .before .before .before .before .before .args .letter) (c .before .before .before .before .before .before .before .before .decode .result) (c .before .before .before .decode2 .result) (c .before .before .before .before .before .before .before .before .decode .last .1 .0) (c .before .before .before .decode2 .last .1 .0) (argument (now (c .before .before .before .before .before .before .before .before .before .before .before .before .before .before .args .first))) (argument (now (c .before .before .before .before .before .before .before .before .before .before .before .before .before .before .args .second))) (c .before .before .before .before .before .before .before .before .before .before .if1 .left) (found-some (c .before .before .before .before .before .before .before .before .decode .result) 0 (c .before .before .before .before .before .before .before .before .decode .last .1 .0) (c .before .before .before .before .before .before .before .before .decode .ensures .0) (c .before .before .before .before .before .if2 .left)) (found-some (c .before .before .before .decode2 .result) (c .before .before .before .before .before .before .before .before .decode .result) (c .before .before .before .decode2 .last .1 .0) (c .before .before .before .decode2 .ensures .0) (c .if3 .left)) (c .before .before .before .decode2 .ensures .1 .0), (omega arith, omega arith))
+returns-4 c =
+    let args = c .before .before .before .before .before .before .before .before .before .before .before .before .before .before .args in
+    let decode = c .before .before .before .before .before .before .before .before .decode in
+    let decode2 = c .before .before .before .decode2 in
+    let if1 = c .before .before .before .before .before .before .before .before .before .before .if1 in
+    let if2 = c .before .before .before .before .before .if2 in (
+      load-said (args .letter) (decode .result) (decode2 .result) (decode .last .1 .0) (decode2 .last .1 .0)
+          (argument (now (args .first))) (argument (now (args .second))) (if1 .left) (found-some (decode .result) 0
+          (decode .last .1 .0) (decode .ensures .0) (if2 .left)) (found-some (decode2 .result) (decode .result) (decode2 .last .1 .0) (decode2 .ensures .0) (c .if3 .left)) (decode2 .ensures .1 .0),
+      (omega arith, omega arith),
+    )
 
 pub read-two-spec : {M : Type 1} → statement M
 read-two-spec =

@@ -14,7 +14,15 @@ returns-3 : tie.Need-returns-3
 returns-3 c = ((λ out. rw (c .match .keys3)), (omega arith, omega arith))
 
 returns-4 : tie.Need-returns-4
-returns-4 c = ((λ out. rw (ne-eqb (c .before .args .letter) 67 (c .match .rest .0 .0 .1), ne-eqb (c .before .args .letter) 68 (c .match .rest .0 .1), ne-eqb (c .before .args .letter) 82 (c .match .rest .1))), (omega arith, omega arith))
+returns-4 c =
+    let args = c .before .args in (
+      (λ out. rw (
+        ne-eqb (args .letter) 67 (c .match .rest .0 .0 .1),
+        ne-eqb (args .letter) 68 (c .match .rest .0 .1),
+        ne-eqb (args .letter) 82 (c .match .rest .1),
+      )),
+      (omega arith, omega arith),
+    )
 
 pub with-one-spec : {M : Type 1} → statement M
 with-one-spec = tie.close (tie.spec returns returns-2 returns-3 returns-4)

@@ -1,5 +1,5 @@
 -- `loader::loader_delete` keeps its promise. Assumes nothing.
-use Rattle.loader.specs.Answers.{OpenedSays}
+use Rattle.sound.specs.Says.{OpenedSays}
 use Rattle.rules.specs.Operations.{delete}
 use Rattle.loader.proofs.Numbers as numbers
 use denote.Ref.{now}
@@ -8,8 +8,8 @@ use borrow.Author.Needs.{needs}
 use Rattle.loader.proofs.loader_delete.Statement.{statement}
 use Rattle.loader.proofs.loader_delete.Tie as tie
 
-opened-by-requires : tie.Need-opened-by-requires
-opened-by-requires c κs = search needs
+open-store-requires : tie.Need-open-store-requires
+open-store-requires c κs = search needs
 
 enum-known-n : tie.Need-enum-known-n
 enum-known-n c = search needs
@@ -20,7 +20,7 @@ enum-known-used c = search needs
 delete-on-requires : tie.Need-delete-on-requires
 delete-on-requires c κs =
     let start = c .before .before .before .before .before .before .before .before in
-    let opened = c .before .before .before .before .opened-by in
+    let opened = c .before .before .before .before .open-store in
     let known = c .before .before .used in
     subst (OpenedSays (now (start .args .store))) (known .given .1) (opened .ensures)
 
@@ -30,7 +30,7 @@ same-length c = search needs
 returns : tie.Need-returns
 returns c =
     let start = c .before .before .before .before .before .before .before in
-    let opened = c .before .before .before .opened-by in
+    let opened = c .before .before .before .open-store in
     let known = c .before .n in
     numbers.refused-number (now (start .args .store)) (delete (now (start .args .domain))) (opened .result) (known .given .0 .0) (known .given .1) (opened .ensures)
 
@@ -44,7 +44,7 @@ pub loader-delete-spec : {M : Type 1} → statement M
 loader-delete-spec =
     tie.close
     (tie.spec
-    opened-by-requires
+    open-store-requires
     enum-known-n
     enum-known-used
     delete-on-requires

@@ -1,7 +1,7 @@
 -- `loader::loader_query` keeps its promise. Assumes nothing.
 use Rattle.loader.specs.Promises.{QueryPromise}
-use Rattle.loader.proofs.Queries as queries
-use Rattle.loader.specs.Answers.{OpenedSays}
+use Rattle.loader.proofs.Numbers as numbers
+use Rattle.sound.specs.Says.{OpenedSays}
 use denote.Ref.{now}
 use Prim.Native.Nat.{ℕ}
 use mathlib.Core.Path.{subst}
@@ -9,8 +9,8 @@ use borrow.Author.Needs.{needs}
 use Rattle.loader.proofs.loader_query.Statement.{statement}
 use Rattle.loader.proofs.loader_query.Tie as tie
 
-opened-by-requires : tie.Need-opened-by-requires
-opened-by-requires c κs = search needs
+open-store-requires : tie.Need-open-store-requires
+open-store-requires c κs = search needs
 
 enum-known-n : tie.Need-enum-known-n
 enum-known-n c = search needs
@@ -24,16 +24,16 @@ wide-requires c κs = search needs
 query-on-requires : tie.Need-query-on-requires
 query-on-requires c κs =
     let start = c .before .before .before .before .before .before .before .before in
-    let opened = c .before .before .before .before .opened-by in
+    let opened = c .before .before .before .before .open-store in
     let known = c .before .before .used in
     subst (OpenedSays (now (start .args .store))) (known .given .1) (opened .ensures)
 
 returns : tie.Need-returns
 returns c =
     let start = c .before .before .before .before .before .before .before in
-    let opened = c .before .before .before .opened-by in
+    let opened = c .before .before .before .open-store in
     let known = c .before .n in
-    queries.query-unopened (now (start .args .store)) (now (start .args .domain)) (now (start .args .«package»)) (start .args .class) (start .args .name) (opened .result) (known .given .0 .0) (known .given .1) (opened .ensures)
+    numbers.refused-query (now (start .args .store)) (now (start .args .domain)) (now (start .args .«package»)) (start .args .class) (start .args .name) (opened .result) (known .given .0 .0) (known .given .1) (opened .ensures)
 
 returns-2 : tie.Need-returns-2
 returns-2 c =
@@ -45,7 +45,7 @@ pub loader-query-spec : {M : Type 1} → statement M
 loader-query-spec =
     tie.close
     (tie.spec
-    opened-by-requires
+    open-store-requires
     enum-known-n
     enum-known-used
     wide-requires

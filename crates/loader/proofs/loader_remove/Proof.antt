@@ -1,5 +1,5 @@
 -- `loader::loader_remove` keeps its promise. Assumes nothing.
-use Rattle.loader.specs.Answers.{OpenedSays}
+use Rattle.sound.specs.Says.{OpenedSays}
 use Rattle.rules.specs.Operations.{remove}
 use Rattle.loader.proofs.Numbers as numbers
 use denote.Ref.{now}
@@ -8,8 +8,8 @@ use borrow.Author.Needs.{needs}
 use Rattle.loader.proofs.loader_remove.Statement.{statement}
 use Rattle.loader.proofs.loader_remove.Tie as tie
 
-opened-by-requires : tie.Need-opened-by-requires
-opened-by-requires c κs = search needs
+open-store-requires : tie.Need-open-store-requires
+open-store-requires c κs = search needs
 
 enum-known-n : tie.Need-enum-known-n
 enum-known-n c = search needs
@@ -20,7 +20,7 @@ enum-known-used c = search needs
 remove-on-requires : tie.Need-remove-on-requires
 remove-on-requires c κs =
     let start = c .before .before .before .before .before .before .before .before in
-    let opened = c .before .before .before .before .opened-by in
+    let opened = c .before .before .before .before .open-store in
     let known = c .before .before .used in
     subst (OpenedSays (now (start .args .store))) (known .given .1) (opened .ensures)
 
@@ -30,7 +30,7 @@ same-length c = search needs
 returns : tie.Need-returns
 returns c =
     let start = c .before .before .before .before .before .before .before in
-    let opened = c .before .before .before .opened-by in
+    let opened = c .before .before .before .open-store in
     let known = c .before .n in
     numbers.refused-number (now (start .args .store)) (remove (now (start .args .«package»))) (opened .result) (known .given .0 .0) (known .given .1) (opened .ensures)
 
@@ -44,7 +44,7 @@ pub loader-remove-spec : {M : Type 1} → statement M
 loader-remove-spec =
     tie.close
     (tie.spec
-    opened-by-requires
+    open-store-requires
     enum-known-n
     enum-known-used
     remove-on-requires

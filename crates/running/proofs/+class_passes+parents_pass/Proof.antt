@@ -1,311 +1,327 @@
--- `running::class_passes` and `running::parents_pass` meet their contracts. The measure is 16 times the rank of the class, and 15 or the parents left. What is marked is true. Assumes nothing.
-use borrow.Author.Tests.{not-true, not-false}
-use Rattle.running.specs.Say.{MethodsPass, ClassPasses, ParentsPass, SeenIs}
-use Rattle.homes.specs.Memo.{key}
-use Rattle.running.proofs.Walk as walk
-use Rattle.running.proofs.Loops as loops
-use denote.Ref.{now}
-use Prim.Native.Nat.{ℕ, _+_, _*_, _<_}
-use mathlib.Core.Path.{subst}
-use mathlib.Core.Bool.{Bool}
+-- `running::class_passes` and `running::parents_pass` meet their contracts. The measure is twice the rank of the class, and one more for the class itself. What is seen passes. Assumes nothing.
 use native.Mathlib.Omega.{arith}
-use Prim.Native.Nat.{ℕ, _<_}
+use Prim.Native.Nat.{ℕ, _+_, _-_, _*_, _≤_, _<_}
+use mathlib.Core.Path.{_≡_, refl, subst, sym, _∙_}
+use lib.ListN.{length}
+use denote.Ref.{now}
+use borrow.Author.Tests.{not-true, not-false}
+use borrow.Author.Needs.{needs}
 use borrow.Fn.Kinds.{In}
 use borrow.Fn.PlainCycle.{Measures, is, falls, and}
+use Rattle.bits.proofs.get.Reads as get-reads
+use Rattle.bits.proofs.set.Reads as set-reads
+use Rattle.slots.specs.Slots.{SlotsTrue}
+use Rattle.running.specs.Say.{MethodsPass, ClassPasses}
+use Rattle.running.specs.Walk.{FirstPass, SeenPass, ParentsPass}
+use Rattle.running.proofs.Visits as visits
+use Rattle.running.proofs.Walk as walk
+use Rattle.running.proofs.Steps as steps
+use Rattle.running.proofs.Steps.{Passing}
+use Rattle.running.proofs.methods_pass.Reads as methods-pass-reads
+use Rattle.running.proofs.parent_visit.Reads as parent-visit-reads
+use Rattle.running.proofs.parents_in.Reads as parents-in-reads
+use Rattle.running.proofs.placed.Reads as placed-reads
 use Rattle.running.proofs.class_passes.Reads as class-passes
 use Rattle.running.proofs.class_passes.Kinds as class-passes-kinds
 use Rattle.running.proofs.+class_passes+parents_pass.Lts-class_passes as class-passes-lts
 use Rattle.running.proofs.parents_pass.Reads as parents-pass
 use Rattle.running.proofs.parents_pass.Kinds as parents-pass-kinds
 use Rattle.running.proofs.+class_passes+parents_pass.Lts-parents_pass as parents-pass-lts
-use Rattle.running.proofs.class_methods_pass.Reads as class-methods-pass-reads
-use Rattle.running.proofs.is_marked.Reads as is-marked-reads
-use Rattle.running.proofs.parent_at.Reads as parent-at-reads
-use Rattle.running.proofs.parent_count.Reads as parent-count-reads
-use Rattle.running.proofs.set_mark.Reads as set-mark-reads
 use Rattle.running.proofs.+class_passes+parents_pass.{statement}
 use Rattle.running.proofs.+class_passes+parents_pass.Tie.{close}
 
-abbrev μ-class-passes : Measures 4 class-passes-kinds.ps ℕ
-μ-class-passes κs a = 16 * (256 * a .1 .1 .1 .1 .1 .1 .1 .1 .1 .0 .before + a .1 .1 .1 .1 .1 .1 .1 .1 .1 .1 .0) + 15
+abbrev μ-class-passes : Measures 5 class-passes-kinds.ps ℕ
+μ-class-passes κs a = 2 * (256 * a .1 .1 .1 .1 .1 .1 .0 .home .before + a .1 .1 .1 .1 .1 .1 .0 .number) + 1
 
-abbrev μ-parents-pass : Measures 4 parents-pass-kinds.ps ℕ
-μ-parents-pass κs a = 16 * (256 * a .1 .1 .1 .1 .1 .1 .1 .1 .1 .0 .before + a .1 .1 .1 .1 .1 .1 .1 .1 .1 .1 .0) + a .1 .1 .1 .1 .1 .1 .1 .1 .1 .1 .1 .0
+abbrev μ-parents-pass : Measures 5 parents-pass-kinds.ps ℕ
+μ-parents-pass κs a = 2 * (256 * a .1 .1 .1 .1 .1 .1 .0 .home .before + a .1 .1 .1 .1 .1 .1 .0 .number)
 
-abbrev class-passes-at : ℕ → In 4 class-passes-kinds.ps
-class-passes-at t =
-    and 4 class-passes-kinds.ps (is 4 class-passes-kinds.ps μ-class-passes t) class-passes.Pre
+abbrev class-passes-at : ℕ → In 5 class-passes-kinds.ps
+class-passes-at t = and 5 class-passes-kinds.ps (is 5 class-passes-kinds.ps μ-class-passes t) class-passes.Pre
 
-abbrev class-passes-below : ℕ → In 4 class-passes-kinds.ps
-class-passes-below t =
-    and
-    4
-    class-passes-kinds.ps
-    (falls 4 class-passes-kinds.ps _<_ μ-class-passes t)
-    class-passes.Pre
+abbrev class-passes-below : ℕ → In 5 class-passes-kinds.ps
+class-passes-below t = and 5 class-passes-kinds.ps (falls 5 class-passes-kinds.ps _<_ μ-class-passes t) class-passes.Pre
 
-abbrev parents-pass-at : ℕ → In 4 parents-pass-kinds.ps
-parents-pass-at t =
-    and 4 parents-pass-kinds.ps (is 4 parents-pass-kinds.ps μ-parents-pass t) parents-pass.Pre
+abbrev parents-pass-at : ℕ → In 5 parents-pass-kinds.ps
+parents-pass-at t = and 5 parents-pass-kinds.ps (is 5 parents-pass-kinds.ps μ-parents-pass t) parents-pass.Pre
 
-abbrev parents-pass-below : ℕ → In 4 parents-pass-kinds.ps
-parents-pass-below t =
-    and
-    4
-    parents-pass-kinds.ps
-    (falls 4 parents-pass-kinds.ps _<_ μ-parents-pass t)
-    parents-pass.Pre
+abbrev parents-pass-below : ℕ → In 5 parents-pass-kinds.ps
+parents-pass-below t = and 5 parents-pass-kinds.ps (falls 5 parents-pass-kinds.ps _<_ μ-parents-pass t) parents-pass.Pre
 
-class-passes-add-at : (t : ℕ) → class-passes-lts.Need-add-at (
-  is-marked-reads.Asked,
-  is-marked-reads.Learnt,
-  class-methods-pass-reads.Asked,
-  class-methods-pass-reads.Learnt,
-  parent-count-reads.Asked,
-  parent-count-reads.Learnt,
+-- what each callee of `class-passes` asks for and gives
+abbrev class-passes-claims : ℕ → class-passes-lts.Claims
+class-passes-claims t = (
+  get-reads.Asked,
+  get-reads.Learnt,
+  placed-reads.Asked,
+  placed-reads.Learnt,
+  methods-pass-reads.Asked,
+  methods-pass-reads.Learnt,
   parents-pass-below t,
   parents-pass.Post,
-  set-mark-reads.Asked,
-  set-mark-reads.Learnt,
-) (class-passes-at t) class-passes.Post
-class-passes-add-at t c = omega (arith, walk.key-inside (now (c .before .before .before .args .f)) (now (c .before .before .before .args .s)) (c .before .before .before .args .end) (c .before .before .before .args .b) (c .before .before .before .args .h) (c .before .before .before .args .n) (c .before .before .before .pre .1 .1 .1 .0) (c .before .before .before .pre .1 .0))
+  set-reads.Asked,
+  set-reads.Learnt,
+)
 
-class-passes-is-marked-requires : (t : ℕ) → class-passes-lts.Need-is-marked-requires (
-  is-marked-reads.Asked,
-  is-marked-reads.Learnt,
-  class-methods-pass-reads.Asked,
-  class-methods-pass-reads.Learnt,
-  parent-count-reads.Asked,
-  parent-count-reads.Learnt,
-  parents-pass-below t,
-  parents-pass.Post,
-  set-mark-reads.Asked,
-  set-mark-reads.Learnt,
-) (class-passes-at t) class-passes.Post
-class-passes-is-marked-requires t c κs = ((c .before .before .before .before .pre .1 .1 .0) .below .size, walk.key-inside (now (c .before .before .before .before .args .f)) (now (c .before .before .before .before .args .s)) (c .before .before .before .before .args .end) (c .before .before .before .before .args .b) (c .before .before .before .before .args .h) (c .before .before .before .before .args .n) (c .before .before .before .before .pre .1 .1 .1 .0) (c .before .before .before .before .pre .1 .0))
-
-class-passes-returns : (t : ℕ) → class-passes-lts.Need-returns (
-  is-marked-reads.Asked,
-  is-marked-reads.Learnt,
-  class-methods-pass-reads.Asked,
-  class-methods-pass-reads.Learnt,
-  parent-count-reads.Asked,
-  parent-count-reads.Learnt,
-  parents-pass-below t,
-  parents-pass.Post,
-  set-mark-reads.Asked,
-  set-mark-reads.Learnt,
-) (class-passes-at t) class-passes.Post
-class-passes-returns t c = (walk.class-marked (now (c .before .before .before .before .before .before .args .f)) (now (c .before .before .before .before .before .before .args .s)) (c .before .before .before .before .before .before .args .end) (c .before .before .before .before .before .before .args .b) (c .before .before .before .before .before .before .args .h) (c .before .before .before .before .before .before .args .n) (c .before .before .before .before .before .before .args .mark) (now (c .before .before .before .before .before .before .args .memo)) (c .before .before .before .before .before .before .pre .1 .1 .0) (subst (λ (v : Bool). SeenIs (now (c .before .before .before .before .before .before .args .memo)) (key (c .before .before .before .before .before .before .args .h) (c .before .before .before .before .before .before .args .n)) (c .before .before .before .before .before .before .args .mark) v) (c .if1 .taken) (c .before .is-marked .ensures)), (c .before .before .before .before .before .before .pre .1 .1 .0))
-
-class-passes-class-methods-pass-requires :
-    (t : ℕ) → class-passes-lts.Need-class-methods-pass-requires (
-      is-marked-reads.Asked,
-      is-marked-reads.Learnt,
-      class-methods-pass-reads.Asked,
-      class-methods-pass-reads.Learnt,
-      parent-count-reads.Asked,
-      parent-count-reads.Learnt,
-      parents-pass-below t,
-      parents-pass.Post,
-      set-mark-reads.Asked,
-      set-mark-reads.Learnt,
-    ) (class-passes-at t) class-passes.Post
-class-passes-class-methods-pass-requires t c κs = ((c .before .before .before .before .before .before .pre .1 .0), (c .before .before .before .before .before .before .pre .1 .1 .1 .1 .0))
-
-class-passes-returns-2 : (t : ℕ) → class-passes-lts.Need-returns-2 (
-  is-marked-reads.Asked,
-  is-marked-reads.Learnt,
-  class-methods-pass-reads.Asked,
-  class-methods-pass-reads.Learnt,
-  parent-count-reads.Asked,
-  parent-count-reads.Learnt,
-  parents-pass-below t,
-  parents-pass.Post,
-  set-mark-reads.Asked,
-  set-mark-reads.Learnt,
-) (class-passes-at t) class-passes.Post
-class-passes-returns-2 t c = (walk.class-no (now (c .before .before .before .before .before .before .before .before .args .f)) (now (c .before .before .before .before .before .before .before .before .args .s)) (c .before .before .before .before .before .before .before .before .args .end) (c .before .before .before .before .before .before .before .before .args .b) (c .before .before .before .before .before .before .before .before .args .h) (c .before .before .before .before .before .before .before .before .args .n) (subst (λ (v : Bool). MethodsPass (now (c .before .before .before .before .before .before .before .before .args .f)) (now (c .before .before .before .before .before .before .before .before .args .s)) (c .before .before .before .before .before .before .before .before .args .end) (c .before .before .before .before .before .before .before .before .args .b) (c .before .before .before .before .before .before .before .before .args .h) (c .before .before .before .before .before .before .before .before .args .n) v) (not-true (c .before .class-methods-pass .result) (c .if2 .taken)) (c .before .class-methods-pass .ensures)), (c .before .before .before .before .before .before .before .before .pre .1 .1 .0))
-
-class-passes-parent-count-requires : (t : ℕ) → class-passes-lts.Need-parent-count-requires (
-  is-marked-reads.Asked,
-  is-marked-reads.Learnt,
-  class-methods-pass-reads.Asked,
-  class-methods-pass-reads.Learnt,
-  parent-count-reads.Asked,
-  parent-count-reads.Learnt,
-  parents-pass-below t,
-  parents-pass.Post,
-  set-mark-reads.Asked,
-  set-mark-reads.Learnt,
-) (class-passes-at t) class-passes.Post
-class-passes-parent-count-requires t c κs = loops.walk-class (now (c .before .before .before .before .before .before .before .before .args .f)) (now (c .before .before .before .before .before .before .before .before .args .s)) (c .before .before .before .before .before .before .before .before .args .end) (c .before .before .before .before .before .before .before .before .args .b) (c .before .before .before .before .before .before .before .before .args .h) (c .before .before .before .before .before .before .before .before .args .n) (c .before .before .before .before .before .before .before .before .pre .1 .0)
-
-class-passes-parents-pass-requires : (t : ℕ) → class-passes-lts.Need-parents-pass-requires (
-  is-marked-reads.Asked,
-  is-marked-reads.Learnt,
-  class-methods-pass-reads.Asked,
-  class-methods-pass-reads.Learnt,
-  parent-count-reads.Asked,
-  parent-count-reads.Learnt,
-  parents-pass-below t,
-  parents-pass.Post,
-  set-mark-reads.Asked,
-  set-mark-reads.Learnt,
-) (class-passes-at t) class-passes.Post
-class-passes-parents-pass-requires t c κs = (omega (arith, c .before .before .before .before .before .before .before .before .before .before .pre .0, c .before .parent-count .ensures .1), (walk.parents-all (now (c .before .before .before .before .before .before .before .before .before .before .args .f)) (now (c .before .before .before .before .before .before .before .before .before .before .args .s)) (c .before .before .before .before .before .before .before .before .before .before .args .end) (c .before .before .before .before .before .before .before .before .before .before .args .b) (c .before .before .before .before .before .before .before .before .before .before .args .h) (c .before .before .before .before .before .before .before .before .before .before .args .n) (c .before .parent-count .result) (c .before .parent-count .ensures .0) (c .before .before .before .before .before .before .before .before .before .before .pre .1 .0), ((c .before .before .before .before .before .before .before .before .before .before .pre .1 .1 .0), (((c .before .before .before .before .before .before .before .before .before .before .pre .1 .1 .1 .0), c .before .parent-count .ensures .1), c .before .before .before .before .before .before .before .before .before .before .pre .1 .1 .1 .1))))
-
-class-passes-returns-3 : (t : ℕ) → class-passes-lts.Need-returns-3 (
-  is-marked-reads.Asked,
-  is-marked-reads.Learnt,
-  class-methods-pass-reads.Asked,
-  class-methods-pass-reads.Learnt,
-  parent-count-reads.Asked,
-  parent-count-reads.Learnt,
-  parents-pass-below t,
-  parents-pass.Post,
-  set-mark-reads.Asked,
-  set-mark-reads.Learnt,
-) (class-passes-at t) class-passes.Post
-class-passes-returns-3 t c = (walk.class-parent-no (now (c .before .before .before .before .before .before .before .before .before .before .before .before .args .f)) (now (c .before .before .before .before .before .before .before .before .before .before .before .before .args .s)) (c .before .before .before .before .before .before .before .before .before .before .before .before .args .end) (c .before .before .before .before .before .before .before .before .before .before .before .before .args .b) (c .before .before .before .before .before .before .before .before .before .before .before .before .args .h) (c .before .before .before .before .before .before .before .before .before .before .before .before .args .n) (c .before .before .before .parent-count .result) (subst (λ (v : Bool). ParentsPass (now (c .before .before .before .before .before .before .before .before .before .before .before .before .args .f)) (now (c .before .before .before .before .before .before .before .before .before .before .before .before .args .s)) (c .before .before .before .before .before .before .before .before .before .before .before .before .args .end) (c .before .before .before .before .before .before .before .before .before .before .before .before .args .b) (c .before .before .before .before .before .before .before .before .before .before .before .before .args .h) (c .before .before .before .before .before .before .before .before .before .before .before .before .args .n) (c .before .before .before .parent-count .result) v) (not-true (c .before .parents-pass .result) (c .if3 .taken)) (c .before .parents-pass .ensures .0)), c .before .parents-pass .ensures .1)
-
-class-passes-set-mark-requires : (t : ℕ) → class-passes-lts.Need-set-mark-requires (
-  is-marked-reads.Asked,
-  is-marked-reads.Learnt,
-  class-methods-pass-reads.Asked,
-  class-methods-pass-reads.Learnt,
-  parent-count-reads.Asked,
-  parent-count-reads.Learnt,
-  parents-pass-below t,
-  parents-pass.Post,
-  set-mark-reads.Asked,
-  set-mark-reads.Learnt,
-) (class-passes-at t) class-passes.Post
-class-passes-set-mark-requires t c κs = (c .before .before .parents-pass .ensures .1 .below .size, walk.key-inside (now (c .before .before .before .before .before .before .before .before .before .before .before .before .before .args .f)) (now (c .before .before .before .before .before .before .before .before .before .before .before .before .before .args .s)) (c .before .before .before .before .before .before .before .before .before .before .before .before .before .args .end) (c .before .before .before .before .before .before .before .before .before .before .before .before .before .args .b) (c .before .before .before .before .before .before .before .before .before .before .before .before .before .args .h) (c .before .before .before .before .before .before .before .before .before .before .before .before .before .args .n) (c .before .before .before .before .before .before .before .before .before .before .before .before .before .pre .1 .1 .1 .0) (c .before .before .before .before .before .before .before .before .before .before .before .before .before .pre .1 .0), c .before .before .parents-pass .ensures .1 .fits)
-
-class-passes-returns-4 : (t : ℕ) → class-passes-lts.Need-returns-4 (
-  is-marked-reads.Asked,
-  is-marked-reads.Learnt,
-  class-methods-pass-reads.Asked,
-  class-methods-pass-reads.Learnt,
-  parent-count-reads.Asked,
-  parent-count-reads.Learnt,
-  parents-pass-below t,
-  parents-pass.Post,
-  set-mark-reads.Asked,
-  set-mark-reads.Learnt,
-) (class-passes-at t) class-passes.Post
-class-passes-returns-4 t c = ((walk.class-yes (now (c .before .before .before .before .before .before .before .before .before .before .before .before .before .before .args .f)) (now (c .before .before .before .before .before .before .before .before .before .before .before .before .before .before .args .s)) (c .before .before .before .before .before .before .before .before .before .before .before .before .before .before .args .end) (c .before .before .before .before .before .before .before .before .before .before .before .before .before .before .args .b) (c .before .before .before .before .before .before .before .before .before .before .before .before .before .before .args .h) (c .before .before .before .before .before .before .before .before .before .before .before .before .before .before .args .n) (c .before .before .before .before .before .parent-count .result) (subst (λ (v : Bool). MethodsPass (now (c .before .before .before .before .before .before .before .before .before .before .before .before .before .before .args .f)) (now (c .before .before .before .before .before .before .before .before .before .before .before .before .before .before .args .s)) (c .before .before .before .before .before .before .before .before .before .before .before .before .before .before .args .end) (c .before .before .before .before .before .before .before .before .before .before .before .before .before .before .args .b) (c .before .before .before .before .before .before .before .before .before .before .before .before .before .before .args .h) (c .before .before .before .before .before .before .before .before .before .before .before .before .before .before .args .n) v) (not-false (c .before .before .before .before .before .before .before .class-methods-pass .result) (c .before .before .before .before .before .before .if2 .left)) (c .before .before .before .before .before .before .before .class-methods-pass .ensures)) (c .before .before .before .before .before .parent-count .ensures .0) (subst (λ (v : Bool). ParentsPass (now (c .before .before .before .before .before .before .before .before .before .before .before .before .before .before .args .f)) (now (c .before .before .before .before .before .before .before .before .before .before .before .before .before .before .args .s)) (c .before .before .before .before .before .before .before .before .before .before .before .before .before .before .args .end) (c .before .before .before .before .before .before .before .before .before .before .before .before .before .before .args .b) (c .before .before .before .before .before .before .before .before .before .before .before .before .before .before .args .h) (c .before .before .before .before .before .before .before .before .before .before .before .before .before .before .args .n) (c .before .before .before .before .before .parent-count .result) v) (not-false (c .before .before .before .parents-pass .result) (c .before .before .if3 .left)) (c .before .before .before .parents-pass .ensures .0))), walk.mark-after (now (c .before .before .before .before .before .before .before .before .before .before .before .before .before .before .args .f)) (now (c .before .before .before .before .before .before .before .before .before .before .before .before .before .before .args .s)) (c .before .before .before .before .before .before .before .before .before .before .before .before .before .before .args .end) (c .before .before .before .before .before .before .before .before .before .before .before .before .before .before .args .b) (c .before .before .before .before .before .before .before .before .before .before .before .before .before .before .args .h) (c .before .before .before .before .before .before .before .before .before .before .before .before .before .before .args .n) (c .before .before .before .before .before .before .before .before .before .before .before .before .before .before .args .mark) _ (c .before .before .before .parents-pass .ensures .1) (c .before .before .before .before .before .before .before .before .before .before .before .before .before .before .pre .1 .1 .1 .0) (c .before .before .before .before .before .before .before .before .before .before .before .before .before .before .pre .1 .0) (walk.class-yes (now (c .before .before .before .before .before .before .before .before .before .before .before .before .before .before .args .f)) (now (c .before .before .before .before .before .before .before .before .before .before .before .before .before .before .args .s)) (c .before .before .before .before .before .before .before .before .before .before .before .before .before .before .args .end) (c .before .before .before .before .before .before .before .before .before .before .before .before .before .before .args .b) (c .before .before .before .before .before .before .before .before .before .before .before .before .before .before .args .h) (c .before .before .before .before .before .before .before .before .before .before .before .before .before .before .args .n) (c .before .before .before .before .before .parent-count .result) (subst (λ (v : Bool). MethodsPass (now (c .before .before .before .before .before .before .before .before .before .before .before .before .before .before .args .f)) (now (c .before .before .before .before .before .before .before .before .before .before .before .before .before .before .args .s)) (c .before .before .before .before .before .before .before .before .before .before .before .before .before .before .args .end) (c .before .before .before .before .before .before .before .before .before .before .before .before .before .before .args .b) (c .before .before .before .before .before .before .before .before .before .before .before .before .before .before .args .h) (c .before .before .before .before .before .before .before .before .before .before .before .before .before .before .args .n) v) (not-false (c .before .before .before .before .before .before .before .class-methods-pass .result) (c .before .before .before .before .before .before .if2 .left)) (c .before .before .before .before .before .before .before .class-methods-pass .ensures)) (c .before .before .before .before .before .parent-count .ensures .0) (subst (λ (v : Bool). ParentsPass (now (c .before .before .before .before .before .before .before .before .before .before .before .before .before .before .args .f)) (now (c .before .before .before .before .before .before .before .before .before .before .before .before .before .before .args .s)) (c .before .before .before .before .before .before .before .before .before .before .before .before .before .before .args .end) (c .before .before .before .before .before .before .before .before .before .before .before .before .before .before .args .b) (c .before .before .before .before .before .before .before .before .before .before .before .before .before .before .args .h) (c .before .before .before .before .before .before .before .before .before .before .before .before .before .before .args .n) (c .before .before .before .before .before .parent-count .result) v) (not-false (c .before .before .before .parents-pass .result) (c .before .before .if3 .left)) (c .before .before .before .parents-pass .ensures .0))) _ (c .set-mark .ensures))
-
-parents-pass-returns : (t : ℕ) → parents-pass-lts.Need-returns (
-  parent-at-reads.Asked,
-  parent-at-reads.Learnt,
+-- what each callee of `parents-pass` asks for and gives
+abbrev parents-pass-claims : ℕ → parents-pass-lts.Claims
+parents-pass-claims t = (
+  parents-in-reads.Asked,
+  parents-in-reads.Learnt,
+  parent-visit-reads.Asked,
+  parent-visit-reads.Learnt,
   class-passes-below t,
   class-passes.Post,
-  parents-pass-below t,
-  parents-pass.Post,
-) (parents-pass-at t) parents-pass.Post
-parents-pass-returns t c = (walk.parents-none (now (c .before .before .before .args .f)) (now (c .before .before .before .args .s)) (c .before .before .before .args .end) (c .before .before .before .args .b) (c .before .before .before .args .h) (c .before .before .before .args .n) (c .before .before .before .args .left) (c .if1 .taken), (c .before .before .before .pre .1 .1 .0))
+)
 
-parents-pass-sub-i : (t : ℕ) → parents-pass-lts.Need-sub-i (
-  parent-at-reads.Asked,
-  parent-at-reads.Learnt,
-  class-passes-below t,
-  class-passes.Post,
-  parents-pass-below t,
-  parents-pass.Post,
-) (parents-pass-at t) parents-pass.Post
-parents-pass-sub-i t c = omega arith
+abbrev parents-pass-Inv-loop : parents-pass-lts.InvT-loop
+parents-pass-Inv-loop f s index names seen₀ slots₀ v count i₀ seen slots i = FirstPass f s (v .names .end) (v .names .own) (v .home) (v .number) i × SeenPass f s (v .names .end) (v .names .own) seen × SlotsTrue f s slots × (length seen ≡ length seen₀) × (length slots ≡ length slots₀)
 
-parents-pass-parent-at-requires : (t : ℕ) → parents-pass-lts.Need-parent-at-requires (
-  parent-at-reads.Asked,
-  parent-at-reads.Learnt,
-  class-passes-below t,
-  class-passes.Post,
-  parents-pass-below t,
-  parents-pass.Post,
-) (parents-pass-at t) parents-pass.Post
-parents-pass-parent-at-requires t c κs = (walk.last-there (now (c .before .before .before .args .f)) (now (c .before .before .before .args .s)) (c .before .before .before .args .end) (c .before .before .before .args .b) (c .before .before .before .args .h) (c .before .before .before .args .n) (c .before .before .before .args .left) (c .if1 .left) (c .before .before .before .pre .1 .0), (c .before .before .before .pre .1 .1 .1 .1 .1, walk.walk-below (now (c .before .before .before .args .f)) (now (c .before .before .before .args .s)) (c .before .before .before .args .end) (c .before .before .before .args .b) (c .before .before .before .args .h) (c .before .before .before .args .n) (c .before .before .before .pre .1 .0 .class)))
+abbrev parents-pass-μ-loop : parents-pass-lts.MeasureT-loop
+parents-pass-μ-loop f s index names seen₀ slots₀ v count i₀ seen slots i = count - i
 
-parents-pass-class-passes-requires : (t : ℕ) → parents-pass-lts.Need-class-passes-requires (
-  parent-at-reads.Asked,
-  parent-at-reads.Learnt,
-  class-passes-below t,
-  class-passes.Post,
-  parents-pass-below t,
-  parents-pass.Post,
-) (parents-pass-at t) parents-pass.Post
-parents-pass-class-passes-requires t c κs = (omega (arith, c .before .before .before .before .before .before .pre .0, walk.parent-rank (now (c .before .before .before .before .before .before .args .f)) (now (c .before .before .before .before .before .before .args .s)) (c .before .before .before .before .before .before .args .end) (c .before .before .before .before .before .before .args .b) (c .before .before .before .before .before .before .args .h) (c .before .before .before .before .before .before .args .n) (c .before .before .before .before .before .before .args .left) (c .before .before .before .if1 .left) (c .before .before .parent-at .result) (c .before .before .parent-at .ensures) (c .before .before .before .before .before .before .pre .1 .0)), (walk.parent-walk (now (c .before .before .before .before .before .before .args .f)) (now (c .before .before .before .before .before .before .args .s)) (c .before .before .before .before .before .before .args .end) (c .before .before .before .before .before .before .args .b) (c .before .before .before .before .before .before .args .h) (c .before .before .before .before .before .before .args .n) (c .before .before .before .before .before .before .args .left) (c .before .before .before .if1 .left) (c .before .before .parent-at .result) (c .before .before .parent-at .ensures) (c .before .before .before .before .before .before .pre .1 .0), ((c .before .before .before .before .before .before .pre .1 .1 .0), ((c .before .before .before .before .before .before .pre .1 .1 .1 .0 .0), (c .before .before .before .before .before .before .pre .1 .1 .1 .1)))))
+class-passes-add-bit : (t : ℕ) → class-passes-lts.Need-add-bit (class-passes-claims t) (class-passes-at t) class-passes.Post
+class-passes-add-bit t c =
+    let b = c .before .before .before .before .before .before .before .before .before in
+    let f = now (b .args .f) in
+    let s = now (b .args .s) in
+    let v = b .args .v in
+    omega (arith, walk.key-few f s (v .names .end) (v .names .own) (v .home) (v .number) (b .pre .1 .0 .there) (b .pre .1 .0 .small))
 
-parents-pass-returns-2 : (t : ℕ) → parents-pass-lts.Need-returns-2 (
-  parent-at-reads.Asked,
-  parent-at-reads.Learnt,
-  class-passes-below t,
-  class-passes.Post,
-  parents-pass-below t,
-  parents-pass.Post,
-) (parents-pass-at t) parents-pass.Post
-parents-pass-returns-2 t c = (walk.parents-no (now (c .before .before .before .before .before .before .before .before .args .f)) (now (c .before .before .before .before .before .before .before .before .args .s)) (c .before .before .before .before .before .before .before .before .args .end) (c .before .before .before .before .before .before .before .before .args .b) (c .before .before .before .before .before .before .before .before .args .h) (c .before .before .before .before .before .before .before .before .args .n) (c .before .before .before .before .before .before .before .before .args .left) (c .before .before .before .before .before .if1 .left) (c .before .before .before .before .parent-at .result) (c .before .before .before .before .parent-at .ensures) (c .before .before .before .before .before .before .before .before .pre .1 .0) (subst (λ (v : Bool). ClassPasses (now (c .before .before .before .before .before .before .before .before .args .f)) (now (c .before .before .before .before .before .before .before .before .args .s)) (c .before .before .before .before .before .before .before .before .args .end) (c .before .before .before .before .before .before .before .before .args .b) ((c .before .before .before .before .parent-at .result) .home) ((c .before .before .before .before .parent-at .result) .number) v) (not-true (c .before .class-passes .result) (c .if2 .taken)) (c .before .class-passes .ensures .0)), c .before .class-passes .ensures .1)
+class-passes-get-requires : (t : ℕ) → class-passes-lts.Need-get-requires (class-passes-claims t) (class-passes-at t) class-passes.Post
+class-passes-get-requires t c κs =
+    let b = c .before .before .before .before .before .before .before .before .before .before in
+    let f = now (b .args .f) in
+    let s = now (b .args .s) in
+    let v = b .args .v in
+    walk.key-inside f s (v .names .end) (v .names .own) (v .home) (v .number) (b .pre .1 .0 .there) _ (b .pre .1 .1 .0 .room)
 
-parents-pass-parents-pass-requires : (t : ℕ) → parents-pass-lts.Need-parents-pass-requires (
-  parent-at-reads.Asked,
-  parent-at-reads.Learnt,
-  class-passes-below t,
-  class-passes.Post,
-  parents-pass-below t,
-  parents-pass.Post,
-) (parents-pass-at t) parents-pass.Post
-parents-pass-parents-pass-requires t c κs = (omega (arith, c .before .before .before .before .before .before .before .before .before .pre .0, c .before .before .before .before .before .before .if1 .left), (walk.rest-there (now (c .before .before .before .before .before .before .before .before .before .args .f)) (now (c .before .before .before .before .before .before .before .before .before .args .s)) (c .before .before .before .before .before .before .before .before .before .args .end) (c .before .before .before .before .before .before .before .before .before .args .b) (c .before .before .before .before .before .before .before .before .before .args .h) (c .before .before .before .before .before .before .before .before .before .args .n) (c .before .before .before .before .before .before .before .before .before .args .left) (c .before .before .before .before .before .before .if1 .left) (c .before .before .before .before .before .before .before .before .before .pre .1 .0), (c .before .before .class-passes .ensures .1, (((c .before .before .before .before .before .before .before .before .before .pre .1 .1 .1 .0 .0), omega (arith, c .before .before .before .before .before .before .before .before .before .pre .1 .1 .1 .0 .1)), c .before .before .before .before .before .before .before .before .before .pre .1 .1 .1 .1))))
+class-passes-same-length : (t : ℕ) → class-passes-lts.Need-same-length (class-passes-claims t) (class-passes-at t) class-passes.Post
+class-passes-same-length t c = search needs
 
-parents-pass-returns-3 : (t : ℕ) → parents-pass-lts.Need-returns-3 (
-  parent-at-reads.Asked,
-  parent-at-reads.Learnt,
-  class-passes-below t,
-  class-passes.Post,
-  parents-pass-below t,
-  parents-pass.Post,
-) (parents-pass-at t) parents-pass.Post
-parents-pass-returns-3 t c = (walk.parents-more (now (c .before .before .before .before .before .before .before .before .before .before .args .f)) (now (c .before .before .before .before .before .before .before .before .before .before .args .s)) (c .before .before .before .before .before .before .before .before .before .before .args .end) (c .before .before .before .before .before .before .before .before .before .before .args .b) (c .before .before .before .before .before .before .before .before .before .before .args .h) (c .before .before .before .before .before .before .before .before .before .before .args .n) (c .before .before .before .before .before .before .before .before .before .before .args .left) (c .before .before .before .before .before .before .before .if1 .left) (c .before .before .before .before .before .before .parent-at .result) (c .before .before .before .before .before .before .parent-at .ensures) (subst (λ (v : Bool). ClassPasses (now (c .before .before .before .before .before .before .before .before .before .before .args .f)) (now (c .before .before .before .before .before .before .before .before .before .before .args .s)) (c .before .before .before .before .before .before .before .before .before .before .args .end) (c .before .before .before .before .before .before .before .before .before .before .args .b) ((c .before .before .before .before .before .before .parent-at .result) .home) ((c .before .before .before .before .before .before .parent-at .result) .number) v) (not-false (c .before .before .before .class-passes .result) (c .before .before .if2 .left)) (c .before .before .before .class-passes .ensures .0)) (c .parents-pass .result) (c .parents-pass .ensures .0), c .parents-pass .ensures .1)
+class-passes-returns : (t : ℕ) → class-passes-lts.Need-returns (class-passes-claims t) (class-passes-at t) class-passes.Post
+class-passes-returns t c =
+    let b = c .before .before .before .before .before .before .before .before .before .before .before .before in
+    let f = now (b .args .f) in
+    let s = now (b .args .s) in
+    let v = b .args .v in
+    let m = b .pre .1 .1 .0 in
+    (walk.class-seen f s (v .names .end) (v .names .own) (v .home) (v .number) (now (b .args .seen)) m (sym (c .before .get .ensures) ∙ c .if1 .taken), (m, b .pre .1 .1 .1))
+
+class-passes-placed-requires : (t : ℕ) → class-passes-lts.Need-placed-requires (class-passes-claims t) (class-passes-at t) class-passes.Post
+class-passes-placed-requires t c κs =
+    let b = c .before .before .before .before .before .before .before .before .before .before .before .before .before in ((b .pre .1 .0 .there, b .pre .1 .0 .small), b .pre .1 .1 .1)
+
+class-passes-methods-pass-requires : (t : ℕ) → class-passes-lts.Need-methods-pass-requires (class-passes-claims t) (class-passes-at t) class-passes.Post
+class-passes-methods-pass-requires t c κs =
+    let b = c .before .before .before .before .before .before .before .before .before .before .before .before .before .before .before .before in
+    let f = now (b .args .f) in
+    let s = now (b .args .s) in
+    let v = b .args .v in
+    let w = c .before .before .placed .result in
+    let p = c .before .before .placed .ensures .0 in
+    (visits.visit-placed f s v (b .pre .1 .0 .there) w p, (steps.placed-from f s v w p (now (b .args .index)) (now (b .args .names)) (b .pre .1 .0)) .chain)
+
+class-passes-same-length-2 : (t : ℕ) → class-passes-lts.Need-same-length-2 (class-passes-claims t) (class-passes-at t) class-passes.Post
+class-passes-same-length-2 t c = search needs
+
+class-passes-same-length-3 : (t : ℕ) → class-passes-lts.Need-same-length-3 (class-passes-claims t) (class-passes-at t) class-passes.Post
+class-passes-same-length-3 t c = search needs
+
+class-passes-returns-2 : (t : ℕ) → class-passes-lts.Need-returns-2 (class-passes-claims t) (class-passes-at t) class-passes.Post
+class-passes-returns-2 t c =
+    let b = c .before .before .before .before .before .before .before .before .before .before .before .before .before .before .before .before .before .before in
+    let f = now (b .args .f) in
+    let s = now (b .args .s) in
+    let v = b .args .v in
+    let w = c .before .before .before .before .placed .result in
+    let p = c .before .before .before .before .placed .ensures .0 in
+    let m = c .before .methods-pass in
+    (steps.methods-no f s v w p (subst (Passing MethodsPass f s w) (not-true (m .result) (c .if2 .taken)) (m .ensures)), (b .pre .1 .1 .0, c .before .before .before .before .placed .ensures .1))
+
+class-passes-parents-pass-requires : (t : ℕ) → class-passes-lts.Need-parents-pass-requires (class-passes-claims t) (class-passes-at t) class-passes.Post
+class-passes-parents-pass-requires t c κs =
+    let b = c .before .before .before .before .before .before .before .before .before .before .before .before .before .before .before .before .before .before .before .before in
+    let f = now (b .args .f) in
+    let s = now (b .args .s) in
+    let v = b .args .v in
+    let w = c .before .before .before .before .before .before .placed .result in
+    let p = c .before .before .before .before .before .before .placed .ensures .0 in
+    let from = steps.placed-from f s v w p (now (b .args .index)) (now (b .args .names)) (b .pre .1 .0) in (
+      omega (arith, b .pre .0, steps.placed-rank f s v w p),
+      ((from, visits.visit-placed f s v (b .pre .1 .0 .there) w p), (steps.placed-seen f s v w p (now (b .args .seen)) (b .pre .1 .1 .0), c .before .before .before .before .before .before .placed .ensures .1)),
+    )
+
+class-passes-same-length-4 : (t : ℕ) → class-passes-lts.Need-same-length-4 (class-passes-claims t) (class-passes-at t) class-passes.Post
+class-passes-same-length-4 t c = search needs
+
+class-passes-same-length-5 : (t : ℕ) → class-passes-lts.Need-same-length-5 (class-passes-claims t) (class-passes-at t) class-passes.Post
+class-passes-same-length-5 t c = search needs
+
+class-passes-returns-3 : (t : ℕ) → class-passes-lts.Need-returns-3 (class-passes-claims t) (class-passes-at t) class-passes.Post
+class-passes-returns-3 t c =
+    let b = c .before .before .before .before .before .before .before .before .before .before .before .before .before .before .before .before .before .before .before .before .before .before .before .before .before .before in
+    let f = now (b .args .f) in
+    let s = now (b .args .s) in
+    let v = b .args .v in
+    let w = c .before .before .before .before .before .before .before .before .before .before .before .before .placed .result in
+    let p = c .before .before .before .before .before .before .before .before .before .before .before .before .placed .ensures .0 in
+    let n = c .before .before .before .before .before .parents-pass in (
+      steps.parents-no f s v w p (subst (Passing ParentsPass f s w) (not-true (n .result) (c .if3 .taken)) (n .ensures .0)),
+      (steps.seen-placed f s v w p _ (n .ensures .1 .0), n .ensures .1 .1),
+    )
+
+class-passes-set-requires : (t : ℕ) → class-passes-lts.Need-set-requires (class-passes-claims t) (class-passes-at t) class-passes.Post
+class-passes-set-requires t c κs =
+    let b = c .before .before .before .before .before .before .before .before .before .before .before .before .before .before .before .before .before .before .before .before .before .before .before .before .before .before .before in
+    let f = now (b .args .f) in
+    let s = now (b .args .s) in
+    let v = b .args .v in
+    walk.key-inside f s (v .names .end) (v .names .own) (v .home) (v .number) (b .pre .1 .0 .there) _ (c .before .before .before .before .before .before .parents-pass .ensures .1 .0 .room)
+
+class-passes-same-length-6 : (t : ℕ) → class-passes-lts.Need-same-length-6 (class-passes-claims t) (class-passes-at t) class-passes.Post
+class-passes-same-length-6 t c = search needs
+
+class-passes-same-length-7 : (t : ℕ) → class-passes-lts.Need-same-length-7 (class-passes-claims t) (class-passes-at t) class-passes.Post
+class-passes-same-length-7 t c = search needs
+
+class-passes-returns-4 : (t : ℕ) → class-passes-lts.Need-returns-4 (class-passes-claims t) (class-passes-at t) class-passes.Post
+class-passes-returns-4 t c =
+    let b = c .before .before .before .before .before .before .before .before .before .before .before .before .before .before .before .before .before .before .before .before .before .before .before .before .before .before .before .before .before .before in
+    let f = now (b .args .f) in
+    let s = now (b .args .s) in
+    let v = b .args .v in
+    let w = c .before .before .before .before .before .before .before .before .before .before .before .before .before .before .before .before .placed .result in
+    let p = c .before .before .before .before .before .before .before .before .before .before .before .before .before .before .before .before .placed .ensures .0 in
+    let m = c .before .before .before .before .before .before .before .before .before .before .before .before .before .methods-pass in
+    let n = c .before .before .before .before .before .before .before .before .before .parents-pass in
+    let passes = steps.both-yes f s v w p (subst (Passing MethodsPass f s w) (not-false (m .result) (c .before .before .before .before .before .before .before .before .before .before .before .before .if2 .left)) (m .ensures)) (subst (Passing ParentsPass f s w) (not-false (n .result) (c .before .before .before .before .if3 .left)) (n .ensures .0)) in
+    (passes, (walk.seen-more f s (v .names .end) (v .names .own) (v .home) (v .number) _ (steps.seen-placed f s v w p _ (n .ensures .1 .0)) (b .pre .1 .0 .there) passes _ (omega arith) (c .before .before .set .ensures), n .ensures .1 .1))
+
+parents-pass-parents-in-requires : (t : ℕ) → parents-pass-lts.Need-parents-in-requires (parents-pass-claims t) (parents-pass-at t) parents-pass.Post parents-pass-Inv-loop parents-pass-μ-loop
+parents-pass-parents-in-requires t c κs = c .before .before .before .before .before .before .pre .1 .0 .1
+
+parents-pass-loop-holds : (t : ℕ) → parents-pass-lts.Need-loop-holds (parents-pass-claims t) (parents-pass-at t) parents-pass.Post parents-pass-Inv-loop parents-pass-μ-loop
+parents-pass-loop-holds t c =
+    let b = c .before .before .before .before .before .before .before in
+    let f = now (b .args .f) in
+    let s = now (b .args .s) in
+    let v = b .args .v in
+    (walk.first-none f s (v .names .end) (v .names .own) (v .home) (v .number), b .pre .1 .1 .0, b .pre .1 .1 .1, refl, refl)
+
+parents-pass-parent-visit-requires : (t : ℕ) → parents-pass-lts.Need-parent-visit-requires (parents-pass-claims t) (parents-pass-at t) parents-pass.Post parents-pass-Inv-loop parents-pass-μ-loop
+parents-pass-parent-visit-requires t c κs =
+    let b = c .before .before .before .before .before .before .before .before .before .before in
+    let f = now (b .args .f) in
+    let s = now (b .args .s) in
+    let v = b .args .v in
+    let n = c .before .before .before .parents-in in
+    ((steps.parent-placed f s v (n .result) (c .before .before .loop .i) (n .ensures .0) (c .before .loop-test .taken) (b .pre .1 .0 .1), b .pre .1 .0 .0 .small), (b .pre .1 .0 .0 .indexed, c .before .before .loop .inv .2))
+
+parents-pass-class-passes-requires : (t : ℕ) → parents-pass-lts.Need-class-passes-requires (parents-pass-claims t) (parents-pass-at t) parents-pass.Post parents-pass-Inv-loop parents-pass-μ-loop
+parents-pass-class-passes-requires t c κs =
+    let b = c .before .before .before .before .before .before .before .before .before .before .before .before .before .before .before in
+    let f = now (b .args .f) in
+    let s = now (b .args .s) in
+    let v = b .args .v in
+    let n = c .before .before .before .before .before .before .before .before .parents-in in
+    let w = c .before .before .before .before .parent-visit .result in
+    let p = c .before .before .before .before .parent-visit .ensures .0 in
+    let index = now (b .args .index) in
+    let names = now (b .args .names) in (
+      omega (arith, b .pre .0, steps.parent-less f s v (n .result) (c .before .before .before .before .before .before .before .loop .i) (n .ensures .0) (c .before .before .before .before .before .before .loop-test .taken) w p index names (b .pre .1 .0 .0)),
+      (steps.parent-from f s v (n .result) (c .before .before .before .before .before .before .before .loop .i) (n .ensures .0) (c .before .before .before .before .before .before .loop-test .taken) w p index names (b .pre .1 .0 .0), (steps.parent-seen f s v (n .result) (c .before .before .before .before .before .before .before .loop .i) (n .ensures .0) (c .before .before .before .before .before .before .loop-test .taken) w p _ (c .before .before .before .before .before .before .before .loop .inv .1), c .before .before .before .before .parent-visit .ensures .1)),
+    )
+
+parents-pass-same-length : (t : ℕ) → parents-pass-lts.Need-same-length (parents-pass-claims t) (parents-pass-at t) parents-pass.Post parents-pass-Inv-loop parents-pass-μ-loop
+parents-pass-same-length t c = omega (arith, c .before .before .before .before .before .before .before .before .before .before .before .before .before .loop .inv .3)
+
+parents-pass-same-length-2 : (t : ℕ) → parents-pass-lts.Need-same-length-2 (parents-pass-claims t) (parents-pass-at t) parents-pass.Post parents-pass-Inv-loop parents-pass-μ-loop
+parents-pass-same-length-2 t c = omega (arith, c .before .before .before .before .before .before .before .before .before .before .before .before .before .loop .inv .4)
+
+parents-pass-returns : (t : ℕ) → parents-pass-lts.Need-returns (parents-pass-claims t) (parents-pass-at t) parents-pass.Post parents-pass-Inv-loop parents-pass-μ-loop
+parents-pass-returns t c =
+    let b = c .before .before .before .before .before .before .before .before .before .before .before .before .before .before .before .before .before .before .before .before .before in
+    let f = now (b .args .f) in
+    let s = now (b .args .s) in
+    let v = b .args .v in
+    let n = c .before .before .before .before .before .before .before .before .before .before .before .before .before .before .parents-in in
+    let w = c .before .before .before .before .before .before .before .before .before .before .parent-visit .result in
+    let p = c .before .before .before .before .before .before .before .before .before .before .parent-visit .ensures .0 in
+    let r = c .before .before .before .before .before .class-passes in (
+      steps.parent-no f s v (n .result) (c .before .before .before .before .before .before .before .before .before .before .before .before .before .loop .i) (n .ensures .0) (c .before .before .before .before .before .before .before .before .before .before .before .before .loop-test .taken) w p (subst (Passing ClassPasses f s w) (not-true (r .result) (c .if1 .taken)) (r .ensures .0)),
+      (steps.seen-parent f s v (n .result) (c .before .before .before .before .before .before .before .before .before .before .before .before .before .loop .i) (n .ensures .0) (c .before .before .before .before .before .before .before .before .before .before .before .before .loop-test .taken) w p _ (r .ensures .1 .0), r .ensures .1 .1),
+    )
+
+parents-pass-add-i : (t : ℕ) → parents-pass-lts.Need-add-i (parents-pass-claims t) (parents-pass-at t) parents-pass.Post parents-pass-Inv-loop parents-pass-μ-loop
+parents-pass-add-i t c = omega (arith, c .before .before .before .before .before .before .before .before .before .before .before .before .loop-test .taken, c .before .before .before .before .before .before .before .before .before .before .before .before .before .before .parents-in .ensures .1)
+
+parents-pass-loop-less : (t : ℕ) → parents-pass-lts.Need-loop-less (parents-pass-claims t) (parents-pass-at t) parents-pass.Post parents-pass-Inv-loop parents-pass-μ-loop
+parents-pass-loop-less t c = omega (arith, c .before .before .before .before .before .before .before .before .before .before .before .before .loop-test .taken)
+
+parents-pass-loop-again : (t : ℕ) → parents-pass-lts.Need-loop-again (parents-pass-claims t) (parents-pass-at t) parents-pass.Post parents-pass-Inv-loop parents-pass-μ-loop
+parents-pass-loop-again t c =
+    let b = c .before .before .before .before .before .before .before .before .before .before .before .before .before .before .before .before .before .before .before .before .before in
+    let f = now (b .args .f) in
+    let s = now (b .args .s) in
+    let v = b .args .v in
+    let n = c .before .before .before .before .before .before .before .before .before .before .before .before .before .before .parents-in in
+    let w = c .before .before .before .before .before .before .before .before .before .before .parent-visit .result in
+    let p = c .before .before .before .before .before .before .before .before .before .before .parent-visit .ensures .0 in
+    let r = c .before .before .before .before .before .class-passes in (
+      steps.parent-yes f s v (n .result) (c .before .before .before .before .before .before .before .before .before .before .before .before .before .loop .i) (n .ensures .0) (c .before .before .before .before .before .before .before .before .before .before .before .before .loop-test .taken) w p (subst (Passing ClassPasses f s w) (not-false (r .result) (c .if1 .left)) (r .ensures .0)) (c .before .before .before .before .before .before .before .before .before .before .before .before .before .loop .inv .0),
+      steps.seen-parent f s v (n .result) (c .before .before .before .before .before .before .before .before .before .before .before .before .before .loop .i) (n .ensures .0) (c .before .before .before .before .before .before .before .before .before .before .before .before .loop-test .taken) w p _ (r .ensures .1 .0),
+      r .ensures .1 .1,
+      omega (arith, c .before .before .before .before .before .before .before .before .before .before .before .before .before .loop .inv .3),
+      omega (arith, c .before .before .before .before .before .before .before .before .before .before .before .before .before .loop .inv .4),
+    )
+
+parents-pass-same-length-3 : (t : ℕ) → parents-pass-lts.Need-same-length-3 (parents-pass-claims t) (parents-pass-at t) parents-pass.Post parents-pass-Inv-loop parents-pass-μ-loop
+parents-pass-same-length-3 t c = c .before .loop .inv .3
+
+parents-pass-same-length-4 : (t : ℕ) → parents-pass-lts.Need-same-length-4 (parents-pass-claims t) (parents-pass-at t) parents-pass.Post parents-pass-Inv-loop parents-pass-μ-loop
+parents-pass-same-length-4 t c = c .before .loop .inv .4
+
+parents-pass-returns-2 : (t : ℕ) → parents-pass-lts.Need-returns-2 (parents-pass-claims t) (parents-pass-at t) parents-pass.Post parents-pass-Inv-loop parents-pass-μ-loop
+parents-pass-returns-2 t c =
+    let b = c .before .before .before .before .before .before .before .before .before in
+    let f = now (b .args .f) in
+    let s = now (b .args .s) in
+    let v = b .args .v in
+    let n = c .before .before .parents-in in
+    (walk.first-all f s (v .names .end) (v .names .own) (v .home) (v .number) (n .result) (c .before .loop .i) (n .ensures .0) (c .loop-test .left) (c .before .loop .inv .0), (c .before .loop .inv .1, c .before .loop .inv .2))
 
 pub +class-passes+parents-pass-spec : {M : Type 1} → statement M
-+class-passes+parents-pass-spec = close μ-class-passes μ-parents-pass (λ t. class-passes-lts.spec (
-  is-marked-reads.Asked,
-  is-marked-reads.Learnt,
-  class-methods-pass-reads.Asked,
-  class-methods-pass-reads.Learnt,
-  parent-count-reads.Asked,
-  parent-count-reads.Learnt,
-  parents-pass-below t,
-  parents-pass.Post,
-  set-mark-reads.Asked,
-  set-mark-reads.Learnt,
-)
-    (class-passes-at t)
-    class-passes.Post
-    (class-passes-add-at t)
-    (class-passes-is-marked-requires t)
++class-passes+parents-pass-spec = close μ-class-passes μ-parents-pass
+    (λ t. class-passes-lts.spec (class-passes-claims t) (class-passes-at t) class-passes.Post
+    (class-passes-add-bit t)
+    (class-passes-get-requires t)
+    (class-passes-same-length t)
     (class-passes-returns t)
-    (class-passes-class-methods-pass-requires t)
+    (class-passes-placed-requires t)
+    (class-passes-methods-pass-requires t)
+    (class-passes-same-length-2 t)
+    (class-passes-same-length-3 t)
     (class-passes-returns-2 t)
-    (class-passes-parent-count-requires t)
     (class-passes-parents-pass-requires t)
+    (class-passes-same-length-4 t)
+    (class-passes-same-length-5 t)
     (class-passes-returns-3 t)
-    (class-passes-set-mark-requires t)
+    (class-passes-set-requires t)
+    (class-passes-same-length-6 t)
+    (class-passes-same-length-7 t)
     (class-passes-returns-4 t))
-    λ t. parents-pass-lts.spec (
-      parent-at-reads.Asked,
-      parent-at-reads.Learnt,
-      class-passes-below t,
-      class-passes.Post,
-      parents-pass-below t,
-      parents-pass.Post,
-    )
-    (parents-pass-at t)
-    parents-pass.Post
-    (parents-pass-returns t)
-    (parents-pass-sub-i t)
-    (parents-pass-parent-at-requires t)
+    (λ t. parents-pass-lts.spec (parents-pass-claims t) (parents-pass-at t) parents-pass.Post parents-pass-Inv-loop parents-pass-μ-loop
+    (parents-pass-parents-in-requires t)
+    (parents-pass-loop-holds t)
+    (parents-pass-parent-visit-requires t)
     (parents-pass-class-passes-requires t)
-    (parents-pass-returns-2 t)
-    (parents-pass-parents-pass-requires t)
-    (parents-pass-returns-3 t)
+    (parents-pass-same-length t)
+    (parents-pass-same-length-2 t)
+    (parents-pass-returns t)
+    (parents-pass-add-i t)
+    (parents-pass-loop-less t)
+    (parents-pass-loop-again t)
+    (parents-pass-same-length-3 t)
+    (parents-pass-same-length-4 t)
+    (parents-pass-returns-2 t))

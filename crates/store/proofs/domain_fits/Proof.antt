@@ -1,6 +1,6 @@
 -- `store::domain_fits` is question 21 of a domain's entry, with no sum that wraps. Assumes nothing.
 use Rattle.rules.specs.Store.{domain}
-use Rattle.store.proofs.Change as change
+use Rattle.store.proofs.Fits as fits
 use denote.Ref.{now}
 use Prim.Native.Nat.{_+_, _-_}
 use mathlib.Core.Path.{refl, sym}
@@ -20,7 +20,7 @@ returns c =
     let aid = now (start .args .aid) in
     let s = now (start .args .s) in
     let end = start .args .end in
-    change.fits-is s end (length aid) (domain aid) false refl (sym (lt-leb (end + (3 + length aid)) (length s) (omega arith)))
+    fits.fits-is s end (length aid) (domain aid) false refl (sym (lt-leb (end + (3 + length aid)) (length s) (omega arith)))
 
 returns-2 : tie.Need-returns-2
 returns-2 c =
@@ -28,7 +28,7 @@ returns-2 c =
     let aid = now (start .args .aid) in
     let s = now (start .args .s) in
     let end = start .args .end in
-    change.fits-is s end (length aid) (domain aid) _ refl (change.leb-same (length aid) (length s - end - 3) (end + (3 + length aid)) (length s) (λ h. omega arith) (λ h. omega arith))
+    fits.fits-is s end (length aid) (domain aid) _ refl (fits.leb-same (length aid) (length s - end - 3) (end + (3 + length aid)) (length s) (λ h. omega arith) (λ h. omega arith))
 
 pub domain-fits-spec : {M : Type 1} → statement M
 domain-fits-spec = tie.close (tie.spec sub-free returns returns-2)

@@ -1,10 +1,12 @@
--- `store::zeros_from` tells whether only zeros follow: what is left to compare decides. Assumes nothing.
+-- `store::zeros_from` tells whether only zeros follow: the greatest byte passed and what is left to compare decide. Assumes nothing.
 use Rattle.rules.specs.Store.{isZero}
 use Rattle.rules.specs.Bytes.{all}
 use Rattle.store.proofs.Checks as checks
 use denote.Ref.{now}
-use Prim.Native.Nat.{_-_, _≤_}
-use mathlib.Core.Path.{_≡_, refl, sym, _∙_}
+use Prim.Native.Nat.{ℕ, _+_, _-_, _≤_}
+use mathlib.Core.Path.{_≡_, refl, sym, _∙_, ap}
+use mathlib.Core.Bool.{_&&_}
+use lib.Dec.{eqb}
 use native.Mathlib.Omega.{arith}
 use lib.ListN.{length, drop}
 use borrow.Author.Needs.{needs}
@@ -12,21 +14,19 @@ use Rattle.store.proofs.zeros_from.Statement.{statement}
 use Rattle.store.proofs.zeros_from.Tie as tie
 
 abbrev Inv-loop : tie.InvT-loop
-Inv-loop s from i₀ i = (i ≤ length s) × (all isZero (drop from s) ≡ all isZero (drop i s))
+Inv-loop s from greatest₀ i₀ greatest i = (i ≤ length s) × (all isZero (drop from s) ≡ (eqb greatest 0 && all isZero (drop i s)))
 
 abbrev μ-loop : tie.MeasureT-loop
-μ-loop s from i₀ i = length s - i
+μ-loop s from greatest₀ i₀ greatest i = length s - i
 
 loop-holds : tie.Need-loop-holds Inv-loop μ-loop
-loop-holds c = (c .pre, refl)
+loop-holds c = (c .before .pre, refl)
 
-shared-slice-read-if1 : tie.Need-shared-slice-read-if1 Inv-loop μ-loop
-shared-slice-read-if1 c = search needs
+shared-slice-read-greater : tie.Need-shared-slice-read-greater Inv-loop μ-loop
+shared-slice-read-greater c = search needs
 
-returns : tie.Need-returns Inv-loop μ-loop
-returns c =
-    let turn = c .before .before .before .loop in
-    sym (turn .inv .1 ∙ checks.zero-other (now (c .before .before .before .before .args .s)) (turn .i) (c .before .before .loop-test .taken) (c .if1 .taken))
+greater-requires : tie.Need-greater-requires Inv-loop μ-loop
+greater-requires c κs = search needs
 
 add-i : tie.Need-add-i Inv-loop μ-loop
 add-i c = omega arith
@@ -37,12 +37,14 @@ loop-less c = omega arith
 loop-again : tie.Need-loop-again Inv-loop μ-loop
 loop-again c =
     let turn = c .before .before .before .loop in
-    (omega arith, turn .inv .1 ∙ checks.zero-more (now (c .before .before .before .before .args .s)) (turn .i) (c .before .before .loop-test .taken) (c .if1 .left))
+    let s = now (c .before .before .before .before .before .args .s) in
+    let more = checks.zero-more s (turn .i) (turn .greatest) (c .before .before .loop-test .taken) in
+    (omega arith, turn .inv .1 ∙ more ∙ ap (λ (g : ℕ). eqb g 0 && all isZero (drop (turn .i + 1) s)) (sym (c .greater .ensures)))
 
-returns-2 : tie.Need-returns-2 Inv-loop μ-loop
-returns-2 c =
+returns : tie.Need-returns Inv-loop μ-loop
+returns c =
     let turn = c .before .loop in
-    sym (turn .inv .1 ∙ checks.zero-end (now (c .before .before .args .s)) (turn .i) (omega arith))
+    sym (turn .inv .1 ∙ checks.zero-end (now (c .before .before .before .args .s)) (turn .i) (turn .greatest) (omega arith))
 
 pub zeros-from-spec : {M : Type 1} → statement M
 zeros-from-spec =
@@ -51,9 +53,9 @@ zeros-from-spec =
     Inv-loop
     μ-loop
     loop-holds
-    shared-slice-read-if1
-    returns
+    shared-slice-read-greater
+    greater-requires
     add-i
     loop-less
     loop-again
-    returns-2)
+    returns)

@@ -1,30 +1,43 @@
 -- `calls::references::name_reference` meets its contract: the numbers and the name of the reference, and what they name. Assumes nothing.
-use Rattle.files.proofs.Walks.{references-there}
-use Rattle.files.specs.Say.{ReferenceNth}
-use Rattle.calls.proofs.Lookups as look
-use denote.Ref.{now}
+use native.Mathlib.Omega.{arith}
 use mathlib.Core.Path.{subst}
+use denote.Ref.{now}
 use borrow.Author.Needs.{needs}
+use Rattle.files.specs.Say.{ReferenceNth}
+use Rattle.files.proofs.Walks.{references-there}
+use Rattle.calls.proofs.Lookups as look
 use Rattle.calls.proofs.references.name_reference.Statement.{statement}
 use Rattle.calls.proofs.references.name_reference.Tie as tie
 
 reference-at-requires : tie.Need-reference-at-requires
-reference-at-requires c κs = references-there (c .before .before .pre .1 .1 .1) (look.judged-reads (c .before .before .pre .0))
+reference-at-requires c κs = let b = c .before .before .before in references-there (b .pre .0 .1 .1) (look.judged-reads (b .pre .0 .0))
 
 enum-known-p : tie.Need-enum-known-p
 enum-known-p c = search needs
 
 named-by-requires : tie.Need-named-by-requires
-named-by-requires c κs = (c .before .before .before .before .before .before .pre .0, (c .before .before .before .before .before .before .pre .1 .0, c .before .before .before .before .before .before .pre .1 .1 .0))
+named-by-requires c κs = let b = c .before .before .before .before .before .before .before .before in (b .pre .0, b .pre .1)
 
 enum-told : tie.Need-enum-told
 enum-told c = search needs
 
+same-length : tie.Need-same-length
+same-length c = omega (arith, c .before .before .named-by .kept)
+
 returns : tie.Need-returns
-returns c = look.reference-named (now (c .before .before .before .before .before .before .before .args .homes)) (c .before .before .before .before .before .before .before .args .references) (c .before .before .before .before .before .before .before .args .index) (c .before .before .before .before .before .before .before .pre .1 .1 .1) (c .before .before .p .given .0 .0) (c .before .before .p .given .0 .1 .0) (c .before .before .p .given .0 .1 .1 .0) (subst (ReferenceNth (now (c .before .before .before .before .before .before .before .args .f)) (c .before .before .before .before .before .before .before .args .references) (c .before .before .before .before .before .before .before .args .index)) (c .before .before .p .given .1) (c .before .before .before .before .reference-at .ensures)) (c .named-by .result) (c .named-by .ensures)
+returns c =
+    let b = c .before .before .before .before .before .before .before .before .before .before .before in
+    let a = b .args in
+    let x = c .before .before .before .before .before .p .given .0 in
+    let r = subst (ReferenceNth (now (a .f)) (a .a .references) (a .index)) (c .before .before .before .before .before .p .given .1) (c .before .before .before .before .before .before .before .reference-at .ensures) in
+    (look.reference-named (now (a .homes)) (a .a .references) (a .index) (b .pre .0 .1 .1) (x .0) (x .1 .0) (x .1 .1 .0) r (c .before .before .named-by .result) (c .before .before .named-by .ensures .0), c .before .before .named-by .ensures .1)
 
 returns-2 : tie.Need-returns-2
-returns-2 c = look.reference-none (now (c .before .before .before .before .before .args .homes)) (c .before .before .before .before .before .args .references) (c .before .before .before .before .before .args .index) (c .before .before .before .before .before .pre .1 .1 .1) (subst (ReferenceNth (now (c .before .before .before .before .before .args .f)) (c .before .before .before .before .before .args .references) (c .before .before .before .before .before .args .index)) (c .enum-told .given .1) (c .before .before .reference-at .ensures))
+returns-2 c =
+    let b = c .before .before .before .before .before .before in
+    let a = b .args in
+    let r = subst (ReferenceNth (now (a .f)) (a .a .references) (a .index)) (c .enum-told .given .1) (c .before .before .reference-at .ensures) in
+    (look.reference-none (now (a .homes)) (a .a .references) (a .index) (b .pre .0 .1 .1) r, b .pre .1 .1)
 
 pub name-reference-spec : {M : Type 1} → statement M
 name-reference-spec =
@@ -34,5 +47,6 @@ name-reference-spec =
     enum-known-p
     named-by-requires
     enum-told
+    same-length
     returns
     returns-2)

@@ -1,36 +1,65 @@
--- `calls::references::named_by` meets its contract: the home of the package, the class record at its place, the method in it. Assumes nothing.
-use Rattle.rules.specs.Package.{storeLimits}
+-- `calls::references::named_by` meets its contract: the class record at its place, the method in it. Assumes nothing.
+use native.Mathlib.Omega.{arith}
+use mathlib.Core.Path.{_≡_, _∙_, ap, subst}
+use denote.Ref.{now}
+use borrow.Author.Needs.{needs}
 use Rattle.files.specs.Say.{DeclaredPlaced}
 use Rattle.files.specs.declared.Spot.the-variants.{At, Nothing}
-use Rattle.homes.specs.Homes.{fileOf, HomeThere, ClassPlaced}
-use Rattle.homes.specs.declared.Home.{Home}
+use Rattle.homes.specs.Homes.{fileOf, ClassPlaced}
 use Rattle.homes.proofs.Lookups.{there-bounds}
-use mathlib.Core.Path.{_∙_, ap}
+use Rattle.named.specs.Named.{homeOf, PackageThere}
+use Rattle.named.proofs.Numbers.{number-few, number-at}
 use Rattle.calls.proofs.Lookups as look
-use denote.Ref.{now}
-use mathlib.Core.Path.{sym, subst}
-use native.Mathlib.Omega.{arith}
-use borrow.Author.Needs.{needs}
 use Rattle.calls.proofs.references.named_by.Statement.{statement}
 use Rattle.calls.proofs.references.named_by.Tie as tie
 
+-- the package number is one of the file's
+there : (k : tie.Else1) → PackageThere (now (k .before .before .before .before .before .args .f)) (k .before .before .before .before .before .args .x .pack)
+there k = look.package-there (now (k .before .before .before .before .before .args .f)) (k .before .before .before .before .before .pre .0 .1 .0) (k .if1 .left)
+
+-- the class record
+placed : (k : tie.After-k) →
+    let a = k .before .before .before .before .before .before .before .before .before .before .before .args in
+    ClassPlaced (now (a .f)) (now (a .s)) (homeOf (a .a .end) (now (a .homes)) (a .x .pack)) (a .x .class) (At (k .k .given .0 .0))
+placed k =
+    let a = k .before .before .before .before .before .before .before .before .before .before .before .args in
+    subst (ClassPlaced (now (a .f)) (now (a .s)) (homeOf (a .a .end) (now (a .homes)) (a .x .pack)) (a .x .class)) (k .k .given .1) (k .before .before .before .before .class-in .ensures .0)
+
+-- the file that has it
+held : (k : tie.After-file-of) →
+    let a = k .before .before .before .before .before .before .before .before .before .before .before .before .before .before .args in
+    now (k .file-of .result) ≡ fileOf (now (a .f)) (now (a .s)) (homeOf (a .a .end) (now (a .homes)) (a .x .pack))
+held k = let a = k .before .before .before .before .before .before .before .before .before .before .before .before .before .before .args in k .file-of .ensures ∙ ap (fileOf (now (a .f)) (now (a .s))) (k .before .home-at .ensures)
+
 returns : tie.Need-returns
-returns c = look.numbered-none (now (c .before .before .before .args .homes)) (c .before .before .before .args .p) (c .before .before .before .args .c) (c .before .before .before .args .n) (c .before .before .before .pre .1 .1) (c .if1 .taken)
+returns c =
+    let b = c .before .before .before .before .before in
+    let a = b .args in
+    (look.numbered-none (now (a .homes)) (a .x .pack) (a .x .class) (a .x .name) (b .pre .0 .1 .0) (c .if1 .taken), b .pre .1 .1)
 
-home-at-requires : tie.Need-home-at-requires
-home-at-requires c κs = (c .before .before .before .pre .1 .0 .size, omega (arith, c .if1 .left, (c .before .before .before .pre .1 .1) (storeLimits (now (c .before .before .before .args .s))) (c .before .before .before .pre .0 .1 .pack) (c .before .before .before .pre .0 .2 .setting .reads), look.imports-few (storeLimits (now (c .before .before .before .args .s))) (now (c .before .before .before .args .f)) (c .before .before .before .pre .0 .1 .pack) (c .before .before .before .pre .0 .2 .setting .reads)))
-
-class-place-requires : tie.Need-class-place-requires
-class-place-requires c κs = (subst (HomeThere (now (c .before .before .before .before .args .f)) (now (c .before .before .before .before .args .s))) (sym (c .home-at .ensures)) (look.numbered-there (now (c .before .before .before .before .args .homes)) (c .before .before .before .before .pre .1 .0) (c .before .before .before .before .pre .1 .1) (c .before .before .before .before .args .p) (c .before .if1 .left) (c .before .before .before .before .pre .0)))
+class-in-requires : tie.Need-class-in-requires
+class-in-requires c κs = let b = c .before .before .before .before .before .before in ((b .pre .0 .0, b .pre .1 .0), (there (c .before), b .pre .1 .1))
 
 enum-known-k : tie.Need-enum-known-k
 enum-known-k c = search needs
 
+home-at-requires : tie.Need-home-at-requires
+home-at-requires c κs =
+    let b = c .before .before .before .before .before .before .before .before .before .before .before .before in
+    let a = b .args in
+    (b .pre .1 .0 .size, number-few (now (a .f)) (now (a .s)) (a .a .end) (a .x .pack) (b .pre .0 .0) (there (c .before .before .before .before .before .before .before)))
+
 file-of-requires : tie.Need-file-of-requires
-file-of-requires c κs = there-bounds (now (c .before .before .before .before .before .before .before .before .args .f)) (now (c .before .before .before .before .before .before .before .before .args .s)) (c .before .before .before .before .home-at .result) (subst (HomeThere (now (c .before .before .before .before .before .before .before .before .args .f)) (now (c .before .before .before .before .before .before .before .before .args .s))) (sym (c .before .before .before .before .home-at .ensures)) (look.numbered-there (now (c .before .before .before .before .before .before .before .before .args .homes)) (c .before .before .before .before .before .before .before .before .pre .1 .0) (c .before .before .before .before .before .before .before .before .pre .1 .1) (c .before .before .before .before .before .before .before .before .args .p) (c .before .before .before .before .before .if1 .left) (c .before .before .before .before .before .before .before .before .pre .0)))
+file-of-requires c κs =
+    let b = c .before .before .before .before .before .before .before .before .before .before .before .before .before in
+    let a = b .args in
+    there-bounds (now (a .f)) (now (a .s)) (c .home-at .result) (number-at (now (a .f)) (now (a .s)) (a .a .end) (now (a .homes)) (b .pre .1 .0) (a .x .pack) (c .home-at .result) (c .home-at .ensures) (there (c .before .before .before .before .before .before .before .before)) (b .pre .0 .0))
 
 find-method-requires : tie.Need-find-method-requires
-find-method-requires c κs = look.class-there (now (c .before .before .before .before .before .before .before .before .before .args .homes)) (c .before .before .before .before .before .before .before .before .before .pre .1 .0) (c .before .before .before .before .before .before .before .before .before .pre .1 .1) (c .before .before .before .before .before .before .before .before .before .args .p) (c .before .before .before .before .before .before .if1 .left) (c .before .before .before .before .before .before .before .before .before .args .c) (c .before .before .before .before .before .before .before .before .before .args .n) (c .before .before .k .given .0 .0) (subst (λ (x : Home). ClassPlaced (now (c .before .before .before .before .before .before .before .before .before .args .f)) (now (c .before .before .before .before .before .before .before .before .before .args .s)) x (c .before .before .before .before .before .before .before .before .before .args .c) (At (c .before .before .k .given .0 .0))) (c .before .before .before .before .before .home-at .ensures) (subst (ClassPlaced (now (c .before .before .before .before .before .before .before .before .before .args .f)) (now (c .before .before .before .before .before .before .before .before .before .args .s)) (c .before .before .before .before .before .home-at .result) (c .before .before .before .before .before .before .before .before .before .args .c)) (c .before .before .k .given .1) (c .before .before .before .before .class-place .ensures))) (now (c .file-of .result)) (c .file-of .ensures ∙ ap (fileOf (now (c .before .before .before .before .before .before .before .before .before .args .f)) (now (c .before .before .before .before .before .before .before .before .before .args .s))) (c .before .before .before .before .before .home-at .ensures)) (c .before .before .before .before .before .before .before .before .before .pre .0)
+find-method-requires c κs =
+    let b = c .before .before .before .before .before .before .before .before .before .before .before .before .before .before in
+    let a = b .args in
+    look.class-there (now (a .homes)) (b .pre .1 .0) (b .pre .0 .1 .0) (a .x .pack) (c .before .before .before .before .before .before .before .before .before .if1 .left) (a .x .class) (a .x .name) (c .before .before .before .k .given .0 .0) (placed (c .before .before .before)) (now (c .file-of .result)) (held (c)) (b .pre .0 .0)
 
 enum-known-m : tie.Need-enum-known-m
 enum-known-m c = search needs
@@ -41,28 +70,54 @@ enum-told c = search needs
 enum-told-2 : tie.Need-enum-told-2
 enum-told-2 c = search needs
 
+same-length : tie.Need-same-length
+same-length c = omega (arith, c .before .before .before .before .before .before .before .before .before .before .before .class-in .kept)
+
 returns-2 : tie.Need-returns-2
-returns-2 c = look.method-found (now (c .before .before .before .before .before .before .before .before .before .before .before .before .before .args .homes)) (c .before .before .before .before .before .before .before .before .before .before .before .before .before .pre .1 .0) (c .before .before .before .before .before .before .before .before .before .before .before .before .before .pre .1 .1) (c .before .before .before .before .before .before .before .before .before .before .before .before .before .args .p) (c .before .before .before .before .before .before .before .before .before .before .if1 .left) (c .before .before .before .before .before .before .before .before .before .before .before .before .before .args .c) (c .before .before .before .before .before .before .before .before .before .before .before .before .before .args .n) (c .before .before .before .before .before .before .k .given .0 .0) (subst (λ (x : Home). ClassPlaced (now (c .before .before .before .before .before .before .before .before .before .before .before .before .before .args .f)) (now (c .before .before .before .before .before .before .before .before .before .before .before .before .before .args .s)) x (c .before .before .before .before .before .before .before .before .before .before .before .before .before .args .c) (At (c .before .before .before .before .before .before .k .given .0 .0))) (c .before .before .before .before .before .before .before .before .before .home-at .ensures) (subst (ClassPlaced (now (c .before .before .before .before .before .before .before .before .before .before .before .before .before .args .f)) (now (c .before .before .before .before .before .before .before .before .before .before .before .before .before .args .s)) (c .before .before .before .before .before .before .before .before .before .home-at .result) (c .before .before .before .before .before .before .before .before .before .before .before .before .before .args .c)) (c .before .before .before .before .before .before .k .given .1) (c .before .before .before .before .before .before .before .before .class-place .ensures))) (now (c .before .before .before .before .file-of .result)) (c .before .before .before .before .file-of .ensures ∙ ap (fileOf (now (c .before .before .before .before .before .before .before .before .before .before .before .before .before .args .f)) (now (c .before .before .before .before .before .before .before .before .before .before .before .before .before .args .s))) (c .before .before .before .before .before .before .before .before .before .home-at .ensures)) (c .before .m .given .0 .0) (subst (DeclaredPlaced (now (c .before .before .before .before .file-of .result)) (c .before .before .before .before .before .before .k .given .0 .0) (c .before .before .before .before .before .before .before .before .before .before .before .before .before .args .n)) (c .before .m .given .1) (c .before .before .before .find-method .ensures))
+returns-2 c =
+    let b = c .before .before .before .before .before .before .before .before .before .before .before .before .before .before .before .before .before .before in
+    let a = b .args in
+    let o = c .before .before .before .before .before .before .before .k .given .0 .0 in
+    let d = subst (DeclaredPlaced (now (c .before .before .before .before .file-of .result)) o (a .x .name)) (c .before .m .given .1) (c .before .before .before .find-method .ensures) in
+    (look.method-found (now (a .homes)) (b .pre .1 .0) (b .pre .0 .1 .0) (a .x .pack) (c .before .before .before .before .before .before .before .before .before .before .before .before .before .if1 .left) (a .x .class) (a .x .name) o (placed (c .before .before .before .before .before .before .before)) (now (c .before .before .before .before .file-of .result)) (held (c .before .before .before .before)) (c .before .m .given .0 .0) d, c .before .before .before .before .before .before .before .before .before .before .before .class-in .ensures .1)
+
+same-length-2 : tie.Need-same-length-2
+same-length-2 c = omega (arith, c .before .before .before .before .before .before .before .before .before .before .class-in .kept)
 
 returns-3 : tie.Need-returns-3
-returns-3 c = look.method-missing (now (c .before .before .before .before .before .before .before .before .before .before .before .before .args .homes)) (c .before .before .before .before .before .before .before .before .before .before .before .before .pre .1 .0) (c .before .before .before .before .before .before .before .before .before .before .before .before .pre .1 .1) (c .before .before .before .before .before .before .before .before .before .before .before .before .args .p) (c .before .before .before .before .before .before .before .before .before .if1 .left) (c .before .before .before .before .before .before .before .before .before .before .before .before .args .c) (c .before .before .before .before .before .before .before .before .before .before .before .before .args .n) (c .before .before .before .before .before .k .given .0 .0) (subst (λ (x : Home). ClassPlaced (now (c .before .before .before .before .before .before .before .before .before .before .before .before .args .f)) (now (c .before .before .before .before .before .before .before .before .before .before .before .before .args .s)) x (c .before .before .before .before .before .before .before .before .before .before .before .before .args .c) (At (c .before .before .before .before .before .k .given .0 .0))) (c .before .before .before .before .before .before .before .before .home-at .ensures) (subst (ClassPlaced (now (c .before .before .before .before .before .before .before .before .before .before .before .before .args .f)) (now (c .before .before .before .before .before .before .before .before .before .before .before .before .args .s)) (c .before .before .before .before .before .before .before .before .home-at .result) (c .before .before .before .before .before .before .before .before .before .before .before .before .args .c)) (c .before .before .before .before .before .k .given .1) (c .before .before .before .before .before .before .before .class-place .ensures))) (now (c .before .before .before .file-of .result)) (c .before .before .before .file-of .ensures ∙ ap (fileOf (now (c .before .before .before .before .before .before .before .before .before .before .before .before .args .f)) (now (c .before .before .before .before .before .before .before .before .before .before .before .before .args .s))) (c .before .before .before .before .before .before .before .before .home-at .ensures)) (subst (DeclaredPlaced (now (c .before .before .before .file-of .result)) (c .before .before .before .before .before .k .given .0 .0) (c .before .before .before .before .before .before .before .before .before .before .before .before .args .n)) (c .enum-told .given .1) (c .before .before .find-method .ensures))
+returns-3 c =
+    let b = c .before .before .before .before .before .before .before .before .before .before .before .before .before .before .before .before .before in
+    let a = b .args in
+    let o = c .before .before .before .before .before .before .k .given .0 .0 in
+    let d = subst (DeclaredPlaced (now (c .before .before .before .file-of .result)) o (a .x .name)) (c .enum-told .given .1) (c .before .before .find-method .ensures) in
+    (look.method-missing (now (a .homes)) (b .pre .1 .0) (b .pre .0 .1 .0) (a .x .pack) (c .before .before .before .before .before .before .before .before .before .before .before .before .if1 .left) (a .x .class) (a .x .name) o (placed (c .before .before .before .before .before .before)) (now (c .before .before .before .file-of .result)) (held (c .before .before .before)) d, c .before .before .before .before .before .before .before .before .before .before .class-in .ensures .1)
+
+same-length-3 : tie.Need-same-length-3
+same-length-3 c = omega (arith, c .before .before .before .before .class-in .kept)
 
 returns-4 : tie.Need-returns-4
-returns-4 c = look.class-missing (now (c .before .before .before .before .before .before .before .args .homes)) (c .before .before .before .before .before .before .before .pre .1 .0) (c .before .before .before .before .before .before .before .pre .1 .1) (c .before .before .before .before .before .before .before .args .p) (c .before .before .before .before .if1 .left) (c .before .before .before .before .before .before .before .args .c) (c .before .before .before .before .before .before .before .args .n) (subst (λ (x : Home). ClassPlaced (now (c .before .before .before .before .before .before .before .args .f)) (now (c .before .before .before .before .before .before .before .args .s)) x (c .before .before .before .before .before .before .before .args .c) Nothing) (c .before .before .before .home-at .ensures) (subst (ClassPlaced (now (c .before .before .before .before .before .before .before .args .f)) (now (c .before .before .before .before .before .before .before .args .s)) (c .before .before .before .home-at .result) (c .before .before .before .before .before .before .before .args .c)) (c .enum-told2 .given .1) (c .before .before .class-place .ensures)))
+returns-4 c =
+    let b = c .before .before .before .before .before .before .before .before .before .before .before in
+    let a = b .args in
+    let q = subst (ClassPlaced (now (a .f)) (now (a .s)) (homeOf (a .a .end) (now (a .homes)) (a .x .pack)) (a .x .class)) (c .enum-told2 .given .1) (c .before .before .before .before .class-in .ensures .0) in
+    (look.class-missing (now (a .homes)) (b .pre .1 .0) (b .pre .0 .1 .0) (a .x .pack) (c .before .before .before .before .before .before .if1 .left) (a .x .class) (a .x .name) q, c .before .before .before .before .class-in .ensures .1)
 
 pub named-by-spec : {M : Type 1} → statement M
 named-by-spec =
     tie.close
     (tie.spec
     returns
-    home-at-requires
-    class-place-requires
+    class-in-requires
     enum-known-k
+    home-at-requires
     file-of-requires
     find-method-requires
     enum-known-m
     enum-told
     enum-told-2
+    same-length
     returns-2
+    same-length-2
     returns-3
+    same-length-3
     returns-4)

@@ -1,0 +1,2 @@
+-- What the functions over bits and half bytes ensure.
+pub mod Bits

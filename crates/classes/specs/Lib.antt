@@ -1,0 +1,2 @@
+-- What the functions over a class by home and number require and ensure.
+pub mod Say

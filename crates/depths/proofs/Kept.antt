@@ -1,0 +1,177 @@
+-- The table of depths over an operation: at the start, behind a domain's entry, behind a package's; and the depths that are written. Assumes nothing.
+use Prim.Native.Nat.{ℕ, suc, _+_, _*_, _/_, _≤_, _<_}
+use native.Mathlib.Omega.{arith}
+use native.Mathlib.Decide.{decLe}
+use mathlib.Core.Path.{_≡_, sym, _∙_, ap, ap₂, subst}
+use mathlib.Core.List.{List, [], _∷_, _++_}
+use mathlib.Core.Option.{some, Option·some-injective}
+use lib.Dec.{T, leb→le, eqb→eq}
+use lib.ListN.{length, getD, replicate, length-replicate, List·getD-eq-default}
+use Rattle.rules.specs.Bytes.{Bytes, Aid, at}
+use Rattle.rules.specs.Package.{standard, storeLimits, mostClasses, Class, Package, readFile}
+use Rattle.rules.specs.Store.{Entry, domain, loaded, openingLength}
+use Rattle.rules.specs.Classes.{Installed, installed, depthUpTo}
+use Rattle.rules.specs.Questions.{own, depthWithin}
+use Rattle.rules.specs.Operations.{accepted, acceptedAll}
+use Rattle.bits.specs.Bits.{halfAt}
+use Rattle.rules.proofs.Tests.{and-l, and-r, of-true, allFrom-zero}
+use Rattle.rules.proofs.Asked.{LoadYes, load-yes, parents-yes}
+use Rattle.rules.proofs.Sound.{installed-domain}
+use Rattle.rules.proofs.Step.{accepted-append}
+use Rattle.store.specs.Entries.{part, EntryAt, Entries, StandFrom}
+use Rattle.store.proofs.Parts.{part-length}
+use Rattle.store.proofs.Stand.{entries-over, entries-one, entries-more}
+use Rattle.homes.specs.Homes.{Parents, ownHome, Stored}
+use Rattle.homes.specs.Homes as homes
+use Rattle.homes.specs.declared.Home.{Home}
+use Rattle.named.specs.Named.{Judged, Stands, ClassFrom}
+use Rattle.depths.specs.Depths.{ClassIs, DepthsKept, OwnDepths, DepthsFit, FileKept, ParentedIs, depthOf}
+use Rattle.depths.specs.declared.Parented.the-variants.{Yes}
+use Rattle.depths.proofs.Records.{RecordBy}
+use Rattle.depths.proofs.Exist.{judged-reads, own-at}
+use Rattle.depths.proofs.Figures.{parented-parents}
+use Rattle.depths.proofs.Written.{stands-from}
+use Rattle.depths.proofs.Longer.{among-none, StoredOr, before, last, stored-or}
+use Rattle.depths.proofs.Later.{own-is, other-is, class-record}
+
+-- nothing stands before the first entry
+pub depths-start : (s : Bytes) (n : ℕ) → length s ≤ 10 * n → DepthsKept s 7 (replicate n 0)
+depths-start s n r = record {
+  room = omega (arith, r, length-replicate {A = ℕ} n 0);
+  told = λ es size stand sound h x t.
+      absurd (among-none (t .pre) (loaded (x .domain) (part s (h .from) (h .to))) (t .post) (sym (entries-over s 7 es 7 (omega arith) stand) ∙ t .are));
+}
+
+-- the depths of an accepted file's classes are within the limit
+pub depths-fit : (f s : Bytes) (end depth : ℕ) (ds : List ℕ) → Judged f s end → ParentedIs f s end (Yes depth) → OwnDepths f s end ds →
+    length ds ≡ mostClasses → DepthsFit f ds
+unfolding storeLimits standard
+depths-fit f s end depth ds t p o e = record { size = e; fit = fit }
+  where
+    es : List Entry
+    es = t .0
+
+    self : Installed
+    self = t .1
+
+    parents : Parents f s end es self
+    parents = parented-parents f s end depth p es self (t .2)
+
+    fit : (n i : ℕ) → Stands f n i → 0 < getD f (i + 1) 0 → (1 ≤ getD ds n 0) × (getD ds n 0 ≤ 16)
+    fit n i q h = (omega (arith, told), omega (arith, told, within))
+      where
+        inside : i < length f
+        inside = elim (decLe (length f) i) [
+          | yes l ↦ let z : getD f (i + 1) 0 ≡ 0 = List·getD-eq-default f 0 (omega (arith, l)) in absurd (omega (arith, z, h))
+          | no l ↦ omega arith
+        ]
+
+        from : ClassFrom f n i
+        from = record { inside = inside; rest = stands-from f (judged-reads f s end t) n i q }
+
+        class : (k : Class) × ClassIs f s end (ownHome end) n es self self k
+        class = let y = own-at f s end n i from es self (t .2) in (y .0, record { parents = parents; home = homes.own; is = y .1 })
+
+        told : getD ds n 0 ≡ depthOf s es (own self n)
+        told = o n es self self (class .0) (class .1)
+
+        within : depthOf s es (own self n) ≤ storeLimits s .depth
+        within =
+            let is : List Installed = installed (storeLimits s) es in
+            let y = (parents-yes (storeLimits s) is self (of-true ((p es self (t .2)) .0))) .depths in
+            leb→le _ _ (allFrom-zero (λ i k. depthWithin (storeLimits s) is self i) (self .pack .classes) n (class .0) y (class .1 .is))
+
+-- what the table tells of given entries
+abbrev Tells : Bytes → List Entry → List ℕ → Type 0
+Tells s es t = (h : Home) (x : Installed) → Stored s es h x → (n : ℕ) (k : Class) (i : ℕ) → at (x .pack .classes) n ≡ some k → 0 < length (k .parents) →
+    Stands (part s (h .from) (h .to)) n i → halfAt t ((h .from + i) / 5) + 1 ≡ depthOf s es (own x n)
+
+-- entries and one more
+module _ (s : Bytes) (es : List Entry) (end : ℕ) (e : Entry) (next : ℕ) (stand : Entries s openingLength es end) (one : EntryAt s end e next) where
+  abbrev Sound : ℕ → List Entry → Type 0
+  Sound size zs = T (acceptedAll (storeLimits s) size [] zs)
+
+  -- they are all that end there
+  kept-by : (t : List ℕ) → length s ≤ 10 * length t → ((size : ℕ) → Sound size (es ++ e ∷ []) → Tells s (es ++ e ∷ []) t) → DepthsKept s next t
+  kept-by t room q = record { room = room; told = told }
+    where
+      told : (zs : List Entry) (size : ℕ) → Entries s openingLength zs next → Sound size zs → Tells s zs t
+      told zs size there sound =
+          let z : zs ≡ es ++ e ∷ [] = entries-one s openingLength zs (es ++ e ∷ []) next there (entries-more s openingLength es end e next stand one) in
+          subst (λ (ys : List Entry). Tells s ys t) (sym z) (q size (subst (Sound size) z sound))
+
+  -- the others were accepted, and it over them
+  both : (size : ℕ) → Sound size (es ++ e ∷ []) → Sound size es × T (accepted (storeLimits s) size es e)
+  both size sound =
+      let h = subst T (accepted-append (storeLimits s) size [] es (e ∷ [])) sound in
+      let r = and-r (acceptedAll (storeLimits s) size [] es) _ h in
+      (and-l (acceptedAll (storeLimits s) size [] es) _ h, and-l (accepted (storeLimits s) size es e) _ r)
+
+-- a domain more
+pub depths-domain : (s : Bytes) (at next : ℕ) (a : Aid) (t : List ℕ) → DepthsKept s at t → EntryAt s at (domain a) next → StandFrom s 7 at →
+    DepthsKept s next t
+depths-domain s end next a t kept one st = kept-by s es end (domain a) next (st .1) one t (kept .room) told
+  where
+    es : List Entry
+    es = st .0
+
+    told : (size : ℕ) → T (acceptedAll (storeLimits s) size [] (es ++ domain a ∷ [])) → Tells s (es ++ domain a ∷ []) t
+    told size sound h x y n k i is ps here = elim (stored-or s es end (domain a) next (st .1) one h x y) [
+      | before p l ↦
+          let z = kept .told es size (st .1) ((both s es end (domain a) next (st .1) one size sound) .0) h x p n k i is ps here in
+          z ∙ ap (λ (v : List Installed). depthUpTo v (suc (storeLimits s .depth)) (own x n)) (sym (installed-domain (storeLimits s) es a))
+      | last p l ↦ let z : _≡_ {A = ℕ} 0 1 = cc in absurd (omega arith)
+    ]
+
+-- a package more: the earlier depths stay, since the records before it have half bytes before its own
+pub depths-next : (s : Bytes) (at from next : ℕ) (d : Aid) (t t′ ds : List ℕ) → DepthsKept s at t → EntryAt s at (loaded d (part s from next)) next →
+    at < from → from ≤ next → OwnDepths (part s from next) s at ds → FileKept (part s from next) from ds t′ →
+    ((j : ℕ) → j < from / 5 → halfAt t′ j ≡ halfAt t j) → length t′ ≡ length t → StandFrom s 7 at → DepthsKept s next t′
+depths-next s end from next d t t′ ds kept one l₁ l₂ o w same len st = kept-by s es end e next (st .1) one t′ (omega (arith, kept .room, len)) told
+  where
+    es : List Entry
+    es = st .0
+
+    e : Entry
+    e = loaded d (part s from next)
+
+    told : (size : ℕ) → T (acceptedAll (storeLimits s) size [] (es ++ e ∷ [])) → Tells s (es ++ e ∷ []) t′
+    told size sound h x y n k i z ps here = go (stored-or s es end e next (st .1) one h x y)
+      where
+        ok : T (acceptedAll (storeLimits s) size [] es) × T (accepted (storeLimits s) size es e)
+        ok = both s es end e next (st .1) one size sound
+
+        p : (p : Package) × LoadYes (storeLimits s) size es d (part s from next) p
+        p = load-yes (storeLimits s) size es d (part s from next) (eqb→eq _ 0 (ok .1))
+
+        by : RecordBy (part s (h .from) (h .to)) i k
+        by = class-record s (h .from) (h .to) (x .pack) n i k (y .reads) z here
+
+        -- its record ends before the entry
+        earlier : h .to ≤ end → (h .from + i) / 5 < from / 5
+        earlier b =
+            let r = (by .parent 0 (omega (arith, by .count, ps))) .to in
+            omega (arith, b, r, l₁, part-length s (h .from) (h .to) (y .entry .to), y .order)
+
+        go : StoredOr s es end e next h x → halfAt t′ ((h .from + i) / 5) + 1 ≡ depthOf s (es ++ e ∷ []) (own x n)
+        go (before v b) =
+            ap (λ (m : ℕ). m + 1) (same ((h .from + i) / 5) (earlier b))
+            ∙ other-is s (part s from next) es end d (st .1) size (ok .0) (p .0) (p .1) t kept h x v n k i z ps here
+        go (last v b) =
+            w′ ∙ own-is s (part s from next) es end d (st .1) size (ok .0) (p .0) (p .1) ds o x x-is n k z
+          where
+            file : part s (h .from) (h .to) ≡ part s from next
+            file = cc
+
+            place : h .from ≡ from
+            place = omega (arith, ap length file, part-length s (h .from) (h .to) (y .entry .to), part-length s from next (one .to), b, y .order, l₂)
+
+            x-is : x ≡ record { domain = d; pack = p .0 }
+            x-is =
+                let a : x .domain ≡ d = cc in
+                let c : x .pack ≡ p .0 = Option·some-injective _ _ (sym (y .reads) ∙ ap (readFile (storeLimits s)) file ∙ p .1 .q11) in
+                ap₂ (λ (u : Aid) (v : Package). record { domain = u; pack = v }) a c
+
+            w′ : halfAt t′ ((h .from + i) / 5) + 1 ≡ getD ds n 0
+            w′ = ap (λ (m : ℕ). halfAt t′ ((m + i) / 5) + 1) place
+                ∙ w n i (subst (λ (g : Bytes). Stands g n i) file here) (omega (arith, ps, by .count, ap (λ (g : Bytes). getD g (i + 1) 0) file))

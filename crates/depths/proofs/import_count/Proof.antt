@@ -1,0 +1,22 @@
+-- `depths::import_count` meets its contract. Assumes nothing.
+use denote.Ref.{now}
+use borrow.Author.Needs.{needs}
+use Rattle.depths.proofs.Exist as exist
+use Rattle.depths.proofs.import_count.Statement.{statement}
+use Rattle.depths.proofs.import_count.Tie as tie
+
+imports-at-requires : tie.Need-imports-at-requires
+imports-at-requires c κs = c .before .pre
+
+shared-slice-read-wide : tie.Need-shared-slice-read-wide
+shared-slice-read-wide c = exist.imports-inside (now (c .before .before .before .args .f)) (c .before .imports-at .result) (c .before .before .before .pre) (c .before .imports-at .ensures)
+
+wide-requires : tie.Need-wide-requires
+wide-requires c κs = search needs
+
+returns : tie.Need-returns
+returns c = exist.imports-count (now (c .before .before .before .before .args .f)) (c .before .before .imports-at .result) (c .wide .result) (c .before .before .imports-at .ensures) (c .wide .ensures .0)
+
+pub import-count-spec : {M : Type 1} → statement M
+import-count-spec =
+    tie.close (tie.spec imports-at-requires shared-slice-read-wide wide-requires returns)

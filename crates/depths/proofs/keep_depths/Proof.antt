@@ -1,0 +1,103 @@
+-- `depths::keep_depths` meets its contract. Assumes nothing.
+use Prim.Native.Nat.{_/_}
+use Prim.Native.Nat.{ℕ, _+_, _-_, _<_}
+use native.Mathlib.Omega.{arith}
+use mathlib.Core.Path.{_≡_, refl, ap, _∙_}
+use lib.ListN.{length, getD}
+use denote.Ref.{now}
+use borrow.Author.Needs.{needs}
+use Rattle.depths.specs.Depths.{keptHalf, FileKeptTo}
+use Rattle.named.specs.Named.{ClassesFrom}
+use Rattle.store.proofs.Parts.{part-length}
+use Rattle.store.specs.Entries.{part}
+use Rattle.bits.specs.Bits.{halfAt}
+use Rattle.depths.proofs.Written as written
+use Rattle.named.proofs.Rows as rows
+use Rattle.depths.proofs.Exist as exist
+use Rattle.depths.proofs.keep_depths.Statement.{statement}
+use Rattle.depths.proofs.keep_depths.Tie as tie
+
+abbrev Inv-loop : tie.InvT-loop
+Inv-loop s t₀ depths from to g n₀ i₀ t n i = ClassesFrom g n i × FileKeptTo g from depths t n × ((j : ℕ) → j < from / 5 → halfAt t j ≡ halfAt t₀ j) × (length t ≡ length t₀)
+
+abbrev μ-loop : tie.MeasureT-loop
+μ-loop s t₀ depths from to g n₀ i₀ t n i = length g - i
+
+sub-g : tie.Need-sub-g Inv-loop μ-loop
+sub-g c = omega (arith, c .before .before .before .pre .0 .0)
+
+part-g-start : tie.Need-part-g-start Inv-loop μ-loop
+part-g-start c = omega (arith, c .before .before .before .pre .0 .0, c .before .before .before .pre .0 .1)
+
+part-g-end : tie.Need-part-g-end Inv-loop μ-loop
+part-g-end c = omega (arith, c .before .before .before .pre .0 .0, c .before .before .before .pre .0 .1)
+
+classes-at-requires : tie.Need-classes-at-requires Inv-loop μ-loop
+classes-at-requires c κs = (c .before .before .before .before .pre .1 .0)
+
+add-i : tie.Need-add-i Inv-loop μ-loop
+add-i c = omega (arith, rows.classes-inside (part (now (c .before .before .before .before .before .args .s)) (c .before .before .before .before .before .args .from) (c .before .before .before .before .before .args .to)) (c .classes-at .result) (c .before .before .before .before .before .pre .1 .0) (c .classes-at .ensures), part-length (now (c .before .before .before .before .before .args .s)) (c .before .before .before .before .before .args .from) (c .before .before .before .before .before .args .to) (c .before .before .before .before .before .pre .0 .1), c .before .before .before .before .before .pre .0 .1, c .before .before .before .before .before .pre .0 .3)
+
+loop-holds : tie.Need-loop-holds Inv-loop μ-loop
+loop-holds c = (rows.from-start (part (now (c .before .before .before .before .before .args .s)) (c .before .before .before .before .before .args .from) (c .before .before .before .before .before .args .to)) (c .classes-at .result) (c .classes-at .ensures), written.kept-start (part (now (c .before .before .before .before .before .args .s)) (c .before .before .before .before .before .args .from) (c .before .before .before .before .before .args .to)) (c .before .before .before .before .before .args .from) (now (c .before .before .before .before .before .args .depths)) (now (c .before .before .before .before .before .args .t)), λ j h. refl, refl)
+
+add-keep : tie.Need-add-keep Inv-loop μ-loop
+add-keep c = omega (arith, c .before .loop-test .taken, part-length (now (c .before .before .before .before .before .before .before .before .args .s)) (c .before .before .before .before .before .before .before .before .args .from) (c .before .before .before .before .before .before .before .before .args .to) (c .before .before .before .before .before .before .before .before .pre .0 .1), c .before .before .before .before .before .before .before .before .pre .0 .1, c .before .before .before .before .before .before .before .before .pre .0 .3)
+
+add-wide : tie.Need-add-wide Inv-loop μ-loop
+add-wide c = omega (arith, c .before .loop-test .taken, part-length (now (c .before .before .before .before .before .before .before .before .args .s)) (c .before .before .before .before .before .before .before .before .args .from) (c .before .before .before .before .before .before .before .before .args .to) (c .before .before .before .before .before .before .before .before .pre .0 .1), c .before .before .before .before .before .before .before .before .pre .0 .1, c .before .before .before .before .before .before .before .before .pre .0 .3)
+
+shared-slice-read-wide : tie.Need-shared-slice-read-wide Inv-loop μ-loop
+shared-slice-read-wide c = omega (arith, written.three-inside (part (now (c .before .before .before .before .before .before .before .before .before .args .s)) (c .before .before .before .before .before .before .before .before .before .args .from) (c .before .before .before .before .before .before .before .before .before .args .to)) (c .before .before .before .loop .i) (rows.from-there (part (now (c .before .before .before .before .before .before .before .before .before .args .s)) (c .before .before .before .before .before .before .before .before .before .args .from) (c .before .before .before .before .before .before .before .before .before .args .to)) (c .before .before .before .loop .n) (c .before .before .before .loop .i) (record { inside = c .before .before .loop-test .taken; rest = c .before .before .before .loop .inv .0 }) (c .before .before .before .before .before .before .before .before .before .pre .1 .0)))
+
+wide-requires : tie.Need-wide-requires Inv-loop μ-loop
+wide-requires c κs = search needs
+
+shared-slice-read-keep : tie.Need-shared-slice-read-keep Inv-loop μ-loop
+shared-slice-read-keep c = omega (arith, (exist.own-few (part (now (c .before .before .before .before .before .before .before .before .before .before .before .args .s)) (c .before .before .before .before .before .before .before .before .before .before .before .args .from) (c .before .before .before .before .before .before .before .before .before .before .before .args .to)) (c .before .before .before .before .before .loop .n) (c .before .before .before .before .before .loop .i) (c .before .before .before .before .before .before .before .before .before .before .before .pre .1 .0) (record { inside = c .before .before .before .before .loop-test .taken; rest = c .before .before .before .before .before .loop .inv .0 })), (c .before .before .before .before .before .before .before .before .before .before .before .pre .1 .1) .size)
+
+keep-requires : tie.Need-keep-requires Inv-loop μ-loop
+keep-requires c κs = λ h. let x = (c .before .before .before .before .before .before .before .before .before .before .before .pre .1 .1) .fit (c .before .before .before .before .before .loop .n) (c .before .before .before .before .before .loop .i) (c .before .before .before .before .before .loop .inv .0 .stands) (omega (arith, h, c .before .wide .ensures .0)) in (x .0, x .1, omega (arith, c .before .before .before .before .loop-test .taken, part-length (now (c .before .before .before .before .before .before .before .before .before .before .before .args .s)) (c .before .before .before .before .before .before .before .before .before .before .before .args .from) (c .before .before .before .before .before .before .before .before .before .before .before .args .to) (c .before .before .before .before .before .before .before .before .before .before .before .pre .0 .1), c .before .before .before .before .before .before .before .before .before .before .before .pre .0 .0, c .before .before .before .before .before .before .before .before .before .before .before .pre .0 .1, c .before .before .before .before .before .before .before .before .before .before .before .pre .0 .2, c .before .before .before .before .before .loop .inv .3))
+
+after-class-requires : tie.Need-after-class-requires Inv-loop μ-loop
+after-class-requires c κs = (rows.from-there (part (now (c .before .before .before .before .before .before .before .before .before .before .before .before .before .before .args .s)) (c .before .before .before .before .before .before .before .before .before .before .before .before .before .before .args .from) (c .before .before .before .before .before .before .before .before .before .before .before .before .before .before .args .to)) (c .before .before .before .before .before .before .before .before .loop .n) (c .before .before .before .before .before .before .before .before .loop .i) (record { inside = c .before .before .before .before .before .before .before .loop-test .taken; rest = c .before .before .before .before .before .before .before .before .loop .inv .0 }) (c .before .before .before .before .before .before .before .before .before .before .before .before .before .before .pre .1 .0))
+
+add-n : tie.Need-add-n Inv-loop μ-loop
+add-n c = omega (arith, (exist.own-few (part (now (c .before .before .before .before .before .before .before .before .before .before .before .before .before .before .before .args .s)) (c .before .before .before .before .before .before .before .before .before .before .before .before .before .before .before .args .from) (c .before .before .before .before .before .before .before .before .before .before .before .before .before .before .before .args .to)) (c .before .before .before .before .before .before .before .before .before .loop .n) (c .before .before .before .before .before .before .before .before .before .loop .i) (c .before .before .before .before .before .before .before .before .before .before .before .before .before .before .before .pre .1 .0) (record { inside = c .before .before .before .before .before .before .before .before .loop-test .taken; rest = c .before .before .before .before .before .before .before .before .before .loop .inv .0 })))
+
+loop-less : tie.Need-loop-less Inv-loop μ-loop
+loop-less c = omega (arith, c .before .before .before .before .before .before .before .before .loop-test .taken, written.after-five (part (now (c .before .before .before .before .before .before .before .before .before .before .before .before .before .before .before .args .s)) (c .before .before .before .before .before .before .before .before .before .before .before .before .before .before .before .args .from) (c .before .before .before .before .before .before .before .before .before .before .before .before .before .before .before .args .to)) (c .before .before .before .before .before .before .before .before .before .loop .i) (c .after-class .result) (rows.from-there (part (now (c .before .before .before .before .before .before .before .before .before .before .before .before .before .before .before .args .s)) (c .before .before .before .before .before .before .before .before .before .before .before .before .before .before .before .args .from) (c .before .before .before .before .before .before .before .before .before .before .before .before .before .before .before .args .to)) (c .before .before .before .before .before .before .before .before .before .loop .n) (c .before .before .before .before .before .before .before .before .before .loop .i) (record { inside = c .before .before .before .before .before .before .before .before .loop-test .taken; rest = c .before .before .before .before .before .before .before .before .before .loop .inv .0 }) (c .before .before .before .before .before .before .before .before .before .before .before .before .before .before .before .pre .1 .0)) (c .after-class .ensures))
+
+loop-again : tie.Need-loop-again Inv-loop μ-loop
+loop-again c = (rows.from-next (part (now (c .before .before .before .before .before .before .before .before .before .before .before .before .before .before .before .args .s)) (c .before .before .before .before .before .before .before .before .before .before .before .before .before .before .before .args .from) (c .before .before .before .before .before .before .before .before .before .before .before .before .before .before .before .args .to)) (c .before .before .before .before .before .before .before .before .before .loop .n) (c .before .before .before .before .before .before .before .before .before .loop .i) (c .after-class .result) (c .before .before .before .before .before .before .before .before .before .before .before .before .before .before .before .pre .1 .0) (record { inside = c .before .before .before .before .before .before .before .before .loop-test .taken; rest = c .before .before .before .before .before .before .before .before .before .loop .inv .0 }) (c .after-class .ensures), written.kept-more (part (now (c .before .before .before .before .before .before .before .before .before .before .before .before .before .before .before .args .s)) (c .before .before .before .before .before .before .before .before .before .before .before .before .before .before .before .args .from) (c .before .before .before .before .before .before .before .before .before .before .before .before .before .before .before .args .to)) (c .before .before .before .before .before .before .before .before .before .before .before .before .before .before .before .args .from) (now (c .before .before .before .before .before .before .before .before .before .before .before .before .before .before .before .args .depths)) (c .before .before .before .before .before .before .before .before .before .before .before .before .before .before .before .pre .1 .0) (c .before .before .before .before .before .before .before .before .before .before .before .before .before .before .before .pre .1 .1) (c .before .before .before .before .before .before .before .before .before .loop .t) (c .before .before .before .keep .last .0) (c .before .before .before .before .before .before .before .before .before .loop .n) (c .before .before .before .before .before .before .before .before .before .loop .i) (c .before .before .before .before .before .before .before .before .before .loop .inv .0 .stands) (λ j. c .before .before .before .keep .ensures j ∙ ap (λ (v : ℕ). keptHalf (c .before .before .before .before .before .before .before .before .before .loop .t) ((c .before .before .before .before .before .before .before .before .before .before .before .before .before .before .before .args .from) + c .before .before .before .before .before .before .before .before .before .loop .i) v (getD (now (c .before .before .before .before .before .before .before .before .before .before .before .before .before .before .before .args .depths)) (c .before .before .before .before .before .before .before .before .before .loop .n) 0) j) (c .before .before .before .before .before .wide .ensures .0)) (c .before .before .before .before .before .before .before .before .before .loop .inv .1), λ j h. written.below-more (part (now (c .before .before .before .before .before .before .before .before .before .before .before .before .before .before .before .args .s)) (c .before .before .before .before .before .before .before .before .before .before .before .before .before .before .before .args .from) (c .before .before .before .before .before .before .before .before .before .before .before .before .before .before .before .args .to)) (c .before .before .before .before .before .before .before .before .before .before .before .before .before .before .before .args .from) (now (c .before .before .before .before .before .before .before .before .before .before .before .before .before .before .before .args .depths)) (c .before .before .before .before .before .before .before .before .before .before .before .before .before .before .before .pre .1 .0) (c .before .before .before .before .before .before .before .before .before .before .before .before .before .before .before .pre .1 .1) (c .before .before .before .before .before .before .before .before .before .loop .t) (c .before .before .before .keep .last .0) (c .before .before .before .before .before .before .before .before .before .loop .n) (c .before .before .before .before .before .before .before .before .before .loop .i) (c .before .before .before .before .before .before .before .before .before .loop .inv .0 .stands) (λ j. c .before .before .before .keep .ensures j ∙ ap (λ (v : ℕ). keptHalf (c .before .before .before .before .before .before .before .before .before .loop .t) ((c .before .before .before .before .before .before .before .before .before .before .before .before .before .before .before .args .from) + c .before .before .before .before .before .before .before .before .before .loop .i) v (getD (now (c .before .before .before .before .before .before .before .before .before .before .before .before .before .before .before .args .depths)) (c .before .before .before .before .before .before .before .before .before .loop .n) 0) j) (c .before .before .before .before .before .wide .ensures .0)) j h ∙ c .before .before .before .before .before .before .before .before .before .loop .inv .2 j h, omega (arith, c .before .before .before .before .before .before .before .before .before .loop .inv .3, c .before .before .before .keep .kept .0))
+
+same-length : tie.Need-same-length Inv-loop μ-loop
+same-length c = c .before .loop .inv .3
+
+returns : tie.Need-returns Inv-loop μ-loop
+returns c = (written.kept-done (part (now (c .before .before .before .before .before .before .before .args .s)) (c .before .before .before .before .before .before .before .args .from) (c .before .before .before .before .before .before .before .args .to)) (c .before .before .before .before .before .before .before .args .from) (now (c .before .before .before .before .before .before .before .args .depths)) (c .before .loop .t) (c .before .loop .n) (c .before .loop .i) (c .before .before .before .before .before .before .before .pre .1 .0) (c .before .loop .inv .0 .stands) (c .loop-test .left) (c .before .loop .inv .1), c .before .loop .inv .2)
+
+pub keep-depths-spec : {M : Type 1} → statement M
+keep-depths-spec =
+    tie.close
+    (tie.spec
+    Inv-loop
+    μ-loop
+    sub-g
+    part-g-start
+    part-g-end
+    classes-at-requires
+    add-i
+    loop-holds
+    add-keep
+    add-wide
+    shared-slice-read-wide
+    wide-requires
+    shared-slice-read-keep
+    keep-requires
+    after-class-requires
+    add-n
+    loop-less
+    loop-again
+    same-length
+    returns)

@@ -1,0 +1,4 @@
+-- The laws of the domain phase.
+pub mod Split
+pub mod Keys
+pub mod Phase

@@ -1,0 +1,190 @@
+-- `domains::domains_ok` takes one entry a turn: those passed have accepted domains, and the table has theirs. Assumes nothing.
+use denote.Ref.{now}
+use Prim.Native.Nat.{_-_}
+use native.Mathlib.Omega.{arith}
+use mathlib.Core.Path.{_≡_, refl, subst}
+use lib.ListN.{length-set, length}
+use borrow.Author.Tests.{not-true, not-false}
+use borrow.Author.Needs.{needs}
+use Rattle.domains.specs.Domains.{DomainsIs, EntrySays, PackageSays}
+use Rattle.rules.specs.Store.{domain}
+use Rattle.store.proofs.Find.{part-told}
+use Rattle.store.specs.Entries.{part}
+use Rattle.domains.proofs.Phase as phase
+use Rattle.domains.proofs.Keys as keys
+use Rattle.domains.proofs.domains_ok.Statement.{statement}
+use Rattle.domains.proofs.domains_ok.Tie as tie
+
+abbrev Inv-loop : tie.InvT-loop
+Inv-loop s end table₀ at₀ table at = phase.Passing s end at × DomainsIs s at table × (length table ≡ length table₀)
+
+abbrev μ-loop : tie.MeasureT-loop
+μ-loop s end table₀ at₀ table at = end - at
+
+slice-write-table : tie.Need-slice-write-table Inv-loop μ-loop
+slice-write-table c =
+    let start = c .before .before in
+    keys.table-room (now (start .args .s)) (start .args .end) (now (start .args .table)) (start .pre .0) (start .pre .1 .1)
+
+loop-holds : tie.Need-loop-holds Inv-loop μ-loop
+loop-holds c =
+    let start = c .before .before in (
+      phase.passing-start (now (start .args .s)) (start .args .end),
+      keys.domains-zero (now (start .args .s)) (start .args .end) (now (start .args .table)) (start .pre .0) (start .pre .1 .1),
+      refl,
+    )
+
+entry-at-requires : tie.Need-entry-at-requires Inv-loop μ-loop
+entry-at-requires c κs =
+    let start = c .before .before .before in
+    phase.passing-from (now (start .args .s)) (start .args .end) (c .loop .at) (c .loop .inv .0) (start .pre .0)
+
+enum-known-from : tie.Need-enum-known-from Inv-loop μ-loop
+enum-known-from c = search needs
+
+domain-ok-requires : tie.Need-domain-ok-requires Inv-loop μ-loop
+domain-ok-requires c κs =
+    let start = c .before .before .before .before .before .before .before .before in
+    let turn = c .before .before .before .before .before .loop in
+    let entry = c .before .before .from in
+    let first = phase.domain-first (now (start .args .s)) (start .args .end) (turn .at) (turn .inv .0) (entry .given .0 .0) (entry .given .0 .1 .0)
+    (part-told (entry .given .1) (c .before .before .before .before .entry-at .ensures)) (start .pre .0) in
+    (turn .inv .1, ((first .0, first .1), start .pre .1 .0))
+
+same-length : tie.Need-same-length Inv-loop μ-loop
+same-length c =
+    let start = c .before .before .before .before .before .before .before .before .before .before .before .before in
+    omega (
+      arith,
+      c .before .before .before .before .before .before .before .before .before .loop .inv .2,
+      length-set (now (start .args .table)) 0 0,
+      c .before
+          .before .before .domain-ok .kept,
+    )
+
+returns : tie.Need-returns Inv-loop μ-loop
+returns c =
+    let start = c .before .before .before .before .before .before .before .before .before .before .before .before in
+    let turn = c .before .before .before .before .before .before .before .before .before .loop in
+    let entry = c .before .before .before .before .before .before .from in
+    phase.domain-bad (now (start .args .s)) (start .args .end) (turn .at) (turn .inv .0) (entry .given .0 .0) (entry .given .0 .1 .0)
+    (part-told (entry .given .1) (c .before .before .before .before .before .before .before .before .entry-at .ensures))
+    (subst (EntrySays (now (start .args .s)) (turn .at) (domain (part (now (start .args .s)) (entry .given .0 .0) (entry .given .0 .1 .0))))
+    (not-true _ (c .if1 .taken)) (c .before .before .before .domain-ok .ensures .0))
+
+loop-less : tie.Need-loop-less Inv-loop μ-loop
+loop-less c =
+    let start = c .before .before .before .before .before .before .before .before .before .before .before .before in
+    let turn = c .before .before .before .before .before .before .before .before .before .loop in
+    let entry = c .before .before .before .before .before .before .from in
+    let first = phase.domain-first (now (start .args .s)) (start .args .end) (turn .at) (turn .inv .0) (entry .given .0 .0) (entry .given .0 .1 .0)
+    (part-told (entry .given .1) (c .before .before .before .before .before .before .before .before .entry-at .ensures)) (start .pre .0) in
+    omega (arith, first .2, first .3)
+
+loop-again : tie.Need-loop-again Inv-loop μ-loop
+loop-again c =
+    let start = c .before .before .before .before .before .before .before .before .before .before .before .before in
+    let turn = c .before .before .before .before .before .before .before .before .before .loop in
+    let entry = c .before .before .before .before .before .before .from in
+    let told = c .before .before .before .domain-ok in (
+      phase.domain-on (now (start .args .s)) (start .args .end) (turn .at) (turn .inv .0) (entry .given .0 .0) (entry .given .0 .1 .0)
+          (part-told (entry .given .1) (c .before .before .before .before .before .before .before .before .entry-at .ensures))
+          (subst (EntrySays (now (start .args .s)) (turn .at) (domain (part (now (start .args .s)) (entry .given .0 .0) (entry .given .0 .1 .0))))
+          (not-false _ (c .if1 .left)) (told .ensures .0)),
+      told .ensures .1 (not-false _ (c .if1 .left)),
+      omega (arith, turn .inv .2, told .kept),
+    )
+
+enum-known-from-2 : tie.Need-enum-known-from-2 Inv-loop μ-loop
+enum-known-from-2 c = search needs
+
+package-ok-requires : tie.Need-package-ok-requires Inv-loop μ-loop
+package-ok-requires c κs =
+    let start = c .before .before .before .before .before .before .before .before in
+    let turn = c .before .before .before .before .before .loop in
+    let entry = c .before .before .from2 in
+    let first = phase.package-first (now (start .args .s)) (start .args .end) (turn .at) (turn .inv .0) (entry .given .0 .0) (entry .given .0 .1 .0)
+    (entry .given .0 .1 .1 .0) (part-told (entry .given .1) (c .before .before .before .before .entry-at .ensures)) (start .pre .0) in
+    (turn .inv .1, (first .1, omega (arith, first .2, first .0 .to)))
+
+same-length-2 : tie.Need-same-length-2 Inv-loop μ-loop
+same-length-2 c =
+    let start = c .before .before .before .before .before .before .before .before .before .before in
+    omega (arith, c .before .before .before .before .before .before .before .loop .inv .2, length-set (now (start .args .table)) 0 0)
+
+returns-2 : tie.Need-returns-2 Inv-loop μ-loop
+returns-2 c =
+    let start = c .before .before .before .before .before .before .before .before .before .before in
+    let turn = c .before .before .before .before .before .before .before .loop in
+    let entry = c .before .before .before .before .from2 in
+    phase.package-bad (now (start .args .s)) (start .args .end) (turn .at) (turn .inv .0) (entry .given .0 .0) (entry .given .0 .1 .0)
+    (entry .given .0 .1 .1 .0) (part-told (entry .given .1) (c .before .before .before .before .before .before .entry-at .ensures))
+    (subst (PackageSays (now (start .args .s)) (turn .at) (part (now (start .args .s)) (entry .given .0 .0) (entry .given .0 .1 .0)))
+    (not-true _ (c .if2 .taken)) (c .before .package-ok .ensures))
+
+loop-less-2 : tie.Need-loop-less-2 Inv-loop μ-loop
+loop-less-2 c =
+    let start = c .before .before .before .before .before .before .before .before .before .before in
+    let turn = c .before .before .before .before .before .before .before .loop in
+    let entry = c .before .before .before .before .from2 in
+    let first = phase.package-first (now (start .args .s)) (start .args .end) (turn .at) (turn .inv .0) (entry .given .0 .0) (entry .given .0 .1 .0)
+    (entry .given .0 .1 .1 .0) (part-told (entry .given .1) (c .before .before .before .before .before .before .entry-at .ensures)) (start .pre .0) in
+    omega (arith, first .3, first .4)
+
+loop-again-2 : tie.Need-loop-again-2 Inv-loop μ-loop
+loop-again-2 c =
+    let start = c .before .before .before .before .before .before .before .before .before .before in
+    let turn = c .before .before .before .before .before .before .before .loop in
+    let entry = c .before .before .before .before .from2 in
+    let part-at = c .before .before .before .before .before .before .entry-at in
+    let first = phase.package-first (now (start .args .s)) (start .args .end) (turn .at) (turn .inv .0) (entry .given .0 .0) (entry .given .0 .1 .0)
+    (entry .given .0 .1 .1 .0) (part-told (entry .given .1) (part-at .ensures)) (start .pre .0) in (
+      phase.package-on (now (start .args .s)) (start .args .end) (turn .at) (turn .inv .0) (entry .given .0 .0) (entry .given .0 .1 .0)
+          (entry .given .0 .1 .1 .0) (part-told (entry .given .1) (part-at .ensures))
+          (subst (PackageSays (now (start .args .s)) (turn .at) (part (now (start .args .s)) (entry .given .0 .0) (entry .given .0 .1 .0)))
+          (not-false _ (c .if2 .left)) (c .before .package-ok .ensures)),
+      keys.domains-package (now (start .args .s)) (turn .at) (entry .given .0 .1 .1 .0)
+          (part (now (start .args .s)) (entry .given .0 .0) (entry .given .0 .1 .0))
+          (part (now (start .args .s)) (entry .given .0 .1 .0) (entry .given .0 .1 .1 .0)) (turn .table) (turn .inv .1) (first .0),
+      turn .inv .2,
+    )
+
+enum-told : tie.Need-enum-told Inv-loop μ-loop
+enum-told c = search needs
+
+same-length-3 : tie.Need-same-length-3 Inv-loop μ-loop
+same-length-3 c =
+    let start = c .before .before .before .before .before .before in
+    omega (arith, c .before .before .before .loop .inv .2, length-set (now (start .args .table)) 0 0)
+
+returns-3 : tie.Need-returns-3 Inv-loop μ-loop
+returns-3 c =
+    let start = c .before .before .before .before .before .before in
+    let turn = c .before .before .before .loop in
+    phase.all-done (now (start .args .s)) (start .args .end) (turn .at) (turn .inv .0)
+    (part-told (c .enum-told .given .1) (c .before .before .entry-at .ensures))
+
+pub domains-ok-spec : {M : Type 1} → statement M
+domains-ok-spec =
+    tie.close
+    (tie.spec
+    Inv-loop
+    μ-loop
+    slice-write-table
+    loop-holds
+    entry-at-requires
+    enum-known-from
+    domain-ok-requires
+    same-length
+    returns
+    loop-less
+    loop-again
+    enum-known-from-2
+    package-ok-requires
+    same-length-2
+    returns-2
+    loop-less-2
+    loop-again-2
+    enum-told
+    same-length-3
+    returns-3)

@@ -1,0 +1,3 @@
+-- The laws that the proofs of this crate's functions cite, and what the answers of a file say.
+mod Loops
+pub mod Numbers

@@ -1,0 +1,229 @@
+-- Going through the entries of a store in order: what is known where a turn begins, and what its end says. Assumes nothing.
+use Prim.Native.Nat.{ℕ, _+_, _-_, _/_, _≤_, _<_}
+use native.Mathlib.Omega.{arith}
+use mathlib.Core.Path.{_≡_, refl, sym, _∙_, ap, subst, subst⁻¹}
+use mathlib.Core.Bool.{Bool, true, false, _&&_}
+use mathlib.Core.List.{List, [], _∷_, _++_, append-assoc}
+use lib.Dec.{T, eqb, leb, leb→le}
+use lib.ListN.{length, length-append}
+use borrow.Author.Tests.{le-leb, eq-eqb, ne-eqb}
+use Rattle.rules.specs.Bytes.{Bytes, Aid}
+use Rattle.rules.specs.Package.{storeLimits, Package}
+use Rattle.rules.specs.Store.{Entry, domain, loaded, entryBytes, used}
+use Rattle.rules.specs.Classes.{installed}
+use Rattle.rules.specs.Questions.{q3-lengths, q4-new, q5-created, q12-new, q21-fits}
+use Rattle.rules.specs.Operations.{firstNo, createQuestions, accepted, acceptedAll, soundEntries}
+use Rattle.rules.proofs.Tests.{and-i, and-l, is-true, of-true}
+use Rattle.rules.proofs.Step.{accepted-append}
+use Rattle.store.specs.Entries.{part, EntryAt, Entries, StandFrom, FilesStand, FirstIs}
+use Rattle.store.specs.Answers.{PartAt}
+use Rattle.store.specs.Sound.{Over, OverSome}
+use Rattle.store.specs.declared.EntryPart.the-variants as parts
+use Rattle.store.proofs.Parts.{part-length}
+use Rattle.store.proofs.Stand.{entry-later, entry-next, entries-to, entries-more, entries-one}
+use Rattle.store.proofs.Sound.{over-used, one-length}
+use Rattle.index.specs.Index.{IndexIs, PackageStands}
+use Rattle.homes.specs.Found.{Indexed}
+use Rattle.homes.proofs.Homes.{all-read}
+use Rattle.bits.specs.Bits.{halfAt}
+use Rattle.depths.specs.Depths.{DepthsKept, DepthsFit, OwnDepths, FileKept}
+use Rattle.depths.proofs.Kept.{depths-next}
+use Rattle.judge.specs.Says.{DomainYes, DomainsYes, Asked14, fileAsks, ParentsSay, ParentsAnswer, entryOf, PackageThere, EntrySays, PackagesSay}
+use Rattle.judge.specs.declared.PackageEntry.{PackageEntry}
+use Rattle.judge.specs.declared.LoadAnswer.{LoadAnswer}
+use Rattle.judge.specs.declared.LoadAnswer.the-variants.{Refused}
+use Rattle.judge.proofs.Loading.{behind-5}
+
+-- of the entries es, those up to place `at` were accepted, and the others stand from there up to `end`
+pub record Reached (s : Bytes) (end at : ℕ) (es : List Entry) : Type 0 where
+  pub pre : List Entry
+  pub rest : List Entry
+  pub are : es ≡ pre ++ rest
+  pub over : Over s at pre
+  pub behind : Entries s at rest end
+
+abbrev pub Going : Bytes → ℕ → ℕ → Type 0
+Going s end at = (es : List Entry) → Entries s 7 es end → Reached s end at es
+
+pub going-start : (s : Bytes) (end : ℕ) → Going s end 7
+going-start s end es r =
+    let t = entries-to s 7 es end r in
+    let h : 7 ≤ length s = omega (arith, t .0, t .1) in
+    record { pre = []; rest = es; are = refl; over = record { stand = Entries.over h; sound = tt }; behind = r }
+
+module _ (s : Bytes) (end at : ℕ) (es : List Entry) (g : Reached s end at es) where
+  -- what the whole list's soundness is, where a turn begins
+  whole : soundEntries (storeLimits s) (length s) es ≡ acceptedAll (storeLimits s) (length s) (g .pre) (g .rest)
+  unfolding soundEntries
+  whole =
+      ap (acceptedAll (storeLimits s) (length s) []) (g .are) ∙ accepted-append (storeLimits s) (length s) [] (g .pre) (g .rest)
+      ∙ ap (λ (b : Bool). b && acceptedAll (storeLimits s) (length s) (g .pre) (g .rest)) (is-true (acceptedAll (storeLimits s) (length s) [] (g .pre)) (g .over .sound))
+
+  -- an entry that is accepted
+  pub going-on : (e : Entry) (next : ℕ) → FirstIs s at e next end (g .rest) → accepted (storeLimits s) (length s) (g .pre) e ≡ true → Reached s end next es
+  going-on e next f a = record {
+    pre = g .pre ++ e ∷ [];
+    rest = f .rest;
+    are = g .are ∙ ap (λ (zs : List Entry). g .pre ++ zs) (f .are) ∙ sym (append-assoc (g .pre) (e ∷ []) (f .rest));
+    over = record {
+      stand = entries-more s 7 (g .pre) at e next (g .over .stand) (f .stands);
+      sound = subst⁻¹ T (accepted-append (storeLimits s) (length s) [] (g .pre) (e ∷ []))
+          (and-i (acceptedAll (storeLimits s) (length s) [] (g .pre)) _ (g .over .sound) (and-i (accepted (storeLimits s) (length s) (g .pre) e) true (of-true a) tt));
+    };
+    behind = f .after;
+  }
+
+  -- one that is not
+  pub going-bad : (e : Entry) (next : ℕ) → FirstIs s at e next end (g .rest) → accepted (storeLimits s) (length s) (g .pre) e ≡ false → soundEntries (storeLimits s) (length s) es ≡ false
+  going-bad e next f a = whole ∙ ap (acceptedAll (storeLimits s) (length s) (g .pre)) (f .are) ∙ ap (λ (b : Bool). b && acceptedAll (storeLimits s) (length s) (g .pre ++ e ∷ []) (f .rest)) a
+
+  -- the end
+  pub going-done : g .rest ≡ [] → soundEntries (storeLimits s) (length s) es ≡ true
+  going-done e = whole ∙ ap (acceptedAll (storeLimits s) (length s) (g .pre)) e
+
+-- a domain that questions 3 and 4 pass is accepted: it stands there, so it fits
+domain-accepted : (s : Bytes) (at j : ℕ) (a : Aid) (pre : List Entry) → Over s at pre → EntryAt s at (domain a) j → DomainYes pre (domain a) →
+    accepted (storeLimits s) (length s) pre (domain a) ≡ true
+unfolding createQuestions q21-fits
+domain-accepted s at j a pre o t y =
+    let n = entry-next s at (domain a) j t in
+    let u : used pre ≡ at = over-used s at pre o in
+    let fits : leb (used pre + length (entryBytes (domain a))) (length s) ≡ true = le-leb (used pre + length (entryBytes (domain a))) (length s) (omega (arith, u, n, t .to)) in
+    rw (is-true (q3-lengths (a ∷ [])) (y .0), is-true (q4-new pre a) (y .1), fits)
+
+-- a package's entry, by the number of its questions from 10 on
+module _ (s : Bytes) (x : PackageEntry) (there : PackageThere s x) where
+  abbrev d : Aid
+  d = part s (x .from) (x .file)
+
+  abbrev f : Bytes
+  f = part s (x .file) (x .next)
+
+  entry-number : (n : ℕ) → ((es : List Entry) → Over s (x .at) es → n ≡ firstNo (fileAsks s es d f)) → EntrySays s (x .at) (entryOf s x) (eqb n 0)
+  entry-number n h es o =
+      let known = there .known es o in
+      ap (λ (k : ℕ). eqb k 0) (behind-5 s (x .at) d f es (known .0) (known .1) n (h es o))
+
+  pub entry-yes : (n : ℕ) → n ≡ 0 → ((es : List Entry) → Over s (x .at) es → n ≡ firstNo (fileAsks s es d f)) → EntrySays s (x .at) (entryOf s x) true
+  entry-yes n z h = subst (EntrySays s (x .at) (entryOf s x)) (eq-eqb n 0 z) (entry-number n h)
+
+  pub entry-no : (n : ℕ) → (n ≡ 0 → ⊥) → ((es : List Entry) → Over s (x .at) es → n ≡ firstNo (fileAsks s es d f)) → EntrySays s (x .at) (entryOf s x) false
+  entry-no n z h = subst (EntrySays s (x .at) (entryOf s x)) (ne-eqb n 0 z) (entry-number n h)
+
+  -- a package that was asked up to 14 may be entered
+  pub package-stands : (es : List Entry) (p : Package) → Asked14 s (x .at) d f es p → PackageStands s (x .at) (x .file) (x .next)
+  package-stands es p a = record {
+    home = d;
+    pack = p;
+    stands = there .stands;
+    from = there .file;
+    long = leb→le 5 (length d) (and-l (leb 5 (length d)) (leb (length d) 16) (of-true (sym (one-length d) ∙ (there .known es (a .read .over)) .0)));
+    reads = a .read .reads;
+    new = λ fs r all.
+        let same : es ≡ fs = entries-one s 7 es fs (x .at) (a .read .over .stand) r in
+        is-true _ (subst (λ (zs : List Entry). T (q12-new (installed (storeLimits s) zs) p)) same (a .q12));
+  }
+
+  -- the depths of its classes are kept behind it
+  pub depths-behind : OverSome s (x .at) → {t t′ ds : List ℕ} → DepthsKept s (x .at) t → DepthsFit f ds → OwnDepths f s (x .at) ds → FileKept f (x .file) ds t′ →
+      ((j : ℕ) → j < x .file / 5 → halfAt t′ j ≡ halfAt t j) → length t′ ≡ length t → DepthsKept s (x .next) t′
+  depths-behind o {t} {t′} {ds} k fit own file same len =
+      depths-next s (x .at) (x .file) (x .next) d t t′ ds k (there .stands) (there .inside) (there .file) own file same len (o .0, o .1 .stand)
+
+-- the files of sound entries read
+pub files-stand : (s : Bytes) (at : ℕ) → OverSome s at → FilesStand s at
+files-stand s at o = (o .0, o .1 .stand, all-read (storeLimits s) (length s) [] (o .0) (o .1 .sound))
+
+pub indexed : (s : Bytes) (at : ℕ) (index : List ℕ) → OverSome s at → IndexIs s at index → Indexed s at index
+indexed s at index o i = record { files = files-stand s at o; is = i }
+
+-- a refusal of 10 to 14 as a number from 10 on
+pub first-number : (s : Bytes) (end : ℕ) (d f : Bytes) (r : LoadAnswer) (n : ℕ) → ParentsAnswer s end f r → r ≡ Refused n → OverSome s end →
+    (n ≡ 0 → ⊥) × ((es : List Entry) → Over s end es → n ≡ firstNo (fileAsks s es d f))
+first-number s end d f r n first e some =
+    let x = subst (ParentsSay s end d f (some .0)) e (first d (some .0) (some .1)) in
+    (λ z. omega (arith, x .0, z), λ es o. (subst (ParentsSay s end d f es) e (first d es o)) .1)
+
+-- a turn at a domain and at a package
+module _ (s : Bytes) (end at : ℕ) (g : Going s end at) where
+  pub going-over : StandFrom s 7 end → OverSome s at
+  going-over t = let r = g (t .0) (t .1) in (r .pre, r .over)
+
+  pub going-from : StandFrom s 7 end → StandFrom s at end
+  going-from t = let r = g (t .0) (t .1) in (r .rest, r .behind)
+
+  pub first-in : (e : Entry) (j : ℕ) (rest : List Entry) → FirstIs s at e j end rest → (j ≤ length s) × (at < j) × (j ≤ end)
+  first-in e j rest f =
+      let a = entry-later s at e j (f .stands) in
+      let b = entries-to s j (f .rest) end (f .after) in
+      (f .stands .to, omega arith, b .0)
+
+  module _ (a j : ℕ) (p : PartAt s at end (parts.Domain a j)) where
+    pub domain-in : StandFrom s 7 end → (at < j) × (j ≤ end)
+    domain-in t =
+        let r = g (t .0) (t .1) in
+        let b = first-in (domain (part s a j)) j (r .rest) ((p (r .rest) (r .behind)) .1) in
+        (b .1, b .2)
+
+    pub domain-entry : StandFrom s 7 end → EntryAt s at (domain (part s a j)) j
+    domain-entry t = let r = g (t .0) (t .1) in (p (r .rest) (r .behind)) .1 .stands
+
+    pub domain-on : DomainsYes s end → Going s end j
+    domain-on y es t =
+        let r = g es t in
+        let q = (p (r .rest) (r .behind)) .1 in
+        let are = r .are ∙ ap (λ (zs : List Entry). r .pre ++ zs) (q .are) in
+        let yes = y es (r .pre) (q .rest) (domain (part s a j)) t are in
+        going-on s end at es r (domain (part s a j)) j q (domain-accepted s at j (part s a j) (r .pre) (r .over) (q .stands) yes)
+
+  module _ (a m j : ℕ) (p : PartAt s at end (parts.Package a m j)) where
+    pub package-in : StandFrom s 7 end → (at < j) × (j ≤ end)
+    package-in t =
+        let r = g (t .0) (t .1) in
+        let b = first-in (loaded (part s a m) (part s m j)) j (r .rest) ((p (r .rest) (r .behind)) .2) in
+        (b .1, b .2)
+
+    -- questions 3 and 5 were answered yes
+    package-domain : DomainsYes s end → StandFrom s 7 end → (pre : List Entry) → Over s at pre →
+        (q3-lengths (part s a m ∷ []) ≡ true) × (q5-created pre (part s a m) ≡ true)
+    package-domain y t pre o =
+        let r = g (t .0) (t .1) in
+        let q = (p (r .rest) (r .behind)) .2 in
+        let are = r .are ∙ ap (λ (zs : List Entry). r .pre ++ zs) (q .are) in
+        let yes = y (t .0) (r .pre) (q .rest) (loaded (part s a m) (part s m j)) (t .1) are in
+        let same : r .pre ≡ pre = entries-one s 7 (r .pre) pre at (r .over .stand) (o .stand) in
+        (is-true _ (yes .0), is-true _ (subst (λ (zs : List Entry). T (q5-created zs (part s a m))) same (yes .1)))
+
+    -- its places
+    abbrev places : PackageEntry
+    places = record { at = at; from = a; file = m; next = j }
+
+    -- the entry stands there
+    pub package-there : DomainsYes s end → StandFrom s 7 end → PackageThere s places
+    package-there y t =
+        let r = g (t .0) (t .1) in
+        let q = p (r .rest) (r .behind) in
+        let n = entry-next s at (loaded (part s a m) (part s m j)) j (q .2 .stands) in
+        let to : j ≤ length s = q .2 .stands .to in
+        let d : length (part s a m) ≡ m - a = part-length s a m (omega (arith, to, q .1)) in
+        let f : length (part s m j) ≡ j - m = part-length s m j to in
+        let l = length-append (part s a m) (part s m j) in
+        record {
+          stands = q .2 .stands;
+          domain = q .0;
+          file = q .1;
+          inside = omega (arith, n, l, d, f, q .0, q .1);
+          known = package-domain y t;
+        }
+
+    pub package-on : EntrySays s at (loaded (part s a m) (part s m j)) true → Going s end j
+    package-on y es t = let r = g es t in going-on s end at es r (loaded (part s a m) (part s m j)) j ((p (r .rest) (r .behind)) .2) (sym (y (r .pre) (r .over)))
+
+    pub package-bad : EntrySays s at (loaded (part s a m) (part s m j)) false → PackagesSay s end false
+    package-bad y es t = let r = g es t in sym (going-bad s end at es r (loaded (part s a m) (part s m j)) j ((p (r .rest) (r .behind)) .2) (sym (y (r .pre) (r .over))))
+
+  pub all-done : PartAt s at end parts.AtEnd → PackagesSay s end true
+  all-done p es t = let v = g es t in sym (going-done s end at es v ((p (v .rest) (v .behind)) .0))
+
+  pub done-at : PartAt s at end parts.AtEnd → StandFrom s 7 end → at ≡ end
+  done-at p t = let v = g (t .0) (t .1) in (p (v .rest) (v .behind)) .1

@@ -1,0 +1,3 @@
+-- Laws of methods sorted by name.
+pub mod Search
+pub mod Entering

@@ -1,0 +1,3 @@
+-- Laws of the rows and of the packages that numbers stand for.
+pub mod Rows
+pub mod Numbers

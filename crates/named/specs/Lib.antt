@@ -1,0 +1,2 @@
+-- What the functions over package and class numbers require and ensure.
+pub mod Named

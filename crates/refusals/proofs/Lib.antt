@@ -1,0 +1,3 @@
+-- The laws that the proofs of walks cite.
+pub mod Order
+pub mod Walks

@@ -1,0 +1,23 @@
+-- `refusals::rank` meets its contract: the rows of the list, one after the other. Assumes nothing.
+use mathlib.Core.Path.{sym}
+use Rattle.refusals.proofs.Order.{rank-16, rank-17, rank-18, rank-19, rank-else}
+use Rattle.refusals.proofs.rank.Statement.{statement}
+use Rattle.refusals.proofs.rank.Tie as tie
+
+returns : tie.Need-returns
+returns c = sym (rank-16 (c .before .args .n) (c .if1 .taken))
+
+returns-2 : tie.Need-returns-2
+returns-2 c = sym (rank-17 (c .before .before .args .n) (c .if2 .taken))
+
+returns-3 : tie.Need-returns-3
+returns-3 c = sym (rank-18 (c .before .before .before .args .n) (c .if3 .taken))
+
+returns-4 : tie.Need-returns-4
+returns-4 c = sym (rank-19 (c .before .before .before .before .args .n) (c .if4 .taken))
+
+returns-5 : tie.Need-returns-5
+returns-5 c = sym (rank-else (c .before .before .before .before .args .n) (c .before .before .before .if1 .left) (c .before .before .if2 .left) (c .before .if3 .left) (c .if4 .left))
+
+pub rank-spec : {M : Type 1} → statement M
+rank-spec = tie.close (tie.spec returns returns-2 returns-3 returns-4 returns-5)

@@ -1,0 +1,80 @@
+-- What demands 1 and 2 speak of: the numbers of each operation in document 01's order, and its questions. Assumes nothing.
+--
+-- refusalsOf o                   == the numbers that document 01 lists for an operation, in its order; withDone ns == these and 0
+-- freshRefusals, queryRefusals   == those of fresh and of a query
+-- asked, askedFresh, askedQuery  == all questions of an operation, of fresh or of a query on a buffer, in order
+-- numbersIn qs                   == the numbers of questions, in order
+-- HasFile o                      == the operation is no load, or its file reads: of a file that does not, nothing behind 11 is asked
+-- allYes qs                      == all are answered yes
+-- FirstNo k qs                   == the questions before the one with number k are answered yes, and that one no
+-- storedAllows s d a c n         == the method that the store has for the query allows the domain
+use Prim.Native.Nat.{ℕ}
+use mathlib.Core.Path.{_≡_}
+use mathlib.Core.Bool.{Bool, false}
+use mathlib.Core.List.{List, [], _∷_, _++_}
+use mathlib.Core.Option.{some}
+use lib.Dec.{T}
+use lib.ListN.{length}
+use Rattle.rules.specs.Bytes.{Bytes, Aid, all, someAnd}
+use Rattle.rules.specs.Package.{standard, Package, readFile}
+use Rattle.rules.specs.Classes.{installed, allows}
+use Rattle.rules.specs.Questions.{q1-size, methodQueried}
+use Rattle.rules.specs.Operations.{Question, queryQuestions, sound, entries, Operation, create, delete, load, remove, questions}
+
+-- Create: 1 to 4, 21. Delete: 1 to 3, 5, 6. Load: 1 to 3, 5, 10 to 21. Remove: 1 to 3, 7, 8
+abbrev pub refusalsOf : Operation → List ℕ
+refusalsOf (create a) = 1 ∷ 2 ∷ 3 ∷ 4 ∷ 21 ∷ []
+refusalsOf (delete a) = 1 ∷ 2 ∷ 3 ∷ 5 ∷ 6 ∷ []
+refusalsOf (load d f) = 1 ∷ 2 ∷ 3 ∷ 5 ∷ 10 ∷ 11 ∷ 12 ∷ 13 ∷ 14 ∷ 15 ∷ 16 ∷ 17 ∷ 18 ∷ 19 ∷ 20 ∷ 21 ∷ []
+refusalsOf (remove a) = 1 ∷ 2 ∷ 3 ∷ 7 ∷ 8 ∷ []
+
+-- Fresh: 1. Query: 1 to 3, 7, 9
+abbrev pub freshRefusals : List ℕ
+freshRefusals = 1 ∷ []
+
+abbrev pub queryRefusals : List ℕ
+queryRefusals = 1 ∷ 2 ∷ 3 ∷ 7 ∷ 9 ∷ []
+
+-- done is 0
+abbrev pub withDone : List ℕ → List ℕ
+withDone ns = 0 ∷ ns
+
+-- all questions, in order
+abbrev pub askedBy : Bytes → List Question → List Question
+askedBy s qs = (1, q1-size s) ∷ (2, sound s) ∷ qs
+
+abbrev pub asked : Bytes → Operation → List Question
+asked s o = askedBy s (questions (length s) (entries s) o)
+
+abbrev pub askedFresh : Bytes → List Question
+askedFresh s = (1, q1-size s) ∷ []
+
+abbrev pub askedQuery : Bytes → Aid → Aid → ℕ → ℕ → List Question
+askedQuery s d a c n = askedBy s (queryQuestions standard (entries s) d a c n)
+
+-- their numbers
+abbrev pub numbersIn : List Question → List ℕ
+numbersIn [] = []
+numbersIn (q ∷ qs) = q .0 ∷ numbersIn qs
+
+-- the operation is no load, or its file reads
+abbrev pub HasFile : Operation → Type 0
+HasFile (create a) = Unit {0}
+HasFile (delete a) = Unit {0}
+HasFile (load d f) = (p : Package) × (readFile standard f ≡ some p)
+HasFile (remove a) = Unit {0}
+
+-- all are answered yes
+abbrev pub allYes : List Question → Bool
+allYes qs = all (λ q. q .1) qs
+
+-- the first no: the questions before it are answered yes, its own answer is no
+pub record FirstNo (k : ℕ) (qs : List Question) : Type 0 where
+  pub before : List Question
+  pub behind : List Question
+  pub are : qs ≡ before ++ (k, false) ∷ behind
+  pub yes : T (allYes before)
+
+-- the method that the store has for the query allows the domain
+abbrev pub storedAllows : Bytes → Aid → Aid → ℕ → ℕ → Bool
+storedAllows s d a c n = someAnd (methodQueried (installed standard (entries s)) a c n) λ m. allows m d

@@ -1,0 +1,2 @@
+-- What the questions of the services answer.
+pub mod Answers

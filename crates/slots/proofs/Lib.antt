@@ -1,0 +1,3 @@
+-- Laws of slots.
+pub mod Slots
+pub mod Asked

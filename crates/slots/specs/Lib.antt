@@ -1,0 +1,2 @@
+-- What the functions over slots require and ensure.
+pub mod Slots

@@ -1,0 +1,4 @@
+-- The laws of sorted places.
+pub mod Order
+pub mod Table
+pub mod Change

@@ -1,0 +1,2 @@
+-- What the functions over sorted places require and ensure.
+pub mod Sorted

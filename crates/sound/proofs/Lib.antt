@@ -1,0 +1,2 @@
+-- The laws of questions 1 and 2.
+pub mod Laws

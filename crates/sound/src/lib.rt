@@ -1,0 +1,209 @@
+// Questions 1 and 2 of a store, and a load judged over it. The tables are as large as the store's length asks: a function for each of
+// two classes of lengths has its own. Such a function calls itself under a budget that is 0 in fact, which the compiler cannot know; so it
+// is not made a part of its caller, and only the tables of the store's own class stand on the stack.
+use judge::LoadAnswer;
+use store::Layout;
+ghost use mathlib.Core.Path.{_≡_};
+ghost use Prim.Native.Nat.{_≤_};
+ghost use lib.ListN.{length};
+ghost use Rattle.store.specs.Entries.{StandFrom};
+ghost use Rattle.domains.specs.Domains.{AllSay};
+ghost use Rattle.judge.specs.Says.{DomainsYes, PackagesSay};
+ghost use Rattle.sound.specs.Says.{JudgedSays, LaidSays, OpenedSays, LoadingSays};
+
+// Questions 1 and 2: the number of the first no, or where the entries of a sound store end.
+pub enum Opened {
+    Refused(u32),
+    Used(usize),
+}
+
+// A load: the number of the first no, or where the entries of the store end and the depth of the deepest own class.
+pub enum Loading {
+    Refused(u32),
+    Accepted(usize, usize),
+}
+
+// Questions 3 to 5 of the entries of a store of 8,192 bytes or less.
+fn domains_small(s: &[u8], used: usize, budget: usize) -> bool
+    requires { ⌜ StandFrom (now s) 7 used × (length (now s) ≤ 8192) ⌝ }
+    ensures { λ r. ⌜ AllSay (now (s .entry)) used r ⌝ }
+{
+    if 0 < budget {
+        return domains_small(s, used, budget - 1);
+    }
+    let mut table = [0u16; 1024];
+    domains::domains_ok(s, used, &mut table)
+}
+
+// The same of a larger one.
+fn domains_large(s: &[u8], used: usize, budget: usize) -> bool
+    requires { ⌜ StandFrom (now s) 7 used × (length (now s) ≤ 65535) ⌝ }
+    ensures { λ r. ⌜ AllSay (now (s .entry)) used r ⌝ }
+{
+    if 0 < budget {
+        return domains_large(s, used, budget - 1);
+    }
+    let mut table = [0u16; 8192];
+    domains::domains_ok(s, used, &mut table)
+}
+
+// Questions 3 to 5 of the entries of a store.
+fn domains_sound(s: &[u8], used: usize, budget: usize) -> bool
+    requires { ⌜ StandFrom (now s) 7 used × (length (now s) ≤ 65535) ⌝ }
+    ensures { λ r. ⌜ AllSay (now (s .entry)) used r ⌝ }
+{
+    if s.len() <= 8192 {
+        return domains_small(s, used, budget);
+    }
+    domains_large(s, used, budget)
+}
+
+// The other questions of the entries of a store of 8,192 bytes or less.
+fn packages_small(s: &[u8], used: usize, budget: usize) -> bool
+    requires { ⌜ StandFrom (now s) 7 used × DomainsYes (now s) used × (length (now s) ≤ 8192) ⌝ }
+    ensures { λ r. ⌜ PackagesSay (now (s .entry)) used r ⌝ }
+{
+    if 0 < budget {
+        return packages_small(s, used, budget - 1);
+    }
+    let mut index = [0u16; 304];
+    let mut depths = [0u8; 820];
+    let mut seen = [0u8; 347];
+    judge::packages_sound(s, used, &mut index, &mut depths, &mut seen)
+}
+
+// The same of a larger one.
+fn packages_large(s: &[u8], used: usize, budget: usize) -> bool
+    requires { ⌜ StandFrom (now s) 7 used × DomainsYes (now s) used × (length (now s) ≤ 65535) ⌝ }
+    ensures { λ r. ⌜ PackagesSay (now (s .entry)) used r ⌝ }
+{
+    if 0 < budget {
+        return packages_large(s, used, budget - 1);
+    }
+    let mut index = [0u16; 2428];
+    let mut depths = [0u8; 6554];
+    let mut seen = [0u8; 2736];
+    judge::packages_sound(s, used, &mut index, &mut depths, &mut seen)
+}
+
+// The other questions of the entries of a store.
+fn packages_sound(s: &[u8], used: usize, budget: usize) -> bool
+    requires { ⌜ StandFrom (now s) 7 used × DomainsYes (now s) used × (length (now s) ≤ 65535) ⌝ }
+    ensures { λ r. ⌜ PackagesSay (now (s .entry)) used r ⌝ }
+{
+    if s.len() <= 8192 {
+        return packages_small(s, used, budget);
+    }
+    packages_large(s, used, budget)
+}
+
+// The same with a load behind them, in a store of 8,192 bytes or less; 2 where an entry of the store is not accepted.
+fn load_small<'a>(
+    s: &'a [u8],
+    used: usize,
+    domain: &[u8],
+    file: &'a [u8],
+    budget: usize,
+) -> LoadAnswer
+    requires { ⌜ StandFrom (now s) 7 used × DomainsYes (now s) used × (length (now s) ≤ 8192) ⌝ }
+    ensures { λ r. ⌜ JudgedSays (now (s .entry)) used (now (domain .entry)) (now (file .entry)) r ⌝ }
+{
+    if 0 < budget {
+        return load_small(s, used, domain, file, budget - 1);
+    }
+    let mut index = [0u16; 304];
+    let mut depths = [0u8; 820];
+    let mut seen = [0u8; 347];
+    if !judge::packages_sound(s, used, &mut index, &mut depths, &mut seen) {
+        return LoadAnswer::Refused(2);
+    }
+    judge::load_answer(s, used, domain, file, &index, &depths, &mut seen)
+}
+
+// The same in a larger one.
+fn load_large<'a>(
+    s: &'a [u8],
+    used: usize,
+    domain: &[u8],
+    file: &'a [u8],
+    budget: usize,
+) -> LoadAnswer
+    requires { ⌜ StandFrom (now s) 7 used × DomainsYes (now s) used × (length (now s) ≤ 65535) ⌝ }
+    ensures { λ r. ⌜ JudgedSays (now (s .entry)) used (now (domain .entry)) (now (file .entry)) r ⌝ }
+{
+    if 0 < budget {
+        return load_large(s, used, domain, file, budget - 1);
+    }
+    let mut index = [0u16; 2428];
+    let mut depths = [0u8; 6554];
+    let mut seen = [0u8; 2736];
+    if !judge::packages_sound(s, used, &mut index, &mut depths, &mut seen) {
+        return LoadAnswer::Refused(2);
+    }
+    judge::load_answer(s, used, domain, file, &index, &depths, &mut seen)
+}
+
+// The same in any store.
+fn load_judged<'a>(
+    s: &'a [u8],
+    used: usize,
+    domain: &[u8],
+    file: &'a [u8],
+    budget: usize,
+) -> LoadAnswer
+    requires { ⌜ StandFrom (now s) 7 used × DomainsYes (now s) used × (length (now s) ≤ 65535) ⌝ }
+    ensures { λ r. ⌜ JudgedSays (now (s .entry)) used (now (domain .entry)) (now (file .entry)) r ⌝ }
+{
+    if s.len() <= 8192 {
+        return load_small(s, used, domain, file, budget);
+    }
+    load_large(s, used, domain, file, budget)
+}
+
+// Questions 1 and 2 up to the domains: the number of the first no, or where the entries end.
+fn laid_out(s: &[u8], budget: usize) -> Opened
+    ensures { λ r. ⌜ LaidSays (now (s .entry)) r ⌝ }
+{
+    if !store::size_ok(s) {
+        return Opened::Refused(1);
+    }
+    match store::laid_out(s) {
+        Layout::Broken => Opened::Refused(2),
+        Layout::Used(used) => {
+            if domains_sound(s, used, budget) {
+                return Opened::Used(used);
+            }
+            Opened::Refused(2)
+        }
+    }
+}
+
+// Questions 1 and 2.
+pub fn open_store(s: &[u8]) -> Opened
+    ensures { λ r. ⌜ OpenedSays (now (s .entry)) r ⌝ }
+{
+    let budget = s.len() / 65536;
+    match laid_out(s, budget) {
+        Opened::Refused(n) => Opened::Refused(n),
+        Opened::Used(used) => {
+            if packages_sound(s, used, budget) {
+                return Opened::Used(used);
+            }
+            Opened::Refused(2)
+        }
+    }
+}
+
+// A load: 1 to 3, 5, 10 to 21.
+pub fn judge_load<'a>(s: &'a [u8], domain: &[u8], file: &'a [u8]) -> Loading
+    ensures { λ r. ⌜ LoadingSays (now (s .entry)) (now (domain .entry)) (now (file .entry)) r ⌝ }
+{
+    let budget = s.len() / 65536;
+    match laid_out(s, budget) {
+        Opened::Refused(n) => Loading::Refused(n),
+        Opened::Used(used) => match load_judged(s, used, domain, file, budget) {
+            LoadAnswer::Refused(n) => Loading::Refused(n),
+            LoadAnswer::Accepted(depth) => Loading::Accepted(used, depth),
+        },
+    }
+}

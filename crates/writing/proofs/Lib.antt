@@ -1,0 +1,3 @@
+-- The laws of writing a store.
+pub mod Paste
+pub mod Change

@@ -1,0 +1,2 @@
+-- What the functions that write a store require and leave.
+pub mod Changes

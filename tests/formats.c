@@ -1,0 +1,315 @@
+/*
+ * For tests/formats.sh: holds the library to figures of docs/FORMATS.md, a line of standard input each:
+ *
+ *     limit NUMBER VALUE NAME       a load (or call) with this many of what is limited answers this number
+ *     store NUMBER LENGTH BYTES     question 2 of a buffer that holds these bytes, then zeros (0 where it is sound)
+ *     load NUMBER DOMAIN FILE       a load into the week's store, where meals is installed
+ *     code NUMBER BYTES             a load of a package with this code
+ *     length LENGTH OPCODE          an instruction has this many bytes; 0: there is no such instruction
+ *     branch KIND OPCODE            1 or 2: it branches by an s1 or an s2; 0: it does not
+ *     call PLACE OPCODE             it calls the reference at this byte; 0: it does not
+ *     last ANSWER OPCODE            1: it may be the last instruction
+ *
+ * Opcodes and bytes are in hexadecimal. Prints how many lines hold, or each that does not; exit status 0 only if all do.
+ */
+#include <stdio.h>
+#include <stdlib.h>
+#include <string.h>
+
+#include "loader.h"
+#include "packages.h"
+
+enum { NONE = 99 };
+
+static uint8_t store[LOADER_STORE_MOST + 2];
+static uint8_t file[LOADER_STORE_MOST + 2];
+static size_t at;
+static uint8_t length_of[256];
+
+static const uint8_t domain[] = {0xA0, 0, 0, 0, 0xD1};
+static const uint8_t imported[] = {0xA0, 0, 0, 0, 0xB1};
+
+static void u1(unsigned value)
+{
+    file[at++] = (uint8_t)value;
+}
+
+static void u2(unsigned value)
+{
+    u1(value / 256);
+    u1(value % 256);
+}
+
+static void aid(const uint8_t *bytes, unsigned length)
+{
+    u1(length);
+    memcpy(file + at, bytes, length);
+    at += length;
+}
+
+/* Mark, version, a size that is filled in, the package AID, and as many domains, imports and references. */
+static void begin(unsigned aid_length, unsigned domains, unsigned imports, unsigned references)
+{
+    static const uint8_t own[32] = {0xC0};
+    at = 0;
+    u1(0x42), u1(0x50), u1(0x4B), u2(1), u2(0);
+    aid(own, aid_length);
+    u1(domains);
+    for (unsigned i = 0; i < domains; i++) {
+        aid(domain, sizeof domain);
+    }
+    u1(imports);
+    for (unsigned i = 0; i < imports; i++) {
+        aid(imported, sizeof imported);
+    }
+    u2(references);
+    for (unsigned i = 0; i < references; i++) {
+        u2(0), u2(0);
+    }
+}
+
+/* A class of a kind with no parent, or with parents that are all class `parent` of this file. */
+static void class_head(unsigned kind, unsigned parents, unsigned parent, unsigned methods)
+{
+    u1(kind), u1(parents);
+    for (unsigned i = 0; i < parents; i++) {
+        u1(0), u1(parent);
+    }
+    u1(methods);
+}
+
+/* A method without a code, allowing index 0 so many times. */
+static void plain_method(unsigned name, unsigned allowed)
+{
+    u1(0), u2(name), u1(allowed);
+    for (unsigned i = 0; i < allowed; i++) {
+        u1(0);
+    }
+}
+
+static void end(void)
+{
+    file[5] = (uint8_t)(at / 256);
+    file[6] = (uint8_t)(at % 256);
+}
+
+/* A package of one static method with this code. */
+static void write_code(const uint8_t *code, unsigned length)
+{
+    begin(5, 0, 0, 0);
+    u1(1), class_head(0, 0, 0, 1);
+    u1(0x60), u2(1), u1(0), u2(length);
+    memcpy(file + at, code, length);
+    at += length;
+    end();
+}
+
+/* A file with so many of what is limited; 0 where the name is not known. */
+static int write_limit(const char *name, unsigned n)
+{
+    static uint8_t code[4200];
+    int is_class = strcmp(name, "classes of a file") == 0, is_depth = strcmp(name, "depth of a class") == 0;
+
+    if (strcmp(name, "bytes of a code") == 0) {
+        memset(code, 0, sizeof code);
+        code[n == 0 ? 0 : n - 1] = 0x7A;
+        write_code(code, n);
+        return 1;
+    }
+    begin(strcmp(name, "bytes of an AID in a file") == 0 ? n : 5,
+          strcmp(name, "domains of a file") == 0 ? n : 1,
+          strcmp(name, "imports of a file") == 0 ? n : 0,
+          strcmp(name, "references of a file") == 0 ? n : 0);
+    if (is_class || is_depth) {
+        u1(n);
+        for (unsigned i = 0; i < n; i++) {
+            class_head(1, is_depth && i > 0, i - 1, 0);
+        }
+    } else if (strcmp(name, "parents of a class") == 0) {
+        u1(2), class_head(1, 0, 0, 0), class_head(1, n, 0, 0);
+    } else if (strcmp(name, "methods of a class") == 0) {
+        u1(1), class_head(0, 0, 0, n);
+        for (unsigned i = 0; i < n; i++) {
+            plain_method(i, 0);
+        }
+    } else if (strcmp(name, "domains that a method allows") == 0) {
+        u1(1), class_head(0, 0, 0, 1), plain_method(1, n);
+    } else {
+        u1(0);
+    }
+    end();
+    return strstr(name, "of a file") != NULL || strstr(name, "in a file") != NULL || strstr(name, "of a class") != NULL ||
+           strstr(name, "allows") != NULL;
+}
+
+/* The number of a load of the file into a new store with its domain and its import. */
+static unsigned loaded(void)
+{
+    static uint8_t kept[sizeof file];
+    size_t length = at;
+    memcpy(kept, file, length);
+    loader_fresh(store, LOADER_STORE_MOST);
+    loader_create(store, LOADER_STORE_MOST, domain, sizeof domain);
+    begin(5, 0, 0, 0);
+    memcpy(file + 8, imported, sizeof imported);
+    u1(0), end();
+    if (LOADER_NUMBER(loader_load(store, LOADER_STORE_MOST, domain, sizeof domain, file, at)) != 0) {
+        return NONE;
+    }
+    return LOADER_NUMBER(loader_load(store, LOADER_STORE_MOST, domain, sizeof domain, kept, length));
+}
+
+static unsigned limit_number(const char *name, unsigned n)
+{
+    if (strcmp(name, "bytes of a store") == 0) {
+        return LOADER_NUMBER(loader_fresh(store, n));
+    }
+    if (strcmp(name, "bytes of an AID given to a call") == 0) {
+        loader_fresh(store, LOADER_STORE_MOST);
+        return LOADER_NUMBER(loader_create(store, LOADER_STORE_MOST, file, n));
+    }
+    return write_limit(name, n) ? loaded() : NONE;
+}
+
+static unsigned code_number(const uint8_t *code, unsigned length)
+{
+    write_code(code, length);
+    return loaded();
+}
+
+/* An opcode with operands of zeros, its last operand byte another, and the byte 7A after so many bytes. */
+static unsigned number_of(unsigned opcode, unsigned zeros, unsigned last, int returns)
+{
+    uint8_t code[16] = {0};
+    unsigned length = 1 + zeros;
+    code[0] = (uint8_t)opcode;
+    if (zeros > 0) {
+        code[zeros] = (uint8_t)last;
+    }
+    if (returns) {
+        code[length++] = 0x7A;
+    }
+    return code_number(code, length);
+}
+
+static int may_be_last(unsigned opcode)
+{
+    return number_of(opcode, length_of[opcode] - 1u, 0, 0) != 16;
+}
+
+/* Whole and followed by 7A it splits; one byte shorter it takes the 7A, or lacks a byte. */
+static int length_holds(unsigned opcode, unsigned length)
+{
+    if (length == 0) {
+        return number_of(opcode, 0, 0, 1) == 16 && number_of(opcode, 4, 0, 1) == 16;
+    }
+    length_of[opcode] = (uint8_t)length;
+    if (number_of(opcode, length - 1, 0, 1) == 16) {
+        return 0;
+    }
+    return length == 1 || number_of(opcode, length - 2, 0, !may_be_last(opcode)) == 16;
+}
+
+/* By 1 it goes into its own operand; by its length to the 7A. */
+static int branch_holds(unsigned opcode, unsigned kind)
+{
+    unsigned length = length_of[opcode];
+    if (kind == 0) {
+        return length < 2 || number_of(opcode, length - 1, 1, 1) != 17;
+    }
+    return length == kind + 1 && number_of(opcode, kind, 1, 1) == 17 && number_of(opcode, kind, kind + 1, 1) == 0;
+}
+
+/* There is no reference, so a call is refused with 18. */
+static int call_holds(unsigned opcode, unsigned place)
+{
+    return (number_of(opcode, length_of[opcode] - 1u, 0, 1) == 18) == (place != 0);
+}
+
+static unsigned bytes_of(const char *text, uint8_t *bytes)
+{
+    unsigned n = 0, value;
+    for (; *text != '\0'; text++) {
+        if (*text != ' ' && *text != '\n' && sscanf(text, "%2x", &value) == 1) {
+            bytes[n++] = (uint8_t)value;
+            text++;
+        }
+    }
+    return n;
+}
+
+static int store_holds(unsigned number, char *text)
+{
+    unsigned long length = strtoul(text, &text, 10);
+    memset(store, 0, sizeof store);
+    bytes_of(text, store);
+    unsigned said = LOADER_NUMBER(loader_query(store, length, domain, 5, domain, 5, 0, 0));
+    return number == 0 ? said == LOADER_PACKAGE_UNKNOWN : said == number;
+}
+
+/* The store of the week's Monday, then the load. */
+static int load_holds(unsigned number, const char *text)
+{
+    static const struct aid *const all[] = {&CANTEEN, &DIRECTORY, &PHARMACY};
+    static uint8_t bytes[4096];
+    struct file meals;
+    unsigned n = bytes_of(text, bytes);
+    loader_fresh(store, LOADER_STORE_MOST);
+    for (int i = 0; i < 3; i++) {
+        loader_create(store, LOADER_STORE_MOST, all[i]->bytes, all[i]->length);
+    }
+    write_meals(&meals);
+    loader_load(store, LOADER_STORE_MOST, CANTEEN.bytes, CANTEEN.length, meals.bytes, meals.length);
+    return LOADER_NUMBER(loader_load(store, LOADER_STORE_MOST, DIRECTORY.bytes, DIRECTORY.length, bytes, n)) == number;
+}
+
+static int holds(char *line)
+{
+    char kind[8], name[80] = "";
+    unsigned first, value = 0;
+    int rest = 0;
+    static uint8_t bytes[4096];
+
+    if (sscanf(line, "%7s %u %n", kind, &first, &rest) < 2) {
+        return 0;
+    }
+    if (strcmp(kind, "limit") == 0) {
+        return sscanf(line + rest, "%u %79[^\n]", &value, name) == 2 && limit_number(name, value) == first;
+    }
+    if (strcmp(kind, "store") == 0) {
+        return store_holds(first, line + rest);
+    }
+    if (strcmp(kind, "load") == 0) {
+        return load_holds(first, line + rest);
+    }
+    if (strcmp(kind, "code") == 0) {
+        return code_number(bytes, bytes_of(line + rest, bytes)) == first;
+    }
+    sscanf(line + rest, "%x", &value);
+    if (strcmp(kind, "length") == 0) {
+        return length_holds(value, first);
+    }
+    if (strcmp(kind, "branch") == 0) {
+        return branch_holds(value, first);
+    }
+    if (strcmp(kind, "call") == 0) {
+        return call_holds(value, first);
+    }
+    return strcmp(kind, "last") == 0 && may_be_last(value) == (int)first;
+}
+
+int main(void)
+{
+    static char line[400000];
+    unsigned long all = 0, wrong = 0;
+    while (fgets(line, sizeof line, stdin) != NULL) {
+        all += 1;
+        if (!holds(line)) {
+            line[70] = '\0';
+            printf("does not hold: %s\n", line);
+            wrong += 1;
+        }
+    }
+    printf("%lu of %lu hold\n", all - wrong, all);
+    return wrong == 0 && all > 0 ? 0 : 1;
+}

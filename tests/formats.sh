@@ -1,0 +1,114 @@
+#!/bin/sh
+# formats.sh: the figures of docs/FORMATS.md on the static library. Both dumps are contiguous, load, and are refused with any byte
+# of their opening changed; every limit holds at its value and is refused one past it; lengths, branches, calls and last
+# instructions of all opcodes are those of the tables; the codes are answered as said.
+#
+# Prints a line that begins with "ok", or what is wrong; exit status 0 only if all is right.
+set -u
+CDPATH='' cd -- "$(dirname -- "$0")/.." || exit 1
+test=formats out=target/formats
+. tests/lib/built.sh
+
+page=docs/FORMATS.md
+need_library
+compile formats tests/formats.c -Iexamples examples/packages.c "$library"
+
+# the bytes of the n-th dump; each line begins where the one before ended
+dump() {
+    awk -v wanted="$1" '
+        function number(text, n, i) { n = 0; for (i = 1; i <= length(text); i++) n = n * 16 + index("0123456789ABCDEF", substr(text, i, 1)) - 1; return n }
+        /^```$/ { inside = !inside; if (inside) { dumps++; next_place = 0 } next }
+        inside && dumps == wanted {
+            split($0, part, /   */)
+            if (number(part[1]) != next_place) { print "not at its place: " $0 > "/dev/stderr"; exit 1 }
+            n = split(part[2], bytes, " ")
+            for (i = 1; i <= n; i++) { printf "%s", bytes[i]; next_place++ }
+        }' "$page"
+}
+
+# the rows of the table under a heading: cells between bars
+rows() {
+    awk -F ' *[|] *' -v head="$1" '
+        $2 == head { inside = 1; next }
+        inside && !/^[|]/ { inside = 0 }
+        inside && $2 !~ /^-/ { print $2 "|" $3 "|" $4 "|" $5 }' "$page"
+}
+
+# each opcode of the lists on standard input
+opcodes() {
+    awk 'function number(h) { return 16 * (index("0123456789ABCDEF", substr(h, 1, 1)) - 1) + index("0123456789ABCDEF", substr(h, 2, 1)) - 1 }
+        { gsub(/–/, "-"); n = split($0, part, /, */); for (i = 1; i <= n; i++) { split(part[i], ends, "-"); last = ends[2] == "" ? ends[1] : ends[2];
+          for (o = number(ends[1]); o <= number(last); o++) printf "%02X\n", o } }'
+}
+
+# list WHAT: the opcodes whose second cell matches
+list() { rows Opcodes | awk -F '|' -v what="$1" '$2 ~ what { print $1 }' | opcodes; }
+
+# marked KIND VALUE WHAT: a line for each opcode that is an instruction of fixed length, VALUE where it is in the list, else 0
+marked() {
+    list "$3" >"$out/list"
+    [ -s "$out/list" ] || fail "no opcodes: $3"
+    list '^[1-5]$' | sort | while read -r opcode; do
+        if grep -qx "$opcode" "$out/list"; then echo "$1 $2 $opcode"; else echo "$1 0 $opcode"; fi
+    done
+}
+
+{
+    rows Limit | while IFS='|' read -r name least most number; do
+        echo "limit 0 $least $name"
+        echo "limit 0 $most $name"
+        echo "limit $number $((most + 1)) $name"
+        # a class cannot have a depth of 0, and no count is below 0
+        if [ "$least" -gt 0 ] && [ "$name" != 'depth of a class' ]; then echo "limit $number $((least - 1)) $name"; fi
+    done
+    package=$(dump 1) || exit 1
+    echo "load 0 $package"
+    echo "load 10 FF${package#42}"
+    echo "load 11 $(echo "$package" | sed 's/^\(.\{10\}\)..../\1FFFF/')"
+    echo "load 11 ${package}00"
+    store=$(dump 2) || exit 1
+    echo "store 0 $((${#store} / 2)) $store"
+    echo "store 0 300 $store"
+    for place in 0 2 4 6 8 10 12 14; do
+        echo "store 2 $((${#store} / 2)) $(echo "$store" | sed "s/^\(.\{$place\}\)../\1EE/")"
+    done
+    for n in 1 2 3 4 5; do list "^$n\$" | sed "s/^/length $n /"; done
+    list '^none' | sed 's/^/length 0 /'
+    marked branch 1 'branch by the s1' | grep -v '^branch 0'
+    marked branch 2 'branch by the s2' | grep -v '^branch 0'
+    { list 'branch by'; } >"$out/branches"
+    list '^[1-5]$' | grep -vxFf "$out/branches" | sed 's/^/branch 0 /'
+    marked call 1 '^call the reference'
+    marked last 1 'may be the last'
+    rows Code | sed 's/^\([^|]*\)|\([^|]*\).*/code \2 \1/'
+} >"$out/lines" || fail "the page cannot be read"
+
+# the ranges of the fields are those of the limits
+while IFS='|' read -r field limit; do
+    range=$(rows Field | awk -F '|' -v field="$field" '$1 == field { sub(/, or FF$/, "", $3); print $3 }')
+    said=$(rows Limit | awk -F '|' -v limit="$limit" '$1 == limit { print $2 " to " $3 }')
+    [ -n "$range" ] && [ "$range" = "$said" ] || fail "the $field has the range $range, $limit: $said"
+done <<'FIELDS'
+domain count|domains of a file
+import count|imports of a file
+reference count|references of a file
+class count|classes of a file
+parent count|parents of a class
+method count|methods of a class
+allowed count|domains that a method allows
+code length|bytes of a code
+FIELDS
+
+# every opcode stands once in the table of lengths
+{
+    list '^[1-5]$'
+    list '^a switch'
+    list '^none'
+} | sort >"$out/opcodes"
+awk 'BEGIN { for (i = 0; i < 256; i++) printf "%02X\n", i }' | cmp -s - "$out/opcodes" || fail "the table has not each opcode once"
+for kind in limit load store length branch call last code; do
+    grep -q "^$kind " "$out/lines" || fail "nothing is tried of: $kind"
+done
+"$out/formats" <"$out/lines" >"$out/said" || fail "the library says otherwise:" "$out/said"
+
+echo "ok formats: $(cat "$out/said") of the page's limits, dumps, instructions and codes"
