@@ -70,7 +70,7 @@
  * ordinary packages (docs/BENCHMARKS.md has every figure), an operation takes
  * about 0.06 ms over a full store of 8,192 bytes and 0.6 ms over one of 65,535.
  * These are no bounds. Packages can be made for the purpose of taking longer: an
- * operation over the slowest store of 65,535 bytes that was found takes 5 to 6
+ * operation over the slowest store of 65,535 bytes that was found takes 4 to 6
  * seconds. For each package judged the time is at most a constant times its
  * file's bytes times the bytes of the packages that it imports, directly or not.
  *
@@ -80,11 +80,11 @@
  *
  *                       store to 8,192 bytes    larger
  *     loader_fresh                       300       300
- *     loader_create                   14,400    26,800
- *     loader_delete                   14,400    26,800
- *     loader_load                     14,400    26,800
- *     loader_remove                   14,400    26,800
- *     loader_query                    14,400    26,800
+ *     loader_create                    8,900    21,300
+ *     loader_delete                    8,900    21,300
+ *     loader_load                      8,900    21,300
+ *     loader_remove                    8,900    21,300
+ *     loader_query                     8,900    21,300
  *
  * Linking. libloader.a is for x86-64 Linux. It needs one function from outside:
  * memset, as C99 has it. This header compiles where int has 16 bits or more, and

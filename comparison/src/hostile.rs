@@ -9,6 +9,7 @@ use independent::ledger::{Call, Entry};
 
 pub const CHAIN: &str = "a kind-0 chain of 7 × 64 names above classes of 13 bytes";
 pub const CHAIN_LISTS: &str = "the same with fewer names and lists of 32 indexes";
+pub const LISTS_BY_TURNS: &str = "lists of 32 indexes, the running methods in two packages by turns";
 pub const BELOW: &str = "small packages with a method each below a ladder";
 pub const CROSSING: &str = "parents crossing four packages a level";
 pub const DOMAINS: &str = "domains in the order that costs most";
@@ -27,6 +28,7 @@ pub const CHAIN_SIZES: [usize; 4] = [8, 16, 32, 64];
 pub fn all() -> Vec<Workload> {
     let mut found: Vec<Workload> = CHAIN_SIZES.iter().map(|kb| chain(*kb)).collect();
     found.push(chain_of_lists());
+    found.push(lists_by_turns());
     found.push(below(8));
     found.push(crossing(6, 32, 8));
     found.push(domains(DOMAINS, |numbers| numbers.reverse()));
@@ -117,6 +119,19 @@ fn chain_package(number: usize, names: u16, domains: Vec<Vec<u8>>, allowed: &[u8
 /// before, with the names of the chain's first class, in about half of the store; then
 /// packages of 32 classes below the chain and one interface or four.
 fn below_chain(entries: Vec<Entry>, length: usize, interface: ClassModel, count: u8, domains: &[Vec<u8>], parents: usize) -> Vec<Entry> {
+    below_class(entries, length, interface, count, domains, parents, (1, 6))
+}
+
+/// The same below a class, by the number of its package and its own.
+fn below_class(
+    entries: Vec<Entry>,
+    length: usize,
+    interface: ClassModel,
+    count: u8,
+    domains: &[Vec<u8>],
+    parents: usize,
+    above: (usize, u8),
+) -> Vec<Entry> {
     let mut entries = entries;
     let mut last = 1;
     for level in 0..6 {
@@ -139,10 +154,10 @@ fn below_chain(entries: Vec<Entry>, length: usize, interface: ClassModel, count:
         last += 1;
     }
     filled(entries, length, |k| {
-        let four = |i: u8| [(1, 6), (2, i % 4), (2, (i + 1) % 4), (2, (i + 2) % 4)];
+        let four = |i: u8| [(1, above.1), (2, i % 4), (2, (i + 1) % 4), (2, (i + 2) % 4)];
         packed(FileModel {
             aid: aid(100 + k),
-            imports: vec![aid(1), aid(last)],
+            imports: vec![aid(above.0), aid(last)],
             classes: (0..32).map(|i| ClassModel::new(0, &four(i)[..parents], vec![])).collect(),
             ..FileModel::default()
         })
@@ -168,6 +183,28 @@ fn chain_of_lists() -> Workload {
     let interface = ClassModel::new(1, &[], (0..4).map(|name| asked(name, &all)).collect());
     let entries = below_chain(entries, LARGEST, interface, 8, &domains, 4);
     workload(CHAIN_LISTS, &entries, LARGEST)
+}
+
+/// The same where the methods that run lie in two packages by turns.
+fn lists_by_turns() -> Workload {
+    let domains: Vec<Vec<u8>> = (0..32).map(long).collect();
+    let all: Vec<u8> = (0..32).collect();
+    let class = |parents: &[(u8, u8)], names: [u16; 2]| ClassModel::new(0, parents, names.map(|name| runs(name, Some(&all))).to_vec());
+    let package = |number: usize, imports: Vec<Vec<u8>>, class: ClassModel| {
+        packed(FileModel {
+            aid: aid(number),
+            domains: domains.clone(),
+            imports,
+            classes: vec![class],
+            ..FileModel::default()
+        })
+    };
+    let mut entries = start();
+    entries.push(package(1, vec![], class(&[], [1, 3])));
+    entries.push(package(50, vec![aid(1)], class(&[(1, 0)], [0, 2])));
+    let interface = ClassModel::new(1, &[], (0..4).map(|name| asked(name, &all)).collect());
+    let entries = below_class(entries, LARGEST, interface, 8, &domains, 4, (50, 0));
+    workload(LISTS_BY_TURNS, &entries, LARGEST)
 }
 
 /// Seven packages of 32 interfaces with so many methods, and packages of one class below the last.

@@ -32,7 +32,8 @@ below-all f (suc n) t k h = go (eqb k n) refl (λ lt. below-all f n (and-r (f n)
 power-digit : (k j : ℕ) → k < 8 → j < 8 → digit (powerOf k) j ≡ pick (eqb j k) 1 0
 unfolding powerOf allBelow
 power-digit k j hk hj =
-    let row : T (allBelow (λ j. eqb (digit (powerOf k) j) (pick (eqb j k) 1 0)) 8) = below-all (λ k. allBelow (λ j. eqb (digit (powerOf k) j) (pick (eqb j k) 1 0)) 8) 8 tt k hk in
+    let row : T (allBelow (λ j. eqb (digit (powerOf k) j) (pick (eqb j k) 1 0)) 8) = below-all
+    (λ k. allBelow (λ j. eqb (digit (powerOf k) j) (pick (eqb j k) 1 0)) 8) 8 tt k hk in
     eqb-true _ _ (is-true _ (below-all (λ j. eqb (digit (powerOf k) j) (pick (eqb j k) 1 0)) 8 row j hj))
 
 -- of byte w with bit k
@@ -55,12 +56,19 @@ module _ (s : List ℕ) (i : ℕ) (hi : i / 8 < length s) where
   unfolding bitAt withBit
   bit-set j = go (eqb j i) refl (eqb (j / 8) (i / 8)) refl
     where
-      go : (b : Bool) → eqb j i ≡ b → (c : Bool) → eqb (j / 8) (i / 8) ≡ c → eqb (flag (getD stored (j / 8) 0) (j % 8)) 1 ≡ (b || eqb (flag (getD s (j / 8) 0) (j % 8)) 1)
-      go true e c f = rw (eqb-true j i e, getD-set-same s (i / 8) (bitOr (getD s (i / 8) 0) (powerOf (i % 8))) 0 hi) (eq-eqb _ 1 (bit-new (getD s (i / 8) 0) (i % 8) (omega arith)))
+      go : (b : Bool) → eqb j i ≡ b → (c : Bool) → eqb (j / 8) (i / 8) ≡ c → eqb (flag (getD stored (j / 8) 0) (j % 8)) 1 ≡
+          (b || eqb (flag (getD s (j / 8) 0) (j % 8)) 1)
+      go true e c f = rw (eqb-true j i e, getD-set-same s (i / 8) (bitOr (getD s (i / 8) 0) (powerOf (i % 8))) 0 hi)
+          (eq-eqb _ 1 (bit-new (getD s (i / 8) 0) (i % 8) (omega arith)))
       go false e true f =
           let ne = eqb-false j i e in
           let q : j / 8 ≡ i / 8 = eqb-true _ _ f in
-          rw (q, getD-set-same s (i / 8) (bitOr (getD s (i / 8) 0) (powerOf (i % 8))) 0 hi, bit-other (getD s (i / 8) 0) (i % 8) (omega arith) (j % 8) (omega arith) (λ r. ne (omega arith))) refl
+          rw (
+            q,
+            getD-set-same s (i / 8) (bitOr (getD s (i / 8) 0) (powerOf (i % 8))) 0 hi,
+            bit-other (getD s (i / 8) 0) (i % 8) (omega arith) (j % 8)
+                (omega arith) (λ r. ne (omega arith)),
+          ) refl
       go false e false f = rw (getD-set-other s (i / 8) (j / 8) (bitOr (getD s (i / 8) 0) (powerOf (i % 8))) 0 (eqb-false _ _ f)) refl
 
 zero-flag : (k : ℕ) → flag 0 k ≡ 0

@@ -45,7 +45,8 @@ or-digit (suc k) a b =
 pub and-digit : (k a b : ℕ) → digit (bitAnd a b) k ≡ min (digit a k) (digit b k)
 and-digit zero a b = low-digit (bitAnd (a / 2) (b / 2)) (min (a % 2) (b % 2)) (omega arith) (bitAnd a b) (and-step a b)
 and-digit (suc k) a b =
-    ap (λ (n : ℕ). digit n k) (high-digits (bitAnd (a / 2) (b / 2)) (min (a % 2) (b % 2)) (omega arith) (bitAnd a b) (and-step a b)) ∙ and-digit k (a / 2) (b / 2)
+    ap (λ (n : ℕ). digit n k) (high-digits (bitAnd (a / 2) (b / 2)) (min (a % 2) (b % 2)) (omega arith) (bitAnd a b) (and-step a b)) ∙ and-digit k (a / 2)
+    (b / 2)
 
 -- where `&` with another number changes a number of n digits, a digit of it is not one of the other
 pub and-changes : (n a b : ℕ) → a < 2 ^ n → (bitAnd a b ≡ a → ⊥) → (k : ℕ) × (k < n) × (digit a k ≡ 1) × (digit b k ≡ 0)

@@ -1,37 +1,29 @@
--- Questions 18 and 19 over the calls of a code, the methods of a class, the classes of a file: start, turn and end. Assumes nothing.
-use Prim.Native.Nat.{ℕ, _+_, _-_, _≤_, _<_}
-use native.Mathlib.Omega.{arith}
+-- Questions 18 and 19 of one call, and over the calls of a code: start, turn and end. Assumes nothing.
+use Prim.Native.Nat.{ℕ, _-_}
 use mathlib.Core.Path.{_≡_, sym, _∙_, ap, subst}
 use mathlib.Core.Bool.{Bool, true, false, _&&_, _||_, not}
-use mathlib.Core.List.{List, [], _∷_}
+use mathlib.Core.List.{[], _∷_}
 use lib.Dec.{T}
-use lib.ListN.{length, getD}
-use Rattle.rules.specs.Bytes.{Bytes, Aid, Reader, noneOr, all, u1, many, counted}
+use Rattle.rules.specs.Bytes.{Bytes, Aid, noneOr}
 use Rattle.rules.specs.Code.{Call, splitFrom, codeSplits, callsOf}
-use Rattle.rules.specs.Package.{Limits, storeLimits, mostMethods, mostClasses, Method, codeIf, method, class}
-use Rattle.rules.specs.Store.{Entry}
-use Rattle.rules.specs.Classes.{Installed, installed, allows, allowsAllOf}
-use Rattle.rules.specs.Questions.{q16-splits, q18-calls, q19-allowed, ownMethod, methodNamed}
-use Rattle.rules.proofs.Tests.{and-l, and-r}
-use Rattle.places.specs.Reads.{Reads, EndsAt}
-use Rattle.places.proofs.Steady.{Steady, steady-u1, steady-method, steady-class}
-use Rattle.places.proofs.Inverse.{reads-left, reads-counted, reads-u1}
+use Rattle.rules.specs.Package.{Limits, storeLimits, Method, codeIf}
+use Rattle.rules.specs.Classes.{installed, allows, allowsAllOf}
+use Rattle.rules.specs.Questions.{ownMethod, methodNamed}
+use Rattle.places.specs.Reads.{Reads}
 use Rattle.places.proofs.Parts.{code-none, method-part}
-use Rattle.files.specs.Say.{CodeIs, MethodsAt, ClassesAt, AfterMethod, AfterClass}
-use Rattle.files.proofs.Walks.{classes-read}
+use Rattle.files.specs.Say.{MethodThere, ClassThere, CodeIs}
 use Rattle.codes.specs.Calls.{kindOf, SplitsFrom, callsFrom}
 use Rattle.codes.specs.declared.Calling.{Calling}
 use Rattle.codes.proofs.Calls.{calls-start, splits-start}
-use Rattle.homes.specs.Homes.{Imports, own}
-use Rattle.refusals.specs.Order.{firstOf, Asks, noOf, noOfAll, numbers, rank, rising}
+use Rattle.homes.specs.Homes.{own}
+use Rattle.refusals.specs.Order.{firstOf, noOf, noOfAll, numbers, rank, rising}
 use Rattle.refusals.proofs.Order.{first-more, first-start, first-zero, first-assoc, none-asked}
-use Rattle.refusals.proofs.Walks.{after, NumberLoop, numbers-start, numbers-on, numbers-done}
-use Rattle.named.specs.Named.{Judged}
-use Rattle.calls.specs.Codes.{codeTest, classTest}
+use Rattle.refusals.proofs.Walks.{after}
 use Rattle.calls.specs.Named.{referenceNamed, CallNamedIs}
 use Rattle.calls.specs.Rights.{CallAllowedIs}
-use Rattle.calls.specs.Calls.{Asking, MethodOf, callAsks, methodAsks, classAsks, callNames, methodNames, classNames, callAllows, methodAllows, classAllows, Reading, OwnMethod, OwnClass, CodesSplit, CallNumberIs, MethodCallsAre, ClassCallsAre, FileCallsAre, CallsNumberIs}
-use Rattle.calls.proofs.Numbers.{allFrom-all}
+use Rattle.calls.specs.Calls.{Asking, MethodOf, callAsks, methodAsks, callNames}
+use Rattle.calls.specs.Calls.{callAllows, OwnMethod, OwnClass}
+use Rattle.calls.specs.Calls.{CallNumberIs, MethodCallsAre}
 
 -- a code that there is not, or that splits, splits from offset 0
 splits-from : (l : Limits) (s : Bytes) (i : ℕ) (b : Bool) (c : Bytes) (j : ℕ) → Reads (codeIf l b) s i c j → T (not b || codeSplits c) → SplitsFrom c 0
@@ -39,17 +31,30 @@ unfolding SplitsFrom splitFrom
 splits-from l s i false c j p t = let z = code-none l s i c j p in rw (← z .0) tt
 splits-from l s i true c j p t = splits-start c t
 
+-- what stands of the file being judged: a method, a class
+pub method-there : {f s : Bytes} {end i : ℕ} → OwnMethod f s end i → MethodThere f i
+method-there {s = s} g = (storeLimits s, g .1 .pack .domains, (g .3 .0, g .3 .1, g .3 .2))
+
+pub class-there : {f s : Bytes} {end i : ℕ} → OwnClass f s end i → ClassThere f i
+class-there {s = s} g = (storeLimits s, g .1 .pack .domains, (g .3 .0, g .3 .1, g .3 .2))
+
+-- whether a method of the file being judged, loaded in z, may call what a reference names
+abbrev allowedIn : {f s : Bytes} {end : ℕ} {d : Aid} → Asking f s end d → ℕ → Method → Aid → Bool
+allowedIn {s = s} a index m z =
+    let named = referenceNamed (installed (storeLimits s) (a .es)) (a .self) index in
+    noneOr named λ x. allows (methodNamed x) z && allowsAllOf (methodNamed x) (ownMethod (a .self) 0 m)
+
 -- one call
 module _ {f s : Bytes} {end : ℕ} {d : Aid} {i index : ℕ} (kind : Calling) where
   pub call-18 : CallNamedIs f s end kind index false → CallNumberIs f s end d i kind index 18
   call-18 h a m j p = rw (← h (a .es) (a .self) (a .imports))
 
   -- what the caller may call, in terms of the own loading domain
-  told : {b : Bool} → CallAllowedIs f s end d i index b → (a : Asking f s end d) (m : Method) (j : ℕ) → MethodOf a i m j → callAllows a m (record { kind = kindOf kind; index = index }) ≡ b
-  told {b} g a m j p = go (a .loads) (g (a .es) (a .self) (a .imports) (a .loads) (ownMethod (a .self) 0 m) (record { lies = own; to = j; reads = p }))
-    where
-      go : a .self .domain ≡ d → b ≡ noneOr (referenceNamed (installed (storeLimits s) (a .es)) (a .self) index) (λ x. allows (methodNamed x) d && allowsAllOf (methodNamed x) (ownMethod (a .self) 0 m)) → callAllows a m (record { kind = kindOf kind; index = index }) ≡ b
-      go e q = sym (subst (λ (z : Aid). b ≡ noneOr (referenceNamed (installed (storeLimits s) (a .es)) (a .self) index) (λ x. allows (methodNamed x) z && allowsAllOf (methodNamed x) (ownMethod (a .self) 0 m))) (sym e) q)
+  told : {b : Bool} → CallAllowedIs f s end d i index b → (a : Asking f s end d) (m : Method) (j : ℕ) → MethodOf a i m j →
+      callAllows a m (record { kind = kindOf kind; index = index }) ≡ b
+  told {b} g a m j p =
+      let q = g (a .es) (a .self) (a .imports) (a .loads) (ownMethod (a .self) 0 m) (record { lies = own; to = j; reads = p }) in
+      sym (subst (λ (z : Aid). b ≡ allowedIn a index m z) (sym (a .loads)) q)
 
   pub call-19 : CallNamedIs f s end kind index true → CallAllowedIs f s end d i index false → CallNumberIs f s end d i kind index 19
   call-19 h g a m j p = rw (← h (a .es) (a .self) (a .imports), told g a m j p)
@@ -58,14 +63,15 @@ module _ {f s : Bytes} {end : ℕ} {d : Aid} {i index : ℕ} (kind : Calling) wh
   call-0 h g a m j p = rw (← h (a .es) (a .self) (a .imports), told g a m j p)
 
 -- the order of the two questions
-rises : {A : Type 0} (p q : A → Bool) → T (rising (numbers ((18, p) ∷ (19, q) ∷ [])))
+pub rises : {A : Type 0} (p q : A → Bool) → T (rising (numbers ((18, p) ∷ (19, q) ∷ [])))
 unfolding rising rank
 rises p q = tt
 
 -- the calls of the method at i, of which those from an offset on are left after an earlier number
 pub record CallLoop (f s : Bytes) (end : ℕ) (d : Aid) (i : ℕ) (code : Bytes) (from past : ℕ) : Type 0 where
   pub splits : SplitsFrom code from
-  pub left : (a : Asking f s end d) (m : Method) (j : ℕ) → MethodOf a i m j → noOf (methodAsks a) m ≡ after (callAsks a m) past (callsFrom code from)
+  pub left : (a : Asking f s end d) (m : Method) (j : ℕ) → MethodOf a i m j →
+      noOf (methodAsks a) m ≡ after (callAsks a m) past (callsFrom code from)
 
 module _ {f s : Bytes} {end : ℕ} {d : Aid} {i : ℕ} (code : Bytes) where
   pub calls-begin : CodeIs f i code → OwnMethod f s end i → CallLoop f s end d i code 0 0
@@ -73,8 +79,9 @@ module _ {f s : Bytes} {end : ℕ} {d : Aid} {i : ℕ} (code : Bytes) where
       let ds = g .1 .pack .domains in
       let m = g .3 .0 in
       let t = method-part (storeLimits s) ds f i m (g .3 .1) (g .3 .2) in
+      let split = splits-from (storeLimits s) f (t .middle) (m .implemented) (m .code) (g .3 .1) (t .code) (g .3 .3) in
       record {
-        splits = rw (h (storeLimits s) ds m (g .3 .1) (g .3 .2)) (splits-from (storeLimits s) f (t .middle) (m .implemented) (m .code) (g .3 .1) (t .code) (g .3 .3));
+        splits = rw (h (storeLimits s) ds m (g .3 .1) (g .3 .2)) split;
         left = λ a m j p.
             let e = ap callsOf (sym (h (storeLimits s) (a .self .pack .domains) m j p)) ∙ sym (calls-start code) in
             ap (noOfAll (callAsks a m)) e ∙ sym (first-start (callAsks a m) (rises (callNames a) (callAllows a m)) (callsFrom code 0));
@@ -82,130 +89,18 @@ module _ {f s : Bytes} {end : ℕ} {d : Aid} {i : ℕ} (code : Bytes) where
 
   module _ (from past : ℕ) (t : CallLoop f s end d i code from past) where
     pub calls-end : callsFrom code from ≡ [] → MethodCallsAre f s end d i past
-    calls-end e a m j p = sym (t .left a m j p ∙ ap (after (callAsks a m) past) e ∙ ap (firstOf past) (none-asked (callAsks a m)) ∙ first-zero past)
+    calls-end e a m j p =
+        let z = ap (after (callAsks a m) past) e ∙ ap (firstOf past) (none-asked (callAsks a m)) ∙ first-zero past in
+        sym (t .left a m j p ∙ z)
 
-    pub calls-on : (kind : Calling) (index to : ℕ) → callsFrom code from ≡ record { kind = kindOf kind; index = index } ∷ callsFrom code to → (n : ℕ) → CallNumberIs f s end d i kind index n → SplitsFrom code to → (b : ℕ) → b ≡ firstOf past n → CallLoop f s end d i code to b
+    pub calls-on : (kind : Calling) (index to : ℕ) → callsFrom code from ≡ record { kind = kindOf kind; index = index } ∷ callsFrom code to →
+        (n : ℕ) → CallNumberIs f s end d i kind index n → SplitsFrom code to → (b : ℕ) → b ≡ firstOf past n → CallLoop f s end d i code to b
     calls-on kind index to e n h k b w = record {
       splits = k;
       left = λ a m j p.
           let c : Call = record { kind = kindOf kind; index = index } in
-          t .left a m j p ∙ ap (after (callAsks a m) past) e ∙ ap (firstOf past) (first-more (callAsks a m) (rises (callNames a) (callAllows a m)) c (callsFrom code to))
-          ∙ first-assoc past (noOf (callAsks a m) c) (noOfAll (callAsks a m) (callsFrom code to))
-          ∙ ap (λ (x : ℕ). firstOf x (noOfAll (callAsks a m) (callsFrom code to))) (sym (w ∙ ap (firstOf past) (h a m j p)));
+          let rest = noOfAll (callAsks a m) (callsFrom code to) in
+          let more = first-more (callAsks a m) (rises (callNames a) (callAllows a m)) c (callsFrom code to) in
+          t .left a m j p ∙ ap (after (callAsks a m) past) e ∙ ap (firstOf past) more ∙ first-assoc past (noOf (callAsks a m) c) rest
+          ∙ ap (λ (x : ℕ). firstOf x rest) (sym (w ∙ ap (firstOf past) (h a m j p)));
     }
-
--- of a list, each element of which passes a test
-module _ {A : Type 0} (r : Reader A) (steady : Steady r) (p : A → Bool) (s : Bytes) where
-  reading-start : (most i n : ℕ) → n ≡ getD s i 0 → Reading (counted most u1 r) (all p) s i → Reading (many n r) (all p) s (i + 1)
-  reading-start most i n h x =
-      let c = reads-counted most u1 r steady-u1 s i (x .0) (x .1) (x .2) in
-      let u = reads-u1 s i (c .number) (c .place) (c .count) in
-      (x .0, x .1, rw (h, u .byte, u .next) (c .list), x .3)
-
-  module _ (left c : ℕ) (h : 0 < left) (x : Reading (many left r) (all p) s c) where
-    reading-one : Reading r p s c
-    reading-one =
-        let z = reads-left r steady left s c (x .0) (x .1) h (x .2) in
-        let t : T (all p (z .one ∷ z .others)) = subst (λ (ys : List A). T (all p ys)) (sym (z .are)) (x .3) in
-        (z .one, z .place, z .reads, and-l (p (z .one)) (all p (z .others)) t)
-
-    reading-on : (d : ℕ) → EndsAt r s c d → Reading (many (left - 1) r) (all p) s d
-    reading-on d e =
-        let z = reads-left r steady left s c (x .0) (x .1) h (x .2) in
-        let t : T (all p (z .one ∷ z .others)) = subst (λ (ys : List A). T (all p ys)) (sym (z .are)) (x .3) in
-        (z .others, x .1, rw (e (z .one) (z .place) (z .reads)) (z .rest), and-r (p (z .one)) (all p (z .others)) t)
-
--- The loop over the list at i of the file being judged, that a reader with its domains reads: `left` elements are still to be read
--- at c; each passes t, and the number of all of the list is that of these after an earlier number.
-pub record AskLoop {A : Type 0} (R : List Aid → Reader A) (most : ℕ) (t : A → Bool) (f s : Bytes) (end : ℕ) (d : Aid) (qs : Asking f s end d → Asks A) (i past left c : ℕ) : Type 0 where
-  pub es : List Entry
-  pub self : Installed
-  pub imports : Imports f s end es self
-  pub rest : Reading (many left (R (self .pack .domains))) (all t) f c
-  pub numbers : NumberLoop (λ (a : Asking f s end d). R (a .self .pack .domains)) most qs f i past left c
-
-module _ {A : Type 0} (R : List Aid → Reader A) (steady : (ds : List Aid) → Steady (R ds)) (most : ℕ) (t : A → Bool) {f s : Bytes} {end : ℕ} {d : Aid} (qs : Asking f s end d → Asks A) (order : (a : Asking f s end d) → T (rising (numbers (qs a)))) (i : ℕ) where
-  pub ask-begin : (es : List Entry) (self : Installed) → Imports f s end es self → Reading (counted most u1 (R (self .pack .domains))) (all t) f i → (n : ℕ) → n ≡ getD f i 0 →
-      AskLoop R most t f s end d qs i 0 n (i + 1)
-  ask-begin es self m x n h = record {
-    es = es;
-    self = self;
-    imports = m;
-    rest = reading-start (R (self .pack .domains)) (steady (self .pack .domains)) t f most i n h x;
-    numbers = numbers-start (λ a. R (a .self .pack .domains)) (λ a. steady (a .self .pack .domains)) most qs order f i n h;
-  }
-
-  module _ {past left c : ℕ} (l : AskLoop R most t f s end d qs i past left c) where
-    module _ (h : 0 < left) where
-      pub ask-one : (es : List Entry) × (self : Installed) × Imports f s end es self × Reading (R (self .pack .domains)) t f c
-      ask-one = (l .es, l .self, l .imports, reading-one (R (l .self .pack .domains)) (steady (l .self .pack .domains)) t f left c h (l .rest))
-
-      pub ask-on : (n : ℕ) → ((a : Asking f s end d) (x : A) (j : ℕ) → Reads (R (a .self .pack .domains)) f c x j → n ≡ noOf (qs a) x) → (m e : ℕ) → m ≡ firstOf past n → ((ds : List Aid) → EndsAt (R ds) f c e) → AskLoop R most t f s end d qs i m (left - 1) e
-      ask-on n b m e w k = record {
-        es = l .es;
-        self = l .self;
-        imports = l .imports;
-        rest = reading-on (R (l .self .pack .domains)) (steady (l .self .pack .domains)) t f left c h (l .rest) e (k (l .self .pack .domains));
-        numbers = numbers-on (λ a. R (a .self .pack .domains)) (λ a. steady (a .self .pack .domains)) most qs order f i past left c (l .numbers) n h b m e w (λ a. k (a .self .pack .domains));
-      }
-
-    pub ask-end : left ≤ 0 → (a : Asking f s end d) (xs : List A) (j : ℕ) → Reads (counted most u1 (R (a .self .pack .domains))) f i xs j → past ≡ noOfAll (qs a) xs
-    ask-end = numbers-done (λ a. R (a .self .pack .domains)) (λ a. steady (a .self .pack .domains)) most qs order f i past left c (l .numbers)
-
--- the methods of a class
-abbrev pub MethodsLoop : Bytes → Bytes → ℕ → Aid → ℕ → ℕ → ℕ → ℕ → Type 0
-MethodsLoop f s end d i past left c = AskLoop (method (storeLimits s)) mostMethods (codeTest codeSplits) f s end d methodAsks i past left c
-
--- the classes of a file
-abbrev pub ClassesLoop : Bytes → Bytes → ℕ → Aid → ℕ → ℕ → ℕ → ℕ → Type 0
-ClassesLoop f s end d i past left c = AskLoop (class (storeLimits s)) mostClasses (classTest codeSplits) f s end d classAsks i past left c
-
-module _ {f s : Bytes} {end : ℕ} {d : Aid} where
-  pub methods-begin : {i k n : ℕ} → OwnClass f s end i → MethodsAt f i k → n ≡ getD f k 0 → MethodsLoop f s end d k 0 n (k + 1)
-  methods-begin {k = k} {n} g h e =
-      let ds = g .1 .pack .domains in
-      ask-begin (method (storeLimits s)) (steady-method (storeLimits s)) mostMethods (codeTest codeSplits) methodAsks (λ a. rises (methodNames a) (methodAllows a)) k (g .0) (g .1) (g .2)
-      (g .3 .0 .methods, g .3 .1, h (storeLimits s) ds (g .3 .0) (g .3 .1) (g .3 .2), g .3 .3) n e
-
-  module _ (k past : ℕ) {left c : ℕ} (l : MethodsLoop f s end d k past left c) where
-    pub methods-one : 0 < left → OwnMethod f s end c
-    methods-one h = ask-one (method (storeLimits s)) (steady-method (storeLimits s)) mostMethods (codeTest codeSplits) methodAsks (λ a. rises (methodNames a) (methodAllows a)) k l h
-
-    pub methods-on : (n m e : ℕ) → 0 < left → MethodCallsAre f s end d c n → m ≡ firstOf past n → AfterMethod f c e → MethodsLoop f s end d k m (left - 1) e
-    methods-on n m e h b w r = ask-on (method (storeLimits s)) (steady-method (storeLimits s)) mostMethods (codeTest codeSplits) methodAsks (λ a. rises (methodNames a) (methodAllows a)) k l h n b m e w (r (storeLimits s))
-
-    pub methods-end : {i : ℕ} → left ≤ 0 → MethodsAt f i k → ClassCallsAre f s end d i past
-    methods-end h m a x j p = ask-end (method (storeLimits s)) (steady-method (storeLimits s)) mostMethods (codeTest codeSplits) methodAsks (λ a. rises (methodNames a) (methodAllows a)) k l h a (x .methods) j (m (storeLimits s) (a .self .pack .domains) x j p)
-
--- each class of a file whose codes split
-classes-split : (f s : Bytes) (end i : ℕ) (g : Judged f s end) → CodesSplit f → ClassesAt f i → Reading (counted mostClasses u1 (class (storeLimits s) (g .1 .pack .domains))) (all (classTest codeSplits)) f i
-unfolding q16-splits
-classes-split f s end i g h k =
-    let p = g .1 .pack in
-    let r = g .2 .setting .reads in
-    (p .classes, length f, classes-read k (storeLimits s) p r, subst T (allFrom-all (classTest codeSplits) 0 (p .classes)) (h (storeLimits s) p r))
-
-module _ {f s : Bytes} {end : ℕ} {d : Aid} where
-  -- a file's number is that of its list of classes
-  file-calls : (n : ℕ) → ((a : Asking f s end d) → n ≡ noOfAll (classAsks a) (a .self .pack .classes)) → FileCallsAre f s end d n
-  unfolding q18-calls q19-allowed
-  file-calls n h a = rw (allFrom-all (classNames a) 0 (a .self .pack .classes), allFrom-all (classAllows a) 0 (a .self .pack .classes)) (h a)
-
-  pub classes-begin : {k n : ℕ} → Judged f s end → CodesSplit f → ClassesAt f k → n ≡ getD f k 0 → ClassesLoop f s end d k 0 n (k + 1)
-  classes-begin {k} {n} g h m e =
-      ask-begin (class (storeLimits s)) (steady-class (storeLimits s)) mostClasses (classTest codeSplits) classAsks (λ a. rises (classNames a) (classAllows a)) k (g .0) (g .1) (g .2) (classes-split f s end k g h m) n e
-
-  module _ (k past : ℕ) {left c : ℕ} (l : ClassesLoop f s end d k past left c) where
-    pub classes-one : 0 < left → OwnClass f s end c
-    classes-one h = ask-one (class (storeLimits s)) (steady-class (storeLimits s)) mostClasses (classTest codeSplits) classAsks (λ a. rises (classNames a) (classAllows a)) k l h
-
-    pub classes-on : (n m e : ℕ) → 0 < left → ClassCallsAre f s end d c n → m ≡ firstOf past n → AfterClass f c e → ClassesLoop f s end d k m (left - 1) e
-    classes-on n m e h b w r = ask-on (class (storeLimits s)) (steady-class (storeLimits s)) mostClasses (classTest codeSplits) classAsks (λ a. rises (classNames a) (classAllows a)) k l h n b m e w (r (storeLimits s))
-
-    pub classes-end : left ≤ 0 → ClassesAt f k → FileCallsAre f s end d past
-    classes-end h m = file-calls past λ a.
-        ask-end (class (storeLimits s)) (steady-class (storeLimits s)) mostClasses (classTest codeSplits) classAsks (λ a. rises (classNames a) (classAllows a)) k l h a (a .self .pack .classes) (length f) (classes-read m (storeLimits s) (a .self .pack) (a .imports .setting .reads))
-
--- in every setting with this loading domain
-pub calls-number : {f s : Bytes} {end : ℕ} (d : Aid) (n : ℕ) → FileCallsAre f s end d n → CallsNumberIs f s end d n
-calls-number d n h es self i e = h (record { es = es; self = self; imports = i; loads = e })

@@ -4,3 +4,4 @@ pub mod Lookups
 pub mod Rights
 pub mod Covers
 pub mod Asked
+pub mod Walked

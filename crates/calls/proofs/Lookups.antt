@@ -3,19 +3,19 @@ use Prim.Native.Nat.{ℕ, zero, suc, _-_, _<_, _≤_}
 use native.Mathlib.Omega.{arith}
 use mathlib.Core.Path.{_≡_, refl, sym, _∙_, ap, subst}
 use mathlib.Core.Bool.{Bool, true, false, _&&_, _||_, not}
-use mathlib.Core.List.{List, [], _∷_}
-use mathlib.Core.Option.{Option, none, some}
+use mathlib.Core.List.{List}
+use mathlib.Core.Option.{Option, some}
 use lib.Dec.{eqb}
-use lib.ListN.{length, take, drop, getD, length-drop}
-use Rattle.rules.specs.Bytes.{Bytes, pick, at, someAnd, u1, aid, _andThen_}
-use Rattle.rules.specs.Package.{Limits, storeLimits, mostImports, Reference, Method, Class, Package, method, class, readFile}
+use lib.ListN.{length, getD}
+use Rattle.rules.specs.Bytes.{Bytes, at, someAnd, u1, aid, _andThen_}
+use Rattle.rules.specs.Package.{storeLimits, mostImports, Reference, Method, Class, method, class}
 use Rattle.rules.specs.Classes.{Installed, installed, ClassAt, packageNumbered, recordOf, declared}
 use Rattle.rules.specs.Questions.{Named, referenceNames, callForm}
 use Rattle.places.proofs.Steady.{steady-u1, steady-aid}
 use Rattle.places.proofs.Inverse.{reads-counted, reads-u1}
-use Rattle.places.proofs.Parts.{file-parts}
 use Rattle.places.proofs.Track.{placed-at, placed-none, counted-inside, many-length}
-use Rattle.files.specs.Say.{referenced, Readable, ImportsAt, ReferencesAt, ReferenceNth, ClassThere, MethodThere, DeclaredPlaced, VisibleIs, StaticIs, ImplementedIs, InterfaceIs}
+use Rattle.files.specs.Say.{referenced, Readable, ImportsAt, ReferencesAt, ReferenceNth, ClassThere, MethodThere, DeclaredPlaced, VisibleIs, StaticIs}
+use Rattle.files.specs.Say.{ImplementedIs, InterfaceIs}
 use Rattle.files.specs.declared.Spot.the-variants.{At, Nothing}
 use Rattle.files.specs.declared.Referenced.{Referenced}
 use Rattle.files.specs.declared.Referenced.the-variants as referenced′
@@ -70,7 +70,9 @@ module _ {f s : Bytes} {end : ℕ} (t : List ℕ) where
       rw e
 
   module _ (i : ImportHomes f s end t) {count : ℕ} (k : ImportCount f count) where
-    numbered-at : (p : ℕ) → p ≤ count → OfJudged f s end λ es self. (y : Installed) × (packageNumbered (installed (storeLimits s) es) self p ≡ some y) × HomeIs f s end es self (homeOf end t p) y
+    numbered-at : (p : ℕ) → p ≤ count →
+        OfJudged f s end λ es self. (y : Installed) × (packageNumbered (installed (storeLimits s) es) self p ≡ some y)
+        × HomeIs f s end es self (homeOf end t p) y
     numbered-at zero h es self m = (self, refl, own)
     numbered-at (suc p) h es self m = let z = i .found es self m p (omega (arith, k (storeLimits s) (self .pack) (m .setting .reads))) in (z .0, z .1, z .2)
 
@@ -85,7 +87,8 @@ module _ {f s : Bytes} {end : ℕ} (t : List ℕ) where
             NamedIs f s end t es self (declaredAs (not (eqb p 0)) (record { home = y; number = c }) n) r) → NumbersName f s end t (naming p c n) r
         numbers-name r d es self m =
             let z = numbered-at p h es self m in
-            subst (λ (o : Option Installed). NamedIs f s end t es self ((o andThen λ y. some (record { home = y; number = c })) andThen λ x. declaredAs (not (eqb p 0)) x n) r) (sym (z .1))
+            let numbered : Option Installed → Option ClassAt = λ o. o andThen λ y. some (record { home = y; number = c }) in
+            subst (λ (o : Option Installed). NamedIs f s end t es self (numbered o andThen λ x. declaredAs (not (eqb p 0)) x n) r) (sym (z .1))
             (d es self m (z .0) (z .2))
 
         pub class-missing : ClassPlaced f s (homeOf end t p) c Nothing → NumbersName f s end t (naming p c n) found.Nothing
@@ -112,9 +115,10 @@ module _ {f s : Bytes} {end : ℕ} (t : List ℕ) where
               let x = subst (λ (v′ : Bytes). DeclaredPlaced v′ o n (At v)) e d in
               let w = placed-at (x (storeLimits s) (y .pack .domains) (z .0) (z .1) (z .3)) in
               let a : Named = record { imported = b; class = record { home = y; number = c }; declaring = z .0; method = w .0 } in
-              let u : Class → Option Named = λ k. declared k n andThen λ z. some (record { imported = b; class = record { home = y; number = c }; declaring = k; method = z }) in
-              let r : Method → Option Named = λ k. some (record { imported = b; class = record { home = y; number = c }; declaring = z .0; method = k }) in
-              let j : declaredAs b (record { home = y; number = c }) n ≡ some a = ap (λ (k : Option Class). k andThen u) (z .2) ∙ ap (λ (k : Option Method). k andThen r) (w .2) in
+              let at′ : ClassAt = record { home = y; number = c } in
+              let u : Class → Option Named = λ k. declared k n andThen λ z. some (record { imported = b; class = at′; declaring = k; method = z }) in
+              let r : Method → Option Named = λ k. some (record { imported = b; class = at′; declaring = z .0; method = k }) in
+              let j : declaredAs b at′ n ≡ some a = ap (λ (k : Option Class). k andThen u) (z .2) ∙ ap (λ (k : Option Method). k andThen r) (w .2) in
               let small : p ≤ length (self .pack .imports) = omega (arith, h, k (storeLimits s) (self .pack) (m .setting .reads)) in
               (a, j, record { number = small; lies = l; classEnd = z .1; methodEnd = w .1; declaring = z .3; method = w .3; imported = refl })
 
@@ -123,7 +127,8 @@ module _ {f s : Bytes} {end : ℕ} (t : List ℕ) (i k : ℕ) (a : ReferencesAt 
   reference-is : (r : Referenced) → ReferenceNth f i k r → OfJudged f s end λ es self. at (self .pack .references) k ≡ referenced r
   reference-is r q es self m = let z = references-read a (storeLimits s) (self .pack) (m .setting .reads) in sym (q (self .pack .references) (z .0) (z .1))
 
-  pub reference-named : (p c n : ℕ) → ReferenceNth f i k (referenced′.To p c n) → (r : NamedFound) → NumbersName f s end t (naming p c n) r → ReferenceIs f s end t k r
+  pub reference-named : (p c n : ℕ) → ReferenceNth f i k (referenced′.To p c n) → (r : NamedFound) → NumbersName f s end t (naming p c n) r →
+      ReferenceIs f s end t k r
   reference-named p c n q r d es self m =
       let e = reference-is (referenced′.To p c n) q es self m in
       subst (λ (o : Option Reference). NamedIs f s end t es self (o andThen referenceNames (installed (storeLimits s) es) self) r) (sym e) (d es self m)
@@ -133,7 +138,9 @@ module _ {f s : Bytes} {end : ℕ} (t : List ℕ) (i k : ℕ) (a : ReferencesAt 
 
 -- the package number of what is named
 pub named-few : {f s : Bytes} {end : ℕ} (t : List ℕ) (k p c m : ℕ) → Judged f s end → ReferenceIs f s end t k (found.Method p c m) → p ≤ mostImports
-named-few {f} {s} t k p c m g q = let z = q (g .0) (g .1) (g .2) in omega (arith, z .2 .number, imports-few (storeLimits s) f (g .1 .pack) (g .2 .setting .reads))
+named-few {f} {s} t k p c m g q =
+    let z = q (g .0) (g .1) (g .2) in
+    omega (arith, z .2 .number, imports-few (storeLimits s) f (g .1 .pack) (g .2 .setting .reads))
 
 -- visible if imported
 module _ {g : Bytes} {m : ℕ} {b : Bool} where
@@ -185,14 +192,21 @@ module _ {f s : Bytes} {end index : ℕ} (t : List ℕ) (kind : Calling) where
 
     module _ (b : Bytes) (e : b ≡ fileOf f s (homeOf end t p)) where
       pub named-class : Judged f s end → ClassThere b c
-      named-class g = let z = q (g .0) (g .1) (g .2) in rw e (storeLimits s, z .0 .class .home .pack .domains, (z .0 .declaring, z .2 .classEnd, z .2 .declaring))
+      named-class g =
+          let z = q (g .0) (g .1) (g .2) in
+          rw e (storeLimits s, z .0 .class .home .pack .domains, (z .0 .declaring, z .2 .classEnd, z .2 .declaring))
 
       pub named-method : Judged f s end → MethodThere b m
-      named-method g = let z = q (g .0) (g .1) (g .2) in rw e (storeLimits s, z .0 .class .home .pack .domains, (z .0 .method, z .2 .methodEnd, z .2 .method))
+      named-method g =
+          let z = q (g .0) (g .1) (g .2) in
+          rw e (storeLimits s, z .0 .class .home .pack .domains, (z .0 .method, z .2 .methodEnd, z .2 .method))
 
       pub call-named-is : (r : Bool) → WellIs b c m (not (eqb p 0)) kind r → CallNamedIs f s end kind index r
       call-named-is r w es self u =
           let z = q es self u in
           let x = z .0 in
-          let y = subst (λ (v : Bytes). WellIs v c m (not (eqb p 0)) kind r) e w x (storeLimits s) (x .class .home .pack .domains) (z .2 .classEnd) (z .2 .methodEnd) (z .2 .declaring) (z .2 .method) (z .2 .imported) in
+          let y =
+          subst (λ (v : Bytes). WellIs v c m (not (eqb p 0)) kind r) e w x (storeLimits s) (x .class .home .pack .domains) (z .2 .classEnd)
+          (z .2 .methodEnd) (z .2 .declaring) (z .2 .method) (z .2 .imported)
+          in
           subst (λ (o : Option Named). r ≡ someAnd o (λ v. (not (v .imported) || v .method .visible) && callForm (kindOf kind) v)) (sym (z .1)) y

@@ -32,8 +32,10 @@ module _ {f s : Bytes} {h : Home} {m : ℕ} where
 
     -- the domains stand at d, the policy at i
     pub rights-at : (d i : ℕ) → DomainsAt g d → PolicyAt g m i → RightsAt f s h m (record { domains = d; policy = i })
-    rights-at d i q p =
-        (subst (λ (b : Bytes). DomainsAt b d) e q, λ end es self t x y. subst (λ (b : Bytes). PolicyAt b m i) e p (storeLimits s) (x .class .home .pack .domains) (x .method) (y .to) (y .reads))
+    rights-at d i q p = (
+      subst (λ (b : Bytes). DomainsAt b d) e q,
+      λ end es self t x y. subst (λ (b : Bytes). PolicyAt b m i) e p (storeLimits s) (x .class .home .pack .domains) (x .method) (y .to) (y .reads),
+    )
 
     pub rights-over : (r : RightsPlace) → RightsAt f s h m r → StandsThere f s h m → PolicyOver g (r .domains) (r .policy)
     rights-over r q t =
@@ -51,5 +53,8 @@ module _ {f s : Bytes} {end i : ℕ} (g : OwnMethod f s end i) where
   caller-stands = (end, g .0, g .1, g .2, ownMethod (g .1) 0 (g .3 .0), record { lies = own; to = g .3 .1; reads = g .3 .2 })
 
 -- what is called
-pub callee-stands : {f s : Bytes} {end : ℕ} (t : List ℕ) (index p c m : ℕ) → ReferenceIs f s end t index (found.Method p c m) → Judged f s end → StandsThere f s (homeOf end t p) m
-callee-stands {end = end} t index p c m q g = let z = q (g .0) (g .1) (g .2) in (end, g .0, g .1, g .2, methodNamed (z .0), record { lies = z .2 .lies; to = z .2 .methodEnd; reads = z .2 .method })
+pub callee-stands : {f s : Bytes} {end : ℕ} (t : List ℕ) (index p c m : ℕ) → ReferenceIs f s end t index (found.Method p c m) → Judged f s end →
+    StandsThere f s (homeOf end t p) m
+callee-stands {end = end} t index p c m q g =
+    let z = q (g .0) (g .1) (g .2) in
+    (end, g .0, g .1, g .2, methodNamed (z .0), record { lies = z .2 .lies; to = z .2 .methodEnd; reads = z .2 .method })

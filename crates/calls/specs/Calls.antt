@@ -70,10 +70,12 @@ Reading {A} r p s i = (x : A) × (j : ℕ) × Reads r s i x j × T (p x)
 
 -- in the file being judged a method or class whose codes split stands at a place
 abbrev pub OwnMethod : Bytes → Bytes → ℕ → ℕ → Type 0
-OwnMethod f s end i = (es : List Entry) × (self : Installed) × Imports f s end es self × Reading (method (storeLimits s) (self .pack .domains)) (codeTest codeSplits) f i
+OwnMethod f s end i =
+    (es : List Entry) × (self : Installed) × Imports f s end es self × Reading (method (storeLimits s) (self .pack .domains)) (codeTest codeSplits) f i
 
 abbrev pub OwnClass : Bytes → Bytes → ℕ → ℕ → Type 0
-OwnClass f s end i = (es : List Entry) × (self : Installed) × Imports f s end es self × Reading (class (storeLimits s) (self .pack .domains)) (classTest codeSplits) f i
+OwnClass f s end i =
+    (es : List Entry) × (self : Installed) × Imports f s end es self × Reading (class (storeLimits s) (self .pack .domains)) (classTest codeSplits) f i
 
 -- question 16 was answered yes
 abbrev pub CodesSplit : Bytes → Type 0
@@ -95,7 +97,8 @@ classAsks a = (18, classNames a) ∷ (19, classAllows a) ∷ []
 
 -- the numbers
 abbrev pub CallNumberIs : Bytes → Bytes → ℕ → Aid → ℕ → Calling → ℕ → ℕ → Type 0
-CallNumberIs f s end d i kind index r = (a : Asking f s end d) (m : Method) (j : ℕ) → MethodOf a i m j → r ≡ noOf (callAsks a m) (record { kind = kindOf kind; index = index })
+CallNumberIs f s end d i kind index r =
+    (a : Asking f s end d) (m : Method) (j : ℕ) → MethodOf a i m j → r ≡ noOf (callAsks a m) (record { kind = kindOf kind; index = index })
 
 -- of every call that calls what was found
 abbrev pub FoundNumberIs : Bytes → Bytes → ℕ → Aid → List ℕ → ℕ → NamedFound → ℕ → Type 0

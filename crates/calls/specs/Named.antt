@@ -17,7 +17,7 @@ use mathlib.Core.Option.{Option, none, some}
 use lib.Dec.{eqb}
 use lib.ListN.{length}
 use Rattle.rules.specs.Bytes.{Bytes, Aid, at, _andThen_}
-use Rattle.rules.specs.Package.{Limits, storeLimits, Package, method, class, readFile}
+use Rattle.rules.specs.Package.{Limits, storeLimits, Reference, Package, method, class, readFile}
 use Rattle.rules.specs.Store.{Entry}
 use Rattle.rules.specs.Classes.{Installed, installed}
 use Rattle.rules.specs.Questions.{Named, referenceNames, callForm, callNamesMethod}
@@ -59,9 +59,13 @@ abbrev pub NamedIs : Bytes → Bytes → ℕ → List ℕ → List Entry → Ins
 NamedIs f s end t es self o (found.Method p c m) = (x : Named) × (o ≡ some x) × NamedAt f s end t es self p c m x
 NamedIs f s end t es self o found.Nothing = o ≡ none
 
+-- a package number, a class number and a name as a reference has them
+abbrev pub referenceOf : Naming → Reference
+referenceOf x = record { class = record { pack = x .pack; class = x .class }; name = x .name }
+
 -- the method that a package number, a class number and a name name
 abbrev pub NumbersName : Bytes → Bytes → ℕ → List ℕ → Naming → NamedFound → Type 0
-NumbersName f s end t x r = OfJudged f s end λ es self. NamedIs f s end t es self (referenceNames (installed (storeLimits s) es) self (record { class = record { pack = x .pack; class = x .class }; name = x .name })) r
+NumbersName f s end t x r = OfJudged f s end λ es self. NamedIs f s end t es self (referenceNames (installed (storeLimits s) es) self (referenceOf x)) r
 
 abbrev pub ReferenceIs : Bytes → Bytes → ℕ → List ℕ → ℕ → NamedFound → Type 0
 ReferenceIs f s end t k r = OfJudged f s end λ es self. NamedIs f s end t es self (referenceNamed (installed (storeLimits s) es) self k) r
@@ -84,7 +88,8 @@ WellIs g c m i k r = OfNamed g c m λ x. x .imported ≡ i → r ≡ ((not (x .i
 
 -- question 18 of a call
 abbrev pub CallNamedIs : Bytes → Bytes → ℕ → Calling → ℕ → Bool → Type 0
-CallNamedIs f s end kind index r = OfJudged f s end λ es self. r ≡ callNamesMethod (installed (storeLimits s) es) self (record { kind = kindOf kind; index = index })
+CallNamedIs f s end kind index r =
+    OfJudged f s end λ es self. r ≡ callNamesMethod (installed (storeLimits s) es) self (record { kind = kindOf kind; index = index })
 
 abbrev pub CalledIs : Bytes → Bytes → ℕ → List ℕ → Calling → ℕ → NamedFound → Type 0
 CalledIs f s end t kind index (found.Method p c m) = CallNamedIs f s end kind index true × ReferenceIs f s end t index (found.Method p c m)

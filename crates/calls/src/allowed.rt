@@ -54,7 +54,7 @@ pub fn call_number<'a>(
                 called: r.policy,
                 loading: a.loading,
             };
-            if !policies::rows::covers(f, domain, homes::file_of(f, s, h), l, x, map) {
+            if !policies::covering::covers(f, domain, homes::file_of(f, s, h), l, x, map) {
                 return 19;
             }
             0

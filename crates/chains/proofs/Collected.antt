@@ -35,8 +35,10 @@ use Rattle.chains.proofs.Parts.{above-in}
 use Rattle.chains.proofs.Collecting.{Reach, Left, classes-left, over, State, Collecting, text-steps, reach-steps, home-for}
 
 -- one class is gathered: what each name is then
-module _ (f s : Bytes) (hc : Home) (nc p : ℕ) (there : ClassThere f s hc nc) (at-p : RecordAt f s hc nc p) (m m′ : List ℕ) (a e e′ : ℕ) (w : Gathers (fileOf f s hc) (textOf f s hc) m m′ p (hc .from) a e e′) where
-  reads : (end : ℕ) (es : List Entry) (self : Installed) → Judged f s end es self → (x : Installed) → HomeIs f s end es self hc x → (k : Class) → at (x .pack .classes) nc ≡ some k →
+module _ (f s : Bytes) (hc : Home) (nc p : ℕ) (there : ClassThere f s hc nc) (at-p : RecordAt f s hc nc p) (m m′ : List ℕ) (a e e′ : ℕ)
+    (w : Gathers (fileOf f s hc) (textOf f s hc) m m′ p (hc .from) a e e′) where
+  reads : (end : ℕ) (es : List Entry) (self : Installed) → Judged f s end es self → (x : Installed) → HomeIs f s end es self hc x → (k : Class) → at
+      (x .pack .classes) nc ≡ some k →
       (j : ℕ) × Reads (class (storeLimits s) (x .pack .domains)) (fileOf f s hc) p k j
   reads = class-at f s hc nc p at-p
 
@@ -52,14 +54,16 @@ module _ (f s : Bytes) (hc : Home) (nc p : ℕ) (there : ClassThere f s hc nc) (
 
   -- a place was there, or is that of the first method of its name
   pub place-new : (q : ℕ) → Has m′ a e′ q →
-      Has m a e q ⊎ ((i : ℕ) × (q ≡ hc .from + i) × (i < length (fileOf f s hc)) × Nameless (textOf f s hc) m a e (nameAt (textOf f s hc) q) × FirstIs f s hc nc (nameAt (textOf f s hc) q) (runs.At hc i))
+      Has m a e q ⊎ ((i : ℕ) × (q ≡ hc .from + i) × (i < length (fileOf f s hc)) × Nameless (textOf f s hc) m a e (nameAt (textOf f s hc) q) × FirstIs f s
+      hc nc (nameAt (textOf f s hc) q) (runs.At hc i))
   place-new q has = go first-time
     where
       c : ClassThere f s hc nc
       c = there
 
       Found : Class → Installed → Type 0
-      Found k y = Has m a e q ⊎ ((i : ℕ) × (q ≡ hc .from + i) × (i < length (fileOf f s hc)) × Nameless (textOf f s hc) m a e (nameAt (textOf f s hc) q) × Placed (method (storeLimits s) (y .pack .domains)) (fileOf f s hc) (declaredInstance k (nameAt (textOf f s hc) q)) (some i))
+      Found k y = Has m a e q ⊎ ((i : ℕ) × (q ≡ hc .from + i) × (i < length (fileOf f s hc)) × Nameless (textOf f s hc) m a e (nameAt (textOf f s hc) q) ×
+          Placed (method (storeLimits s) (y .pack .domains)) (fileOf f s hc) (declaredInstance k (nameAt (textOf f s hc) q)) (some i))
 
       first-time : Found (there .1 .class) (there .1 .pack)
       first-time =
@@ -67,17 +71,21 @@ module _ (f s : Bytes) (hc : Home) (nc p : ℕ) (there : ClassThere f s hc nc) (
           let u = reads (there .0) (d .entries) (d .self) (d .asked) (d .pack) (d .home) (d .class) (d .is) in
           w .from (storeLimits s) (d .pack .pack .domains) (d .class) (u .0) (u .1) q has
 
-      always : (i : ℕ) → q ≡ hc .from + i → Nameless (textOf f s hc) m a e (nameAt (textOf f s hc) q) → InstanceAt f s hc nc (nameAt (textOf f s hc) q) (spots.At i)
+      always : (i : ℕ) → q ≡ hc .from + i → Nameless (textOf f s hc) m a e (nameAt (textOf f s hc) q) → InstanceAt f s hc nc (nameAt (textOf f s hc) q)
+          (spots.At i)
       always i z n end es self j y o k v =
           let u = reads end es self j y o k v in
           again (w .from (storeLimits s) (y .pack .domains) k (u .0) (u .1) q has)
         where
           again : Found k y → Placed (method (storeLimits s) (y .pack .domains)) (fileOf f s hc) (declaredInstance k (nameAt (textOf f s hc) q)) (some i)
           again (inl old) = absurd (n q old refl)
-          again (inr t) = let same : t .0 ≡ i = omega (arith, t .1) in subst (λ (b : ℕ). Placed (method (storeLimits s) (y .pack .domains)) (fileOf f s hc) (declaredInstance k (nameAt (textOf f s hc) q)) (some b)) same (t .4)
+          again (inr t) = let same : t .0 ≡ i = omega (arith, t .1) in subst
+              (λ (b : ℕ). Placed (method (storeLimits s) (y .pack .domains)) (fileOf f s hc) (declaredInstance k (nameAt (textOf f s hc) q)) (some b))
+              same (t .4)
 
       go : Found (there .1 .class) (there .1 .pack) →
-          Has m a e q ⊎ ((i : ℕ) × (q ≡ hc .from + i) × (i < length (fileOf f s hc)) × Nameless (textOf f s hc) m a e (nameAt (textOf f s hc) q) × FirstIs f s hc nc (nameAt (textOf f s hc) q) (runs.At hc i))
+          Has m a e q ⊎ ((i : ℕ) × (q ≡ hc .from + i) × (i < length (fileOf f s hc)) × Nameless (textOf f s hc) m a e (nameAt (textOf f s hc) q) × FirstIs
+          f s hc nc (nameAt (textOf f s hc) q) (runs.At hc i))
       go (inl old) = inl old
       go (inr t) = inr (t .0, t .1, t .2, t .3, first-here f s hc nc (nameAt (textOf f s hc) q) (t .0) (always (t .0) (t .1) (t .3)))
 
@@ -114,10 +122,12 @@ module _ (f s : Bytes) (l : List ℕ) (h : Home) (n top a : ℕ) where
             high = omega arith;
             is = t .home;
             near = λ j u v. absurd (omega arith);
-            under = λ j u v. let same : j ≡ firstLink h = omega arith in let z : linkHome l j .from ≡ h .from = ap (λ (k : ℕ). linkHome l k .from) same ∙ ap (λ (b : Home). b .from) (t .home) in omega arith;
+            under = λ j u v. let same : j ≡ firstLink h = omega arith in let z : linkHome l j .from ≡ h .from = ap (λ (k : ℕ). linkHome l k .from) same ∙
+                ap (λ (b : Home). b .from) (t .home) in omega arith;
           }
 
-  module _ (m : List ℕ) (i e : ℕ) (inv : Collecting f s l m h n top a i e) (small : top ≤ firstLink h + mostLinks) (big : namesStart ≤ a) (inside : i < top) where
+  module _ (m : List ℕ) (i e : ℕ) (inv : Collecting f s l m h n top a i e) (small : top ≤ firstLink h + mostLinks) (big : namesStart ≤ a)
+      (inside : i < top) where
     -- the class at hand
     pub record Here (stop : ClassFound) (hh : Home) (p : ℕ) : Type 0 where
       pub number : ℕ
@@ -161,42 +171,54 @@ module _ (f s : Bytes) (l : List ℕ) (h : Home) (n top a : ℕ) where
       collect-sorted t z = subst (λ (b : Bytes). Sorted b m a e) (sym (z ∙ (here stop₀ part₀ hh p eh ep) .text)) (inv .sorted)
 
       pub collect-held : length f ≤ 65535 → length s ≤ 65535 → (g t : Bytes) → g ≡ fileOf f s hh → t ≡ textOf f s hh → Held g t (hh .from)
-      collect-held u v g t zg zt = subst (λ (b : Bytes). Held b t (hh .from)) (sym zg) (subst (λ (b : Bytes). Held (fileOf f s hh) b (hh .from)) (sym zt) (file-held f s hh collect-bounds u v))
+      collect-held u v g t zg zt = subst (λ (b : Bytes). Held b t (hh .from)) (sym zg)
+          (subst (λ (b : Bytes). Held (fileOf f s hh) b (hh .from)) (sym zt) (file-held f s hh collect-bounds u v))
 
       module _ (m′ : List ℕ) (e′ : ℕ) (w : Gathers (fileOf f s hh) (textOf f s hh) m m′ p (hh .from) a e e′) where
         module _ (stop : ClassFound) (t : Here stop hh p) where
           -- names in the bytes of the first class of the part
           less : (x : ℕ) → Nameless (textOf f s h) m′ a e′ x → Nameless (textOf f s h) m a e x
-          less x u = subst (λ (b : Bytes). Nameless b m a e x) (t .text) (name-less f s hh (t .number) p (t .there) (t .record-at) m m′ a e e′ w x (subst (λ (b : Bytes). Nameless b m′ a e′ x) (sym (t .text)) u))
+          less x u = subst (λ (b : Bytes). Nameless b m a e x) (t .text)
+              (name-less f s hh (t .number) p (t .there) (t .record-at) m m′ a e e′ w x (subst (λ (b : Bytes). Nameless b m′ a e′ x) (sym (t .text)) u))
 
           not-declared : (x : ℕ) → Nameless (textOf f s h) m′ a e′ x → InstanceAt f s hh (t .number) x spots.Nothing
-          not-declared x u = name-left f s hh (t .number) p (t .there) (t .record-at) m m′ a e e′ w x (subst (λ (b : Bytes). Nameless b m′ a e′ x) (sym (t .text)) u)
+          not-declared x u = name-left f s hh (t .number) p (t .there) (t .record-at) m m′ a e e′ w x
+              (subst (λ (b : Bytes). Nameless b m′ a e′ x) (sym (t .text)) u)
 
-          new-hit : State f s l m h n stop top a i e → (q : ℕ) → Has m′ a e′ q → (g : Home) × HomeFor l (firstLink h) q g × FirstIs f s h n (nameAt (textOf f s h) q) (runs.At g (q - g .from))
+          new-hit : State f s l m h n stop top a i e → (q : ℕ) → Has m′ a e′ q → (g : Home) × HomeFor l (firstLink h) q g × FirstIs f s h n
+              (nameAt (textOf f s h) q) (runs.At g (q - g .from))
           new-hit old q has = ⊎-elim (λ v. old .hit q v) fresh (place-new f s hh (t .number) p (t .there) (t .record-at) m m′ a e e′ w q has)
             where
-              fresh : (x : ℕ) × (q ≡ hh .from + x) × (x < length (fileOf f s hh)) × Nameless (textOf f s hh) m a e (nameAt (textOf f s hh) q) × FirstIs f s hh (t .number) (nameAt (textOf f s hh) q) (runs.At hh x) →
+              fresh : (x : ℕ) × (q ≡ hh .from + x) × (x < length (fileOf f s hh)) × Nameless (textOf f s hh) m a e (nameAt (textOf f s hh) q) × FirstIs f
+                  s hh (t .number) (nameAt (textOf f s hh) q) (runs.At hh x) →
                   (g : Home) × HomeFor l (firstLink h) q g × FirstIs f s h n (nameAt (textOf f s h) q) (runs.At g (q - g .from))
               fresh v =
                   let y : v .0 ≡ q - hh .from = omega (arith, v .1) in
                   let name : nameAt (textOf f s hh) q ≡ nameAt (textOf f s h) q = ap (λ (b : Bytes). nameAt b q) (t .text) in
                   let nl : Nameless (textOf f s h) m a e (nameAt (textOf f s h) q) = subst (λ (b : Bytes). Nameless b m a e (nameAt b q)) (t .text) (v .3) in
-                  let fi : FirstIs f s hh (t .number) (nameAt (textOf f s h) q) (runs.At hh (q - hh .from)) = subst (λ (k : ℕ). FirstIs f s hh (t .number) (nameAt (textOf f s h) q) (runs.At hh k)) y (subst (λ (k : ℕ). FirstIs f s hh (t .number) k (runs.At hh (v .0))) name (v .4)) in (
+                  let fi : FirstIs f s hh (t .number) (nameAt (textOf f s h) q) (runs.At hh (q - hh .from)) = subst
+                  (λ (k : ℕ). FirstIs f s hh (t .number) (nameAt (textOf f s h) q) (runs.At hh k)) y
+                  (subst (λ (k : ℕ). FirstIs f s hh (t .number) k (runs.At hh (v .0))) name (v .4)) in (
                     hh,
-                    subst (λ (k : ℕ). HomeFor l (firstLink h) k hh) (sym (v .1)) (home-for f s l (firstLink h) i hh (there-bounds f s hh (t .number) (t .there)) (omega arith) (t .reach) (v .0) (v .2)),
+                    subst (λ (k : ℕ). HomeFor l (firstLink h) k hh) (sym (v .1))
+                        (home-for f s l (firstLink h) i hh (there-bounds f s hh (t .number) (t .there)) (omega arith) (t .reach) (v .0) (v .2)),
                     t .up (nameAt (textOf f s h) q) nl (runs.At hh (q - hh .from)) fi,
                   )
 
           new-left : Left f s l m′ h n stop top a (i + 1) e′
           new-left = go (t .part)
             where
-              nothing : Kind0ParentIs f s hh (t .number) classes.Nothing → (x : ℕ) → Nameless (textOf f s h) m′ a e′ x → (r : RunsFound) → r ≡ runs.Nothing → FirstIs f s h n x r
-              nothing k x u r z = t .up x (less x u) r (subst (λ (b : RunsFound). FirstIs f s hh (t .number) x b) (sym z) (first-nowhere f s hh (t .number) x (not-declared x u) k))
+              nothing : Kind0ParentIs f s hh (t .number) classes.Nothing → (x : ℕ) → Nameless (textOf f s h) m′ a e′ x → (r : RunsFound) → r ≡
+                  runs.Nothing → FirstIs f s h n x r
+              nothing k x u r z = t .up x (less x u) r (subst (λ (b : RunsFound). FirstIs f s hh (t .number) x b) (sym z)
+                  (first-nowhere f s hh (t .number) x (not-declared x u) k))
 
-              next : (d : ClassSpot) → Kind0ParentIs f s hh (t .number) (classes.At d) → (x : ℕ) → Nameless (textOf f s h) m′ a e′ x → (r : RunsFound) → FirstIs f s (d .home) (d .number) x r → FirstIs f s h n x r
+              next : (d : ClassSpot) → Kind0ParentIs f s hh (t .number) (classes.At d) → (x : ℕ) → Nameless (textOf f s h) m′ a e′ x → (r : RunsFound) →
+                  FirstIs f s (d .home) (d .number) x r → FirstIs f s h n x r
               next d k x u r z = t .up x (less x u) r (first-above f s hh (t .number) x (not-declared x u) d r k z)
 
-              ends : (stop : ClassFound) → Kind0ParentIs f s hh (t .number) stop → (x : ℕ) → Nameless (textOf f s h) m′ a e′ x → (r : RunsFound) → Above f s stop x r → FirstIs f s h n x r
+              ends : (stop : ClassFound) → Kind0ParentIs f s hh (t .number) stop → (x : ℕ) → Nameless (textOf f s h) m′ a e′ x → (r : RunsFound) → Above f
+                  s stop x r → FirstIs f s h n x r
               ends (classes.At d) k = next d k
               ends classes.Nothing k = nothing k
 
@@ -217,7 +239,11 @@ module _ (f s : Bytes) (l : List ℕ) (h : Home) (n top a : ℕ) where
           start = omega (arith, inv .start);
           end = omega (arith, inv .end, w .end, inv .start);
           sorted = subst (λ (b : Bytes). Sorted b m′ a e′) ((here stop₀ part₀ hh p eh ep) .text) (w .sorted);
-          state = λ stop part. record { hit = new-hit stop (here stop part hh p eh ep) (inv .state stop part); left = new-left stop (here stop part hh p eh ep) };
+          state = λ stop part. record {
+            hit = new-hit stop (here stop part hh p eh ep) (inv .state stop part);
+            left = new-left stop
+                (here stop part hh p eh ep);
+          };
         }
 
   pub collecting-end : (m : List ℕ) (i e : ℕ) → Collecting f s l m h n top a i e → top ≤ i → i ≤ top → namesStart ≤ a → GatheredAll f s l m h n top a e
@@ -228,7 +254,8 @@ module _ (f s : Bytes) (l : List ℕ) (h : Home) (n top a : ℕ) where
     end = let same : i ≡ top = omega arith in omega (arith, inv .end);
   }
     where
-      hit : (stop : ClassFound) → Part f s l h n (firstLink h) top stop → (q : ℕ) → Has m a e q → (g : Home) × HomeFor m (firstLink h) q g × FirstIs f s h n (nameAt (textOf f s h) q) (runs.At g (q - g .from))
+      hit : (stop : ClassFound) → Part f s l h n (firstLink h) top stop → (q : ℕ) → Has m a e q → (g : Home) × HomeFor m (firstLink h) q g × FirstIs f s h
+          n (nameAt (textOf f s h) q) (runs.At g (q - g .from))
       hit stop part q has =
           let t = inv .state stop part .hit q has in
           let u = t .1 in (
@@ -239,12 +266,14 @@ module _ (f s : Bytes) (l : List ℕ) (h : Home) (n top a : ℕ) where
               small = u .small;
               is = link-home-same l m (u .link) (inv .below) (omega (arith, u .small, first-small h)) ∙ u .is;
               inside = u .inside;
-              behind = λ j v w. let same = ap (λ (b : Home). b .from) (link-home-same l m j (inv .below) (omega (arith, u .small, first-small h))) in omega (arith, same, u .behind j v w);
+              behind = λ j v w. let same = ap (λ (b : Home). b .from) (link-home-same l m j (inv .below) (omega (arith, u .small, first-small h))) in
+                  omega (arith, same, u .behind j v w);
             },
             t .2,
           )
 
-      rest : (stop : ClassFound) → Part f s l h n (firstLink h) top stop → (x : ℕ) → Nameless (textOf f s h) m a e x → (r : RunsFound) → Above f s stop x r → FirstIs f s h n x r
+      rest : (stop : ClassFound) → Part f s l h n (firstLink h) top stop → (x : ℕ) → Nameless (textOf f s h) m a e x → (r : RunsFound) → Above f s stop x
+          r → FirstIs f s h n x r
       rest stop part = go (inv .state stop part .left)
         where
           go : Left f s l m h n stop top a i e → (x : ℕ) → Nameless (textOf f s h) m a e x → (r : RunsFound) → Above f s stop x r → FirstIs f s h n x r

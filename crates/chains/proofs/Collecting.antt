@@ -34,9 +34,11 @@ pub record Reach (l : List ℕ) (first i : ℕ) (h : Home) : Type 0 where
 
 -- what is left of a part, the names so far ending at e: its classes from number i on, or nothing
 pub data Left (f s : Bytes) (l m : List ℕ) (h : Home) (n : ℕ) (stop : ClassFound) (top a : ℕ) : ℕ → ℕ → Type 0 where
-  classes-left : {i e : ℕ} (hc : Home) (nc : ℕ) → Part f s l hc nc i top stop → Reach l (firstLink h) i hc → textOf f s hc ≡ textOf f s h → ClassThere f s hc nc →
+  classes-left : {i e : ℕ} (hc : Home) (nc : ℕ) → Part f s l hc nc i top stop → Reach l (firstLink h) i hc → textOf f s hc ≡ textOf f s h → ClassThere f s
+      hc nc →
       ((x : ℕ) → Nameless (textOf f s h) m a e x → (r : RunsFound) → FirstIs f s hc nc x r → FirstIs f s h n x r) → Left f s l m h n stop top a i e
-  over : {i e : ℕ} → i ≡ top → ((x : ℕ) → Nameless (textOf f s h) m a e x → (r : RunsFound) → Above f s stop x r → FirstIs f s h n x r) → Left f s l m h n stop top a i e
+  over : {i e : ℕ} → i ≡ top → ((x : ℕ) → Nameless (textOf f s h) m a e x → (r : RunsFound) → Above f s stop x r → FirstIs f s h n x r) → Left f s l m h n
+      stop top a i e
 
 pub record State (f s : Bytes) (l m : List ℕ) (h : Home) (n : ℕ) (stop : ClassFound) (top a i e : ℕ) : Type 0 where
   pub hit : (q : ℕ) → Has m a e q → (g : Home) × HomeFor l (firstLink h) q g × FirstIs f s h n (nameAt (textOf f s h) q) (runs.At g (q - g .from))
@@ -59,7 +61,8 @@ module _ (f s : Bytes) where
       let two : eqb (h .from) 0 ≡ false = ne-eqb (h .from) 0 (λ z. omega (arith, u .0, u .1)) in
       rw (one, two)
 
-  pub reach-steps : (l : List ℕ) (first i : ℕ) (h g : Home) → first ≤ i → linkHome l (i + 1) ≡ g → h .from ≤ h .to → g .from ≤ g .to → Reach l first i h → Steps h g → Reach l first (i + 1) g
+  pub reach-steps : (l : List ℕ) (first i : ℕ) (h g : Home) → first ≤ i → linkHome l (i + 1) ≡ g → h .from ≤ h .to → g .from ≤ g .to → Reach l first i h →
+      Steps h g → Reach l first (i + 1) g
   reach-steps l first i h g low e b o r (inl z) = record {
     link = r .link;
     low = r .low;
@@ -70,7 +73,8 @@ module _ (f s : Bytes) where
   }
     where
       here : (j : ℕ) → j < i + 1 + 1 → i + 1 ≤ j → g .from ≤ linkHome l j .from
-      here j v w = let y : j ≡ i + 1 = omega arith in let x : linkHome l j .from ≡ g .from = ap (λ (k : ℕ). linkHome l k .from) y ∙ ap (λ (a : Home). a .from) e in omega arith
+      here j v w = let y : j ≡ i + 1 = omega arith in let x : linkHome l j .from ≡ g .from = ap (λ (k : ℕ). linkHome l k .from) y ∙ ap
+          (λ (a : Home). a .from) e in omega arith
   reach-steps l first i h g low e b o r (inr z) = record {
     link = i + 1;
     low = omega arith;
@@ -81,10 +85,12 @@ module _ (f s : Bytes) where
   }
     where
       here : (j : ℕ) → j < i + 1 + 1 → i + 1 ≤ j → g .from ≤ linkHome l j .from
-      here j v w = let y : j ≡ i + 1 = omega arith in let x : linkHome l j .from ≡ g .from = ap (λ (k : ℕ). linkHome l k .from) y ∙ ap (λ (a : Home). a .from) e in omega arith
+      here j v w = let y : j ≡ i + 1 = omega arith in let x : linkHome l j .from ≡ g .from = ap (λ (k : ℕ). linkHome l k .from) y ∙ ap
+          (λ (a : Home). a .from) e in omega arith
 
   -- a place of a file has the home of the file
-  pub home-for : (l : List ℕ) (first i : ℕ) (h : Home) → (h .from ≤ h .to) × (h .to ≤ length s) → i < first + mostLinks → Reach l first i h → (x : ℕ) → x < length (fileOf f s h) → HomeFor l first (h .from + x) h
+  pub home-for : (l : List ℕ) (first i : ℕ) (h : Home) → (h .from ≤ h .to) × (h .to ≤ length s) → i < first + mostLinks → Reach l first i h → (x : ℕ) →
+      x < length (fileOf f s h) → HomeFor l first (h .from + x) h
   home-for l first i h b small r x less = record {
     link = r .link;
     from = r .low;

@@ -25,13 +25,18 @@ use Rattle.chains.proofs.Keeping.{gathered-same, part-leaves, part-room
 
 module _ (f s : Bytes) where
   -- kept names, where the links from `16` on or the numbers behind them change
-  kept-same : (l m : List ℕ) (h : Home) (n e : ℕ) → 0 < h .from → Same l m 0 64 → Same l m namesStart e → length m ≡ length l → KeptFor f s l h n e → KeptFor f s m h n e
+  kept-same : (l m : List ℕ) (h : Home) (n e : ℕ) → 0 < h .from → Same l m 0 64 → Same l m namesStart e → length m ≡ length l → KeptFor f s l h n e →
+      KeptFor f s m h n e
   kept-same l m h n e z low names size t =
       let y = link-stored f s h z in
-      record { names = gathered-same f s l m h n classes.Nothing namesStart e (λ k u v. low k (omega arith) (omega (arith, y))) names size (t .names); few = t .few }
+      record {
+        names = gathered-same f s l m h n classes.Nothing namesStart e (λ k u v. low k (omega arith) (omega (arith, y))) names size (t .names);
+        few = t .few;
+      }
 
   pub kept-after : (l m : List ℕ) (c : ClassSpot) (j : ℕ) (stop : ClassFound) (kept : Names) → PartIs f s l m c 16 j stop → Kept f s l kept → Kept f s m kept
-  kept-after l m c j stop kept p k z = kept-same l m (kept .home) (kept .number) (kept .stored) z (λ x u v. p .below x u v) (λ x u v. p .above x u) (p .size) (k z)
+  kept-after l m c j stop kept p k z = kept-same l m (kept .home) (kept .number) (kept .stored) z (λ x u v. p .below x u v) (λ x u v. p .above x u)
+      (p .size) (k z)
 
   pub room-after : (l m : List ℕ) → length m ≡ length l → Room f s l → Room f s m
   room-after l m e r = record { size = omega (arith, e, r .size); file = r .file; store = r .store }
@@ -56,7 +61,8 @@ module _ (f s : Bytes) where
     module _ (l m : List ℕ) (j : ℕ) (stop : ClassFound) (p : PartIs f s l m (record { home = h; number = b }) 16 j stop) where
       -- the stored class that follows has room
       pub next-room : (d : ClassSpot) → stop ≡ classes.At d → PartRoom f s end j (16 + storeLimits s .depth) (d .home) (d .number)
-      next-room d e = part-room f s m h b 16 j (classes.At d) end (16 + storeLimits s .depth) (subst (λ (o : ClassFound). Part f s m h b 16 j o) e (p .part)) own-room
+      next-room d e = part-room f s m h b 16 j (classes.At d) end (16 + storeLimits s .depth)
+          (subst (λ (o : ClassFound). Part f s m h b 16 j o) e (p .part)) own-room
 
       pub next-stored : (d : ClassSpot) → stop ≡ classes.At d → 0 < d .home .from
       next-stored d e = (part-leaves f s m h b 16 j (classes.At d) end (subst (λ (o : ClassFound). Part f s m h b 16 j o) e (p .part))) .1
@@ -70,12 +76,14 @@ module _ (f s : Bytes) where
       -- all names, where those of the stored classes end at `to`
       module _ (l′ : List ℕ) (to : ℕ) (size : length l′ ≡ length m) (links : Same m l′ 64 namesStart) where
         own-part : Part f s l′ h b (firstLink h) j stop
-        own-part = subst (λ (i : ℕ). Part f s l′ h b i j stop) (sym own-link) (part-same f s m l′ h b 16 j stop (λ k u v. links k u (omega (arith, p .few))) (p .part))
+        own-part = subst (λ (i : ℕ). Part f s l′ h b i j stop) (sym own-link)
+            (part-same f s m l′ h b 16 j stop (λ k u v. links k u (omega (arith, p .few))) (p .part))
 
         pub own-part-there : PartThere f s l′ h b j
         own-part-there = (subst (λ (g : Home). ClassThere f s g b) (sym eh) (own-there f s end b there), stop, own-part)
 
-        own-fits : Room f s l → namesStart ≤ to → to + 64 * (j - 16) ≤ namesStart + 64 * storeLimits s .depth → (j ≤ firstLink h + mostLinks) × (namesStart ≤ to) × (to + 64 * (j - firstLink h) ≤ length l′)
+        own-fits : Room f s l → namesStart ≤ to → to + 64 * (j - 16) ≤ namesStart + 64 * storeLimits s .depth → (j ≤ firstLink h + mostLinks) ×
+            (namesStart ≤ to) × (to + 64 * (j - firstLink h) ≤ length l′)
         own-fits r low z = (omega (arith, own-link, p .few), low, omega (arith, own-link, z, r .size, p .size, size))
 
         -- a stored class follows
@@ -89,13 +97,15 @@ module _ (f s : Bytes) where
 
           module _ (l″ : List ℕ) (all : ℕ) (g : GatheredAll f s l′ l″ h b j to all) where
             kept-end : KeptFor f s l″ (d .home) (d .number) to
-            kept-end = kept-same l′ l″ (d .home) (d .number) to (next-stored d e) (λ x u v. g .below x u (omega (arith, k .names .sorted .low))) (λ x u v. g .below x (omega arith) v) (g .size) k
+            kept-end = kept-same l′ l″ (d .home) (d .number) to (next-stored d e) (λ x u v. g .below x u (omega (arith, k .names .sorted .low)))
+                (λ x u v. g .below x (omega arith) v) (g .size) k
 
             pub names-stored : NamesIs f s l″ (record { end = end; own = b; stored = to; all = all; home = d .home; number = d .number })
             names-stored = record {
               stop = classes.At d;
               leaves = part-leaves f s l′ h b (firstLink h) j (classes.At d) end (subst (λ (o : ClassFound). Part f s l′ h b (firstLink h) j o) e own-part);
-              own = subst (λ (v : Home). Gathered f s l″ v b (classes.At d) to all) eh (g .is (classes.At d) (subst (λ (o : ClassFound). Part f s l′ h b (firstLink h) j o) e own-part));
+              own = subst (λ (v : Home). Gathered f s l″ v b (classes.At d) to all) eh
+                  (g .is (classes.At d) (subst (λ (o : ClassFound). Part f s l′ h b (firstLink h) j o) e own-part));
               stored = kept-end .names;
             }
 
@@ -105,13 +115,16 @@ module _ (f s : Bytes) where
         -- none does
         module _ (e : stop ≡ classes.Nothing) (z : to ≡ namesStart) where
           pub fits-alone : Room f s l → (j ≤ firstLink h + mostLinks) × (namesStart ≤ to) × (to + 64 * (j - firstLink h) ≤ length l′)
-          fits-alone r = let n = part-few f s m h b 16 j stop end (16 + storeLimits s .depth) (p .part) own-room in own-fits r (omega arith) (omega (arith, n, inside))
+          fits-alone r = let n = part-few f s m h b 16 j stop end (16 + storeLimits s .depth) (p .part) own-room in own-fits r (omega arith)
+              (omega (arith, n, inside))
 
-          pub names-alone : (l″ : List ℕ) (all : ℕ) → GatheredAll f s l′ l″ h b j to all → NamesIs f s l″ (record { end = end; own = b; stored = to; all = all; home = h; number = b })
+          pub names-alone : (l″ : List ℕ) (all : ℕ) → GatheredAll f s l′ l″ h b j to all → NamesIs f s l″
+              (record { end = end; own = b; stored = to; all = all; home = h; number = b })
           names-alone l″ all g = record {
             stop = classes.Nothing;
             leaves = tt {0};
-            own = subst (λ (v : Home). Gathered f s l″ v b classes.Nothing to all) eh (g .is classes.Nothing (subst (λ (o : ClassFound). Part f s l′ h b (firstLink h) j o) e own-part));
+            own = subst (λ (v : Home). Gathered f s l″ v b classes.Nothing to all) eh
+                (g .is classes.Nothing (subst (λ (o : ClassFound). Part f s l′ h b (firstLink h) j o) e own-part));
             stored = z;
           }
 

@@ -41,7 +41,8 @@ module _ (g t : Bytes) (base c : ℕ) (held : Held g t base) (there : MethodTher
       let one : base + c + 1 ≡ base + (c + 1) = omega arith in
       let two : base + c + 1 + 1 ≡ base + (c + 1 + 1) = omega arith in
       let a : getD t (base + c + 1) 0 ≡ getD g (c + 1) 0 = ap (λ (n : ℕ). getD t n 0) one ∙ held .bytes (c + 1) (omega (arith, steps.method-in there)) in
-      let b : getD t (base + c + 1 + 1) 0 ≡ getD g (c + 1 + 1) 0 = ap (λ (n : ℕ). getD t n 0) two ∙ held .bytes (c + 1 + 1) (omega (arith, steps.method-in there)) in
+      let b : getD t (base + c + 1 + 1) 0 ≡ getD g (c + 1 + 1) 0 = ap (λ (n : ℕ). getD t n 0) two ∙ held .bytes (c + 1 + 1)
+      (omega (arith, steps.method-in there)) in
       rw (a, b)
 
   -- the name of whatever method stands there
@@ -70,7 +71,8 @@ pub record Gathering (g t : Bytes) (l m : List ℕ) (start base a e left c to : 
   pub end : to + left ≤ e + 64
   pub here : loops.MethodLoop nil nil g start left c
   pub from : loops.OfMethods g start λ lim ds ms. (q : ℕ) → Has m a to q →
-      Has l a e q ⊎ ((i : ℕ) × (q ≡ base + i) × (i < length g) × Nameless t l a e (nameAt t q) × Placed (method lim ds) g (find (isInstance (nameAt t q)) ms) (some i))
+      Has l a e q ⊎ ((i : ℕ) × (q ≡ base + i) × (i < length g) × Nameless t l a e (nameAt t q) × Placed (method lim ds) g
+      (find (isInstance (nameAt t q)) ms) (some i))
   pub kept : (x : ℕ) → Nameless t m a to x → Nameless t l a e x
   pub loop : (x : ℕ) → Nameless t m a to x → loops.MethodLoop (find (isInstance x)) (find (isInstance x)) g start left c
 
@@ -106,16 +108,17 @@ module _ (g t : Bytes) (l : List ℕ) (start base a e : ℕ) (held : Held g t ba
 
       -- the method is static
       skipped : StaticIs g c true → m′ ≡ m → to′ ≡ to → Gathering g t l m′ start base a e (left - 1) next to′
-      skipped q em et = subst (λ (v : ℕ). Gathering g t l m′ start base a e (left - 1) next v) (sym et) (subst (λ (v : List ℕ). Gathering g t l v start base a e (left - 1) next to) (sym em) (record {
-        sorted = inv .sorted;
-        size = inv .size;
-        below = inv .below;
-        end = omega (arith, inv .end);
-        here = loops.methods-skip (inv .here) more after;
-        from = inv .from;
-        kept = inv .kept;
-        loop = λ x n. loops.find-miss (isInstance x) (inv .loop x n) more (test-static g t base c held at-c x q) after;
-      }))
+      skipped q em et = subst (λ (v : ℕ). Gathering g t l m′ start base a e (left - 1) next v) (sym et)
+          (subst (λ (v : List ℕ). Gathering g t l v start base a e (left - 1) next to) (sym em) (record {
+            sorted = inv .sorted;
+            size = inv .size;
+            below = inv .below;
+            end = omega (arith, inv .end);
+            here = loops.methods-skip (inv .here) more after;
+            from = inv .from;
+            kept = inv .kept;
+            loop = λ x n. loops.find-miss (isInstance x) (inv .loop x n) more (test-static g t base c held at-c x q) after;
+          }))
 
       -- it is entered, unless its name is there
       module _ (q : StaticIs g c false) (en : Entered t m m′ a to (base + c) to′) where
@@ -125,17 +128,22 @@ module _ (g t : Bytes) (l : List ℕ) (start base a e : ℕ) (held : Held g t ba
         other : (x : ℕ) → Nameless t m′ a to′ x → nameAt t (base + c) ≡ x → ⊥
         other x n z = n (en .there .0) (en .there .1) (en .there .2 ∙ z)
 
-        first : Nameless t m a to (nameAt t (base + c)) → loops.OfMethods g start λ lim ds ms. Placed (method lim ds) g (find (isInstance (nameAt t (base + c))) ms) (some c)
+        first : Nameless t m a to (nameAt t (base + c)) → loops.OfMethods g start λ lim ds ms. Placed (method lim ds) g
+            (find (isInstance (nameAt t (base + c))) ms) (some c)
         first n = loops.find-hit (isInstance (nameAt t (base + c))) (inv .loop (nameAt t (base + c)) n) more (test-true g t base c held at-c q)
 
         entered-from : loops.OfMethods g start λ lim ds ms. (y : ℕ) → Has m′ a to′ y →
-            Has l a e y ⊎ ((i : ℕ) × (y ≡ base + i) × (i < length g) × Nameless t l a e (nameAt t y) × Placed (method lim ds) g (find (isInstance (nameAt t y)) ms) (some i))
+            Has l a e y ⊎ ((i : ℕ) × (y ≡ base + i) × (i < length g) × Nameless t l a e (nameAt t y) × Placed (method lim ds) g
+            (find (isInstance (nameAt t y)) ms) (some i))
         entered-from lim ds ms j p y has = ⊎-elim old new (en .from y has)
           where
-            old : Has m a to y → Has l a e y ⊎ ((i : ℕ) × (y ≡ base + i) × (i < length g) × Nameless t l a e (nameAt t y) × Placed (method lim ds) g (find (isInstance (nameAt t y)) ms) (some i))
+            old : Has m a to y → Has l a e y ⊎ ((i : ℕ) × (y ≡ base + i) × (i < length g) × Nameless t l a e (nameAt t y) × Placed (method lim ds) g
+                (find (isInstance (nameAt t y)) ms) (some i))
             old h = inv .from lim ds ms j p y h
 
-            new : (y ≡ base + c) × Nameless t m a to (nameAt t (base + c)) → Has l a e y ⊎ ((i : ℕ) × (y ≡ base + i) × (i < length g) × Nameless t l a e (nameAt t y) × Placed (method lim ds) g (find (isInstance (nameAt t y)) ms) (some i))
+            new : (y ≡ base + c) × Nameless t m a to (nameAt t (base + c)) → Has l a e y ⊎
+                ((i : ℕ) × (y ≡ base + i) × (i < length g) × Nameless t l a e (nameAt t y) × Placed (method lim ds) g (find (isInstance (nameAt t y)) ms)
+                (some i))
             new u = inr (
               c,
               u .0,
@@ -160,12 +168,17 @@ module _ (g t : Bytes) (l : List ℕ) (start base a e : ℕ) (held : Held g t ba
       gathering-step (inl u) = skipped (u .0) (u .1) (u .2)
       gathering-step (inr u) = entered (u .0) (u .1)
 
-  pub gathering-end : (m : List ℕ) (left c to i : ℕ) → Gathering g t l m start base a e left c to → left ≤ 0 → MethodsAt g i start → Gathers g t l m i base a e to
+  pub gathering-end : (m : List ℕ) (left c to i : ℕ) → Gathering g t l m start base a e left c to → left ≤ 0 → MethodsAt g i start → Gathers g t l m i
+      base a e to
   gathering-end m left c to i inv done at-methods = record {
     sorted = inv .sorted;
     size = inv .size;
     below = inv .below;
     end = omega (arith, inv .end);
     from = λ lim ds k j p q has. inv .from lim ds (k .methods) j (at-methods lim ds k j p) q has;
-    left = λ lim ds k j p x n. (inv .kept x n, placed-none (loops.find-none (isInstance x) (inv .loop x n) done lim ds (k .methods) j (at-methods lim ds k j p)));
+    left = λ lim ds k j p x n. (
+      inv .kept x n,
+      placed-none (loops.find-none (isInstance x) (inv .loop x n) done lim ds (k .methods) j
+          (at-methods lim ds k j p)),
+    );
   }

@@ -25,11 +25,13 @@ use Rattle.chains.proofs.Parts.{room-above, room-inside, room-there}
 
 -- homes of links that stand as they stood
 home-kept : (l m : List ℕ) (i x y : ℕ) → Same l m x y → x ≤ 4 * i → 4 * i + 2 < y → linkHome m i ≡ linkHome l i
-home-kept l m i x y k a b = home-of (linkHome l i) _ _ _ (k (4 * i) a (omega arith)) (k (4 * i + 1) (omega arith) (omega arith)) (k (4 * i + 2) (omega arith) (omega arith))
+home-kept l m i x y k a b = home-of (linkHome l i) _ _ _ (k (4 * i) a (omega arith)) (k (4 * i + 1) (omega arith) (omega arith))
+    (k (4 * i + 2) (omega arith) (omega arith))
 
 module _ (f s : Bytes) where
   -- names that stand as they stood, with the links of their part
-  module _ (l m : List ℕ) (h : Home) (n : ℕ) (stop : ClassFound) (a e : ℕ) (links : Same l m (4 * firstLink h) (4 * (firstLink h + mostLinks))) (names : Same l m a e) (size : length m ≡ length l) where
+  module _ (l m : List ℕ) (h : Home) (n : ℕ) (stop : ClassFound) (a e : ℕ) (links : Same l m (4 * firstLink h) (4 * (firstLink h + mostLinks)))
+      (names : Same l m a e) (size : length m ≡ length l) where
     has-same : (q : ℕ) → Has m a e q → Has l a e q
     has-same q t = (t .0, t .1, t .2, sym (names (t .0) (t .1) (t .2)) ∙ t .3)
 
@@ -43,7 +45,8 @@ module _ (f s : Bytes) where
       small = t .small;
       is = home-kept l m (t .link) _ _ links (omega (arith, t .from)) (omega (arith, t .small)) ∙ t .is;
       inside = t .inside;
-      behind = λ j u v. let z = ap (λ (b : Home). b .from) (home-kept l m j _ _ links (omega arith) (omega (arith, t .small))) in omega (arith, z, t .behind j u v);
+      behind = λ j u v. let z = ap (λ (b : Home). b .from) (home-kept l m j _ _ links (omega arith) (omega (arith, t .small))) in omega
+          (arith, z, t .behind j u v);
     }
 
     pub gathered-same : Gathered f s l h n stop a e → Gathered f s m h n stop a e
@@ -79,13 +82,16 @@ module _ (f s : Bytes) where
   RoomLeft end j top (classes.At d) = PartRoom f s end j top (d .home) (d .number)
   RoomLeft end j top classes.Nothing = j ≤ top
 
-  pub part-room : (l : List ℕ) (h : Home) (n i j : ℕ) (stop : ClassFound) (end top : ℕ) → Part f s l h n i j stop → PartRoom f s end i top h n → RoomLeft end j top stop
-  part-room l h n i j (classes.At d) end top (last t q v e) room = subst (λ (k : ℕ). PartRoom f s end k top (d .home) (d .number)) (sym e) (room-above f s end i top h n room d q)
+  pub part-room : (l : List ℕ) (h : Home) (n i j : ℕ) (stop : ClassFound) (end top : ℕ) → Part f s l h n i j stop → PartRoom f s end i top h n → RoomLeft
+      end j top stop
+  part-room l h n i j (classes.At d) end top (last t q v e) room = subst (λ (k : ℕ). PartRoom f s end k top (d .home) (d .number)) (sym e)
+      (room-above f s end i top h n room d q)
   part-room l h n i j classes.Nothing end top (last t q v e) room = let z = room-inside f s end i top h n room in omega arith
   part-room l h n i j stop end top (more d t q v p) room = part-room l (d .home) (d .number) (i + 1) j stop end top p (room-above f s end i top h n room d q)
 
   pub part-few : (l : List ℕ) (h : Home) (n i j : ℕ) (stop : ClassFound) (end top : ℕ) → Part f s l h n i j stop → PartRoom f s end i top h n → j ≤ top
-  part-few l h n i j (classes.At d) end top p room = let z = room-inside f s end j top (d .home) (d .number) (part-room l h n i j (classes.At d) end top p room) in omega arith
+  part-few l h n i j (classes.At d) end top p room = let z = room-inside f s end j top (d .home) (d .number)
+      (part-room l h n i j (classes.At d) end top p room) in omega arith
   part-few l h n i j classes.Nothing end top p room = part-room l h n i j classes.Nothing end top p room
 
   pub room-more : (end i top i′ top′ : ℕ) (h : Home) (n : ℕ) → i′ + top ≤ i + top′ → PartRoom f s end i top h n → PartRoom f s end i′ top′ h n
@@ -109,7 +115,8 @@ module _ (f s : Bytes) where
       few : j ≤ storeLimits s .depth
       few = part-few m (d .home) (d .number) 0 j stop end (storeLimits s .depth) (p .part) room
 
-      pub stored-fits : Room f s l → (j ≤ firstLink (d .home) + mostLinks) × (namesStart ≤ namesStart) × (namesStart + 64 * (j - firstLink (d .home)) ≤ length m)
+      pub stored-fits : Room f s l → (j ≤ firstLink (d .home) + mostLinks) × (namesStart ≤ namesStart) ×
+          (namesStart + 64 * (j - firstLink (d .home)) ≤ length m)
       stored-fits r = let z = link-stored (d .home) stored in (omega (arith, z, p .few), omega arith, omega (arith, z, few, r .size, p .size))
 
       module _ (m′ : List ℕ) (e : ℕ) (g : GatheredAll f s m m′ (d .home) (d .number) j namesStart e) where
@@ -118,7 +125,12 @@ module _ (f s : Bytes) where
           record {
             names = g .is classes.Nothing (part-stored m (d .home) (d .number) (firstLink (d .home)) j stop stored first);
             few = λ end′ es self asked x o k c top within.
-                let r : PartRoom f s end′ 0 top (d .home) (d .number) = record { class = record { entries = es; self = self; asked = asked; pack = x; home = o; class = k; is = c }; depth = top; room = omega arith; within = within } in
+                let r : PartRoom f s end′ 0 top (d .home) (d .number) = record {
+                  class = record { entries = es; self = self; asked = asked; pack = x; home = o; class = k; is = c };
+                  depth = top;
+                  room = omega arith;
+                  within = within;
+                } in
                 let z = part-few m (d .home) (d .number) 0 j stop end′ top (p .part) r in
                 omega (arith, g .end, z, link-stored (d .home) stored);
           },
@@ -126,7 +138,12 @@ module _ (f s : Bytes) where
           g .size ∙ p .size,
         )
 
-  pub stored-kept : (l : List ℕ) (kept : Names) (d : ClassSpot) → Kept f s l kept → 0 < d .home .from → (d .home ≡ kept .home) × (d .number ≡ kept .number) → KeptFor f s l (d .home) (d .number) (kept .stored) × Same l l 64 namesStart × (length l ≡ length l)
+  pub stored-kept : (l : List ℕ) (kept : Names) (d : ClassSpot) → Kept f s l kept → 0 < d .home .from → (d .home ≡ kept .home) ×
+      (d .number ≡ kept .number) → KeptFor f s l (d .home) (d .number) (kept .stored) × Same l l 64 namesStart × (length l ≡ length l)
   stored-kept l kept d k z e =
-      let y : 0 < kept .home .from = let w = ap (λ (b : Home). b .from) (e .0) in omega (arith, w) in
-      (subst (λ (b : Home). KeptFor f s l b (d .number) (kept .stored)) (sym (e .0)) (subst (λ (b : ℕ). KeptFor f s l (kept .home) b (kept .stored)) (sym (e .1)) (k y)), λ x u v. refl, refl)
+      let y : 0 < kept .home .from = let w = ap (λ (b : Home). b .from) (e .0) in omega (arith, w) in (
+        subst (λ (b : Home). KeptFor f s l b (d .number) (kept .stored)) (sym (e .0))
+            (subst (λ (b : ℕ). KeptFor f s l (kept .home) b (kept .stored)) (sym (e .1)) (k y)),
+        λ x u v. refl,
+        refl,
+      )

@@ -76,7 +76,8 @@ module _ (old : List ℕ) (i : ℕ) (h : Home) (c : ℕ) (y : i < allLinks) (z :
 
 -- the home of a link stands as it stood
 pub link-home-same : (l m : List ℕ) (i : ℕ) {a : ℕ} → Same l m 0 a → 4 * i + 2 < a → linkHome m i ≡ linkHome l i
-link-home-same l m i k z = home-of (linkHome l i) _ _ _ (k (4 * i) (omega arith) (omega arith)) (k (4 * i + 1) (omega arith) (omega arith)) (k (4 * i + 2) (omega arith) (omega arith))
+link-home-same l m i k z = home-of (linkHome l i) _ _ _ (k (4 * i) (omega arith) (omega arith)) (k (4 * i + 1) (omega arith) (omega arith))
+    (k (4 * i + 2) (omega arith) (omega arith))
 
 module _ (f s : Bytes) where
   -- a link stands as it stood

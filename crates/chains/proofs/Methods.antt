@@ -33,7 +33,8 @@ use Rattle.chains.specs.declared.RunsFound.the-variants.{At, Nothing}
 
 module _ (f s : Bytes) (h : Home) (n : ℕ) where
   -- the non-static method of a name
-  pub instance-is : (g : Bytes) (i name : ℕ) (r : Spot) → g ≡ fileOf f s h → ClassPlaced f s h n (spots.At i) → InstancePlaced g i name r → InstanceAt f s h n name r
+  pub instance-is : (g : Bytes) (i name : ℕ) (r : Spot) → g ≡ fileOf f s h → ClassPlaced f s h n (spots.At i) → InstancePlaced g i name r → InstanceAt f s
+      h n name r
   instance-is g i name r z p q end es self j x o k e =
       let y = class-at f s h n i p end es self j x o k e in
       subst (λ (b : Bytes). Placed (method (storeLimits s) (x .pack .domains)) b (declaredInstance k name) (spot r)) z
@@ -47,14 +48,17 @@ module _ (f s : Bytes) (h : Home) (n : ℕ) where
 
   -- or its kind-0 parent has it
   module _ (name : ℕ) (p : InstanceAt f s h n name spots.Nothing) where
-    first-up : (is : List Installed) (c : ClassAt) (k : Class) → recordOf c ≡ some k → declaredInstance k name ≡ none → (d : ClassAt) → kind0Parent is c ≡ some d →
+    first-up : (is : List Installed) (c : ClassAt) (k : Class) → recordOf c ≡ some k → declaredInstance k name ≡ none → (d : ClassAt) → kind0Parent is c ≡
+        some d →
         (m : MethodAt) → First is c name m → First is d name m
     first-up is _ k e i d q m (declares k′ o e′ i′) =
         let z : k′ ≡ k = Option·some-injective _ _ (sym e′ ∙ e) in
         absurd (none-some (sym i ∙ ap (λ (a : Class). declaredInstance a name) (sym z) ∙ i′))
-    first-up is c k e i d q m (inherits k′ d′ e′ i′ q′ r) = let z : d′ ≡ d = Option·some-injective _ _ (sym q′ ∙ q) in subst (λ (a : ClassAt). First is a name m) z r
+    first-up is c k e i d q m (inherits k′ d′ e′ i′ q′ r) = let z : d′ ≡ d = Option·some-injective _ _ (sym q′ ∙ q) in subst
+        (λ (a : ClassAt). First is a name m) z r
 
-    first-not : (is : List Installed) (c : ClassAt) (k : Class) → recordOf c ≡ some k → declaredInstance k name ≡ none → kind0Parent is c ≡ none → (m : MethodAt) → First is c name m → ⊥
+    first-not : (is : List Installed) (c : ClassAt) (k : Class) → recordOf c ≡ some k → declaredInstance k name ≡ none → kind0Parent is c ≡ none →
+        (m : MethodAt) → First is c name m → ⊥
     first-not is _ k e i q m (declares k′ o e′ i′) =
         let z : k′ ≡ k = Option·some-injective _ _ (sym e′ ∙ e) in
         none-some (sym i ∙ ap (λ (a : Class). declaredInstance a name) (sym z) ∙ i′)
@@ -66,7 +70,8 @@ module _ (f s : Bytes) (h : Home) (n : ℕ) where
         go r (t end es self j (u .0) (u .1) (u .3) (u .4)) (placed-none (p end es self j x o k e)) (u .2)
       where
         go : (r : RunsFound) {y : Installed} → FirstFound f s end es self (record { home = y; number = d .number }) name r → declaredInstance k name ≡ none →
-            kind0Parent (installed (storeLimits s) es) (record { home = x; number = n }) ≡ some (record { home = y; number = d .number }) → FirstFound f s end es self (record { home = x; number = n }) name r
+            kind0Parent (installed (storeLimits s) es) (record { home = x; number = n }) ≡ some (record { home = y; number = d .number }) → FirstFound f s
+            end es self (record { home = x; number = n }) name r
         go (At g i) v w z = (v .0, inherits k _ e w z (v .1), v .2)
         go Nothing v w z = λ m first. v m (first-up (installed (storeLimits s) es) (record { home = x; number = n }) k e w _ z m first)
 
@@ -87,21 +92,25 @@ module _ (f s : Bytes) (end b : ℕ) where
 
   -- what runs, by the first of the name
   module _ (es : List Entry) (self : Installed) (r : Running f s end b es self) (name : ℕ) where
-    runs-first : (o : MethodAt) → First (installed (storeLimits s) es) (own self b) name o → runsUpTo (installed (storeLimits s) es) (storeLimits s .depth) (own self b) name ≡ ifImplemented o
+    runs-first : (o : MethodAt) → First (installed (storeLimits s) es) (own self b) name o → runsUpTo (installed (storeLimits s) es)
+        (storeLimits s .depth) (own self b) name ≡ ifImplemented o
     runs-first o q =
         let y = own-class es self r in
         let z : isKind0 (own self b) ≡ true = is-true (isKind0 (own self b)) (r .kind0) in
         rw (z, is-first (installed (storeLimits s) es) (storeLimits s .depth) (own self b) name o (own-depth f s end b es self (r .judged) (y .0) (y .1)) q)
 
-    runs-never : ((o : MethodAt) → First (installed (storeLimits s) es) (own self b) name o → ⊥) → runsUpTo (installed (storeLimits s) es) (storeLimits s .depth) (own self b) name ≡ none
+    runs-never : ((o : MethodAt) → First (installed (storeLimits s) es) (own self b) name o → ⊥) → runsUpTo (installed (storeLimits s) es)
+        (storeLimits s .depth) (own self b) name ≡ none
     runs-never q = go (firstInstance (installed (storeLimits s) es) (storeLimits s .depth) (own self b) name) refl
       where
-        go : (o : Option MethodAt) → firstInstance (installed (storeLimits s) es) (storeLimits s .depth) (own self b) name ≡ o → runsUpTo (installed (storeLimits s) es) (storeLimits s .depth) (own self b) name ≡ none
+        go : (o : Option MethodAt) → firstInstance (installed (storeLimits s) es) (storeLimits s .depth) (own self b) name ≡ o → runsUpTo
+            (installed (storeLimits s) es) (storeLimits s .depth) (own self b) name ≡ none
         go none e = let z : isKind0 (own self b) ≡ true = is-true (isKind0 (own self b)) (r .kind0) in rw (z, e)
         go (some m) e = absurd (q m (first-is (installed (storeLimits s) es) (storeLimits s .depth) (own self b) name m e))
 
   module _ (name : ℕ) where
-    first-own : (r : RunsFound) → FirstIs f s (ownHome end) b name r → (es : List Entry) (self : Installed) → Running f s end b es self → FirstFound f s end es self (own self b) name r
+    first-own : (r : RunsFound) → FirstIs f s (ownHome end) b name r → (es : List Entry) (self : Installed) → Running f s end b es self → FirstFound f s
+        end es self (own self b) name r
     first-own r p es self q = let y = own-class es self q in p end es self (q .judged) self homes.own (y .0) (y .1)
 
     pub runs-none : FirstIs f s (ownHome end) b name Nothing → RunsIs f s end b name Nothing
@@ -115,15 +124,25 @@ module _ (f s : Bytes) (end b : ℕ) where
         pub first-method : RunningThere f s end b → say.MethodThere g i
         first-method t =
             let u = first-own (At h i) p (t .0) (t .1) (t .2) in
-            let d : List Aid = u .0 .class .home .pack .domains in
-            (storeLimits s, d, (u .0 .method, u .2 .ends, subst (λ (y : Bytes). Reads (method (storeLimits s) d) y i (u .0 .method) (u .2 .ends)) (sym z) (u .2 .reads)))
+            let d : List Aid = u .0 .class .home .pack .domains in (
+              storeLimits s,
+              d,
+              (
+                u .0 .method,
+                u .2 .ends,
+                subst (λ (y : Bytes). Reads (method (storeLimits s) d) y i (u .0 .method) (u .2 .ends)) (sym z)
+                    (u .2 .reads),
+              ),
+            )
 
         -- the first is implemented
-        implemented-is : (b′ : Bool) → ImplementedIs g i b′ → (es : List Entry) (self : Installed) (q : Running f s end b es self) → b′ ≡ (first-own (At h i) p es self q) .0 .method .implemented
+        implemented-is : (b′ : Bool) → ImplementedIs g i b′ → (es : List Entry) (self : Installed) (q : Running f s end b es self) → b′ ≡
+            (first-own (At h i) p es self q) .0 .method .implemented
         implemented-is b′ y es self q =
             let u = first-own (At h i) p es self q in
             let d : List Aid = u .0 .class .home .pack .domains in
-            y (storeLimits s) d (u .0 .method) (u .2 .ends) (subst (λ (t : Bytes). Reads (method (storeLimits s) d) t i (u .0 .method) (u .2 .ends)) (sym z) (u .2 .reads))
+            y (storeLimits s) d (u .0 .method) (u .2 .ends) (subst (λ (t : Bytes). Reads (method (storeLimits s) d) t i (u .0 .method) (u .2 .ends))
+            (sym z) (u .2 .reads))
 
         pub runs-this : ImplementedIs g i true → RunsIs f s end b name (At h i)
         runs-this y es self q =

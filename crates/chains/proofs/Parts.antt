@@ -24,7 +24,8 @@ use Rattle.chains.proofs.Links.{link-size, set-home, set-place, link-be
 
 module _ (f s : Bytes) where
   -- the class above a class, which is its kind-0 parent
-  unfoldable pub above-in : (end : ℕ) (h : Home) (n : ℕ) (d : ClassSpot) → Kind0ParentIs f s h n (classes.At d) → ClassIn (Judged f s end) f s end h n → ClassIn (Judged f s end) f s end (d .home) (d .number)
+  unfoldable pub above-in : (end : ℕ) (h : Home) (n : ℕ) (d : ClassSpot) → Kind0ParentIs f s h n (classes.At d) → ClassIn (Judged f s end) f s end h n →
+      ClassIn (Judged f s end) f s end (d .home) (d .number)
   above-in end h n d q c =
       let u = q end (c .entries) (c .self) (c .asked) (c .pack) (c .home) (c .class) (c .is) in
       record { entries = c .entries; self = c .self; asked = c .asked; pack = u .0; home = u .1; class = u .3; is = u .4 }
@@ -44,7 +45,8 @@ module _ (f s : Bytes) where
     unfolding above-in
     room-above d q = go (room .depth) (room .room) (room .within)
       where
-        go : (k : ℕ) → i + k ≤ top → depthUpTo (installed (storeLimits s) (room .class .entries)) (suc k) (record { home = room .class .pack; number = n }) ≤ k → PartRoom f s end (i + 1) top (d .home) (d .number)
+        go : (k : ℕ) → i + k ≤ top → depthUpTo (installed (storeLimits s) (room .class .entries)) (suc k)
+            (record { home = room .class .pack; number = n }) ≤ k → PartRoom f s end (i + 1) top (d .home) (d .number)
         go zero a w = absurd (omega (arith, w))
         go (suc k) a w =
             let c = room .class in
@@ -53,8 +55,10 @@ module _ (f s : Bytes) where
               class = above-in end h n d q c;
               depth = k;
               room = omega arith;
-              within = parent-depth (installed (storeLimits s) (c .entries)) k (record { home = c .pack; number = n }) (record { home = u .0; number = d .number }) w
-                  (kind0-parent (installed (storeLimits s) (c .entries)) (record { home = c .pack; number = n }) (record { home = u .0; number = d .number }) (u .2));
+              within = parent-depth (installed (storeLimits s) (c .entries)) k (record { home = c .pack; number = n })
+                  (record { home = u .0; number = d .number }) w
+                  (kind0-parent (installed (storeLimits s) (c .entries)) (record { home = c .pack; number = n })
+                  (record { home = u .0; number = d .number }) (u .2));
             }
 
     -- the numbers of its link fit
@@ -149,7 +153,8 @@ module _ (f s : Bytes) (end : ℕ) (l : List ℕ) (c : ClassSpot) (i : ℕ) wher
       }
 
       -- or goes on
-      pub finding-more : (d : ClassSpot) → Kind0ParentIs f s h n (classes.At d) → Nearer h (d .home) → d .home .from ≤ h .from → Finding f s end l m′ c i (k + 1) (d .home) (d .number)
+      pub finding-more : (d : ClassSpot) → Kind0ParentIs f s h n (classes.At d) → Nearer h (d .home) → d .home .from ≤ h .from → Finding f s end l m′ c i
+          (k + 1) (d .home) (d .number)
       finding-more d q z less = record {
         room = room-above f s end k (i + mostLinks) h n (inv .room) d q;
         size = written-size;
@@ -157,8 +162,10 @@ module _ (f s : Bytes) (end : ℕ) (l : List ℕ) (c : ClassSpot) (i : ℕ) wher
         below = written-below;
         above = written-above;
         grow = λ m″ u j stop p. inv .grow m″ (λ x a b. u x a (omega arith) ∙ kept x b) j stop
-            (more d (link-same f s h n k m′ m″ (λ x a b. u x (omega (arith, inv .start)) b) written-link) q (steps f s end k (i + mostLinks) h n (inv .room) d q z less) p);
+            (more d (link-same f s h n k m′ m″ (λ x a b. u x (omega (arith, inv .start)) b) written-link) q
+            (steps f s end k (i + mostLinks) h n (inv .room) d q z less) p);
       }
 
-      pub finding-leaves : (d : ClassSpot) → Kind0ParentIs f s h n (classes.At d) → Nearer h (d .home) → h .from < d .home .from → PartIs f s l m′ c i (k + 1) (classes.At d)
+      pub finding-leaves : (d : ClassSpot) → Kind0ParentIs f s h n (classes.At d) → Nearer h (d .home) → h .from < d .home .from → PartIs f s l m′ c i
+          (k + 1) (classes.At d)
       finding-leaves d q z less = finding-last (classes.At d) q (leaves f s end k (i + mostLinks) h n (inv .room) d q z less)

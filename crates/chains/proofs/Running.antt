@@ -49,7 +49,8 @@ module _ (l : List ℕ) (i q k : ℕ) (inv : Behind l i q k) where
   home-next h e z j low w = ⊎-elim (λ v. inv j low v) here (less-or j k)
     where
       here : k ≤ j → q < linkHome l j .from
-      here v = let y : j ≡ k = omega arith in let x : linkHome l j .from ≡ h .from = ap (λ (b : ℕ). linkHome l b .from) y ∙ sym (ap (λ (b : Home). b .from) e) in omega arith
+      here v = let y : j ≡ k = omega arith in let x : linkHome l j .from ≡ h .from = ap (λ (b : ℕ). linkHome l b .from) y ∙ sym
+          (ap (λ (b : Home). b .from) e) in omega arith
 
   pub home-none : (h : Home) → i ≤ mostLinks → 32 ≤ k → HomeForIs l i q h
   home-none h small z g t = absurd (omega (arith, later g t, t .small))
@@ -92,7 +93,13 @@ module _ (f s : Bytes) (l : List ℕ) (v : Names) (is : NamesIs f s l v) where
     where
       go : (stop : ClassFound) → Leaves (ownHome (v .end)) stop → StoredIs f s l (v .stored) stop → Sorted s l namesStart (v .stored)
       go (classes.At d) w t = subst (λ (b : Bytes). Sorted b l namesStart (v .stored)) (text-stored (d .home) (w .1)) (t .sorted)
-      go classes.Nothing w t = record { low = omega (arith, t); size = omega (arith, own-sorted .low, own-sorted .size); named = λ k a b. absurd (omega (arith, t)); order = λ i j a b c. absurd (omega (arith, t)) }
+      go classes.Nothing w t = record {
+        low = omega (arith, t);
+        size = omega (arith, own-sorted .low, own-sorted .size);
+        named = λ k a b. absurd
+            (omega (arith, t));
+        order = λ i j a b c. absurd (omega (arith, t));
+      }
 
   pub names-size : namesStart ≤ length l
   names-size = omega (arith, stored-sorted .low, own-sorted .low, own-sorted .size)
@@ -105,23 +112,33 @@ module _ (f s : Bytes) (l : List ℕ) (v : Names) (is : NamesIs f s l v) where
         (t .0, t .1, subst (λ (n : ℕ). FirstIs f s (ownHome (v .end)) (v .own) n (runs.At (t .0) (getD l r 0 - t .0 .from))) (w .there less) (t .2))
 
     -- a stored class does
-    pub stored-hit : Nameless f l (v .stored) (v .all) x → (r : ℕ) → Found s l namesStart (v .stored) x r → r < v .stored → Hit f s l 0 (v .end) (v .own) (getD l r 0) x
+    pub stored-hit : Nameless f l (v .stored) (v .all) x → (r : ℕ) → Found s l namesStart (v .stored) x r → r < v .stored → Hit f s l 0 (v .end) (v .own)
+        (getD l r 0) x
     stored-hit nl r w less = go (is .stop) (is .leaves) (is .stored) (is .own .rest x nl)
       where
-        go : (stop : ClassFound) → Leaves (ownHome (v .end)) stop → StoredIs f s l (v .stored) stop → ((y : RunsFound) → Above f s stop x y → FirstIs f s (ownHome (v .end)) (v .own) x y) → Hit f s l 0 (v .end) (v .own) (getD l r 0) x
+        go : (stop : ClassFound) → Leaves (ownHome (v .end)) stop → StoredIs f s l (v .stored) stop →
+            ((y : RunsFound) → Above f s stop x y → FirstIs f s (ownHome (v .end)) (v .own) x y) → Hit f s l 0 (v .end) (v .own) (getD l r 0) x
         go (classes.At d) z t up =
             let u = t .hit (getD l r 0) (r, w .low, less, refl) in
-            let name : nameAt (textOf f s (d .home)) (getD l r 0) ≡ x = ap (λ (b : Bytes). nameAt b (getD l r 0)) (text-stored (d .home) (z .1)) ∙ w .there less in
-            let first : FirstIs f s (d .home) (d .number) x (runs.At (u .0) (getD l r 0 - u .0 .from)) = subst (λ (n : ℕ). FirstIs f s (d .home) (d .number) n (runs.At (u .0) (getD l r 0 - u .0 .from))) name (u .2) in
-            (u .0, subst (λ (i : ℕ). HomeFor l i (getD l r 0) (u .0)) (link-stored (d .home) (z .1)) (u .1), up (runs.At (u .0) (getD l r 0 - u .0 .from)) first)
+            let name : nameAt (textOf f s (d .home)) (getD l r 0) ≡ x = ap (λ (b : Bytes). nameAt b (getD l r 0)) (text-stored (d .home) (z .1)) ∙
+            w .there less in
+            let first : FirstIs f s (d .home) (d .number) x (runs.At (u .0) (getD l r 0 - u .0 .from)) = subst
+            (λ (n : ℕ). FirstIs f s (d .home) (d .number) n (runs.At (u .0) (getD l r 0 - u .0 .from))) name (u .2) in (
+              u .0,
+              subst (λ (i : ℕ). HomeFor l i (getD l r 0) (u .0)) (link-stored (d .home) (z .1)) (u .1),
+              up (runs.At (u .0) (getD l r 0 - u .0 .from))
+                  first,
+            )
         go classes.Nothing z t up = absurd (omega (arith, t, w .low))
 
     -- none does
     pub none-declares : Nameless f l (v .stored) (v .all) x → Nameless s l namesStart (v .stored) x → RunsIs f s (v .end) (v .own) x runs.Nothing
     none-declares nl ns = runs-none f s (v .end) (v .own) x (go (is .stop) (is .leaves) (is .stored) (is .own .rest x nl))
       where
-        go : (stop : ClassFound) → Leaves (ownHome (v .end)) stop → StoredIs f s l (v .stored) stop → ((y : RunsFound) → Above f s stop x y → FirstIs f s (ownHome (v .end)) (v .own) x y) → FirstIs f s (ownHome (v .end)) (v .own) x runs.Nothing
-        go (classes.At d) z t up = up runs.Nothing (t .rest x (subst (λ (b : Bytes). Nameless b l namesStart (v .stored) x) (sym (text-stored (d .home) (z .1))) ns) runs.Nothing refl)
+        go : (stop : ClassFound) → Leaves (ownHome (v .end)) stop → StoredIs f s l (v .stored) stop →
+            ((y : RunsFound) → Above f s stop x y → FirstIs f s (ownHome (v .end)) (v .own) x y) → FirstIs f s (ownHome (v .end)) (v .own) x runs.Nothing
+        go (classes.At d) z t up = up runs.Nothing (t .rest x (subst (λ (b : Bytes). Nameless b l namesStart (v .stored) x)
+            (sym (text-stored (d .home) (z .1))) ns) runs.Nothing refl)
         go classes.Nothing z t up = up runs.Nothing refl
 
   -- there are no names

@@ -57,7 +57,8 @@ pub record Gathers (g t : Bytes) (l m : List ℕ) (c base a e r : ℕ) : Type 0 
   pub below : Same l m 0 a
   pub end : r ≤ e + 64
   pub from : files.OfClass g c λ lim ds k j. (q : ℕ) → Has m a r q →
-      Has l a e q ⊎ ((i : ℕ) × (q ≡ base + i) × (i < length g) × Nameless t l a e (nameAt t q) × Placed (method lim ds) g (declaredInstance k (nameAt t q)) (some i))
+      Has l a e q ⊎ ((i : ℕ) × (q ≡ base + i) × (i < length g) × Nameless t l a e (nameAt t q) × Placed (method lim ds) g
+      (declaredInstance k (nameAt t q)) (some i))
   pub left : files.OfClass g c λ lim ds k j. (x : ℕ) → Nameless t m a r x → Nameless t l a e x × (declaredInstance k x ≡ none)
 
 pub record HomeFor (l : List ℕ) (i q : ℕ) (g : Home) : Type 0 where
@@ -115,7 +116,8 @@ pub record NamesIs (f s : Bytes) (l : List ℕ) (v : Names) : Type 0 where
 
 -- no more names than 64 for each class that the depth allows
 abbrev pub Few : Bytes → Bytes → Home → ℕ → ℕ → Type 0
-Few f s h n e = AtClass f s h n λ end es self x k. (m : ℕ) → depthUpTo (installed (storeLimits s) es) (suc m) (record { home = x; number = n }) ≤ m → e ≤ namesStart + 64 * m
+Few f s h n e = AtClass f s h n λ end es self x k. (m : ℕ) → depthUpTo (installed (storeLimits s) es) (suc m) (record { home = x; number = n }) ≤ m → e ≤
+    namesStart + 64 * m
 
 pub record KeptFor (f s : Bytes) (l : List ℕ) (h : Home) (n e : ℕ) : Type 0 where
   pub names : Gathered f s l h n classes.Nothing namesStart e

@@ -36,7 +36,8 @@ abbrev pub RecordThere : Bytes → ℕ → Type 0
 RecordThere g i = files.ClassThere g i
 
 abbrev pub InstanceAt : Bytes → Bytes → Home → ℕ → ℕ → Spot → Type 0
-InstanceAt f s h n name r = AtClass f s h n λ end es self x k. Placed (method (storeLimits s) (x .pack .domains)) (fileOf f s h) (declaredInstance k name) (spot r)
+InstanceAt f s h n name r = AtClass f s h n λ end es self x k. Placed (method (storeLimits s) (x .pack .domains)) (fileOf f s h) (declaredInstance k name)
+    (spot r)
 
 -- the method o stands at place i of the file at home h
 pub record MethodIn (f s : Bytes) (end : ℕ) (es : List Entry) (self : Installed) (h : Home) (i : ℕ) (o : MethodAt) : Type 0 where

@@ -313,7 +313,7 @@ pub fn none_run<'a>(f: &'a [u8], s: &'a [u8], names: &[u16], v: Names) -> bool
 pub fn no_names(end: usize) -> Names
     ensures { λ r. ⌜ (r .end ≡ end) × NoneKept r ⌝ }
 {
-    let h = classes::own_home(end);
+    let h = homes::own_home(end);
     Names {
         end: end,
         own: 0,
@@ -380,7 +380,7 @@ pub fn find_names<'a>(
     ensures { λ r. ⌜ Kept (now (f .entry)) (now (s .entry)) (now (names .exit)) r ⌝ }
 {
     let end = kept.end;
-    let h = classes::own_home(end);
+    let h = homes::own_home(end);
     let stop = find_part(
         f,
         s,

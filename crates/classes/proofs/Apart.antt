@@ -7,8 +7,7 @@ use mathlib.Core.Logic.{inl, inr}
 use Rattle.rules.specs.Bytes.{Bytes}
 use Rattle.rules.specs.Store.{Entry, openingLength}
 use Rattle.rules.specs.Classes.{Installed}
-use Rattle.store.specs.Entries.{EntryAt, Entries}
-use Rattle.store.proofs.Stand.{entries-to, entry-one, entries-front, entries-split}
+use Rattle.store.proofs.Stand.{entry-apart}
 use Rattle.homes.specs.Homes.{Setting, HomeIs}
 use Rattle.homes.specs.Homes as homes
 use Rattle.homes.specs.declared.Home.{Home}
@@ -16,14 +15,6 @@ use Rattle.homes.proofs.Homes.{home-below}
 use Rattle.classes.specs.Say.{Judged, ClassIn, Nearer, Kind0ParentIs}
 use Rattle.classes.specs.declared.ClassSpot.{ClassSpot}
 use Rattle.classes.specs.declared.ClassFound.the-variants as classes
-
--- an entry that starts before another ends before it
-entry-apart : (s : Bytes) (ps qs : List Entry) (i j k : ℕ) (e : Entry) → Entries s openingLength ps i → EntryAt s i e k → Entries s openingLength qs j → i < j → k ≤ j
-entry-apart s ps qs i j k e p t q h =
-    let r = entries-split s openingLength qs ps i j (omega arith) p q in
-    let f = entries-front s i (r .rest) j h (r .stand) in
-    let o = entry-one s i e (f .one) k (f .place) t (f .stands) in
-    omega (arith, o .1, (entries-to s (f .place) (f .others) j (f .rest)) .0)
 
 -- of two homes one of which is the nearer: they are one, or that one's file lies before the other's in the store, or the other is that of the file being judged
 pub data Apart (h g : Home) : Type 0 where
@@ -38,11 +29,12 @@ module _ (f s : Bytes) (end : ℕ) (es : List Entry) (self : Installed) (j : Set
   homes-apart _ g _ y homes.own (homes.stored u) (inr z) = enters refl (omega (arith, u .inside))
   homes-apart h _ x _ (homes.stored t) homes.own (inr z) = absurd (omega (arith, home-below f s end es self j h x (homes.stored t)))
   homes-apart h g x y (homes.stored t) (homes.stored u) (inr z) =
-      let a = entry-apart s (u .pre) (t .pre) (g .before) (h .before) (g .to) _ (u .stand) (u .entry) (t .stand) z in
+      let a = entry-apart s openingLength (u .pre) (t .pre) (g .before) (h .before) (g .to) _ (u .stand) (u .entry) (t .stand) z in
       earlier (omega (arith, u .inside)) (omega (arith, t .inside))
 
 -- a class and its kind-0 parent
-pub parent-apart : (f s : Bytes) (end : ℕ) (h : Home) (n : ℕ) (d : ClassSpot) → ClassIn (Judged f s end) f s end h n → Kind0ParentIs f s h n (classes.At d) → Nearer h (d .home) → Apart h (d .home)
+pub parent-apart : (f s : Bytes) (end : ℕ) (h : Home) (n : ℕ) (d : ClassSpot) → ClassIn (Judged f s end) f s end h n → Kind0ParentIs f s h n
+    (classes.At d) → Nearer h (d .home) → Apart h (d .home)
 parent-apart f s end h n d c q z =
     let u = q end (c .entries) (c .self) (c .asked) (c .pack) (c .home) (c .class) (c .is) in
     homes-apart f s end (c .entries) (c .self) (c .asked .parents .imported .setting) h (d .home) (c .pack) (u .0) (c .home) (u .1) z

@@ -40,7 +40,8 @@ package-more l es pre post are x q (suc k) = andThen-cong (at (x .pack .imports)
 
 named-more : (l : Limits) (es pre post : List Entry) → es ≡ pre ++ post → (x : Installed) → T (q13-imports (installed l pre) (x .pack)) → (p : ClassNumber) →
     classNamed (installed l pre) x p ≡ classNamed (installed l es) x p
-named-more l es pre post are x q p = ap (λ (o : Option Installed). o andThen λ i. some (record { home = i; number = p .class })) (package-more l es pre post are x q (p .pack))
+named-more l es pre post are x q p = ap (λ (o : Option Installed). o andThen λ i. some (record { home = i; number = p .class }))
+    (package-more l es pre post are x q (p .pack))
 
 -- a class that a package names and that is there
 pub record Exists (is : List Installed) (x : Installed) (p : ClassNumber) : Type 0 where
@@ -55,7 +56,8 @@ exists-is is x n p h =
 
 module _ (f s : Bytes) (end : ℕ) (es : List Entry) (self : Installed) where
   -- each parent exists, at any home
-  pub parent-exists : Parents f s end es self → (h : Home) (x : Installed) → HomeIs f s end es self h x → (n : ℕ) (k : Class) → at (x .pack .classes) n ≡ some k →
+  pub parent-exists : Parents f s end es self → (h : Home) (x : Installed) → HomeIs f s end es self h x → (n : ℕ) (k : Class) → at (x .pack .classes) n ≡
+      some k →
       (p : ClassNumber) → List·Memᴰ p (k .parents) → Exists (installed (storeLimits s) es) x p
   parent-exists g _ _ homes.own n k e p m =
       exists-is (installed (storeLimits s) es) self n p (all-mem _ (allFrom-zero _ (self .pack .classes) n k (g .exist) e) m)
@@ -67,7 +69,8 @@ module _ (f s : Bytes) (end : ℕ) (es : List Entry) (self : Installed) where
       record { class = r .class; named = sym z ∙ r .named; there = r .there }
 
   -- the class that a number and a home stand for
-  named-at : (x y : Installed) (p : ClassNumber) (g : Home) (m : ℕ) → m ≡ p .class → HomeIs f s end es self g y → packageNumbered (installed (storeLimits s) es) x (p .pack) ≡ some y →
+  named-at : (x y : Installed) (p : ClassNumber) (g : Home) (m : ℕ) → m ≡ p .class → HomeIs f s end es self g y → packageNumbered
+      (installed (storeLimits s) es) x (p .pack) ≡ some y →
       Exists (installed (storeLimits s) es) x p → NamedAt f s end es self x p (record { home = g; number = m })
   named-at x y p g m e o q r =
       let z : classNamed (installed (storeLimits s) es) x p ≡ some (record { home = y; number = m }) = rw (q, e) in
@@ -80,17 +83,23 @@ module _ (f s : Bytes) (end : ℕ) (es : List Entry) (self : Installed) where
       NamedAt f s end es self x p (record { home = g; number = m }) × (rank g m < rank h n) × Nearer h g
   parent-named j h x o n k e p mem g m z small q = go (p .pack) refl q
     where
-      go : (a : ℕ) → p .pack ≡ a → NumberedIs f s h a (found.At g) → NamedAt f s end es self x p (record { home = g; number = m }) × (rank g m < rank h n) × Nearer h g
+      go : (a : ℕ) → p .pack ≡ a → NumberedIs f s h a (found.At g) → NamedAt f s end es self x p (record { home = g; number = m }) ×
+          (rank g m < rank h n) × Nearer h g
       go zero w q =
           let same : g ≡ h = cc in
-          let less : p .class < n = parent-smaller f s end es self (j .parents) h x o n k e p mem w in
-          (named-at x x p g m z (subst (λ (v : Home). HomeIs f s end es self v x) (sym same) o) (rw w) (parent-exists (j .parents) h x o n k e p mem), rw same (omega (arith, z)), inl same)
+          let less : p .class < n = parent-smaller f s end es self (j .parents) h x o n k e p mem w in (
+            named-at x x p g m z (subst (λ (v : Home). HomeIs f s end es self v x) (sym same) o) (rw w) (parent-exists (j .parents) h x o n k e p mem),
+            rw
+                same (omega (arith, z)),
+            inl same,
+          )
       go (suc a) w q =
           let t = q end es self (j .parents .imported) x o in
           (named-at x (t .0) p g m z (t .2) (rw w (t .1)) (parent-exists (j .parents) h x o n k e p mem), omega (arith, t .3), inr (t .3))
 
   -- a parent's package is never missing
-  pub parent-missing : Judged f s end es self → (h : Home) (x : Installed) → HomeIs f s end es self h x → (n : ℕ) (k : Class) → at (x .pack .classes) n ≡ some k →
+  pub parent-missing : Judged f s end es self → (h : Home) (x : Installed) → HomeIs f s end es self h x → (n : ℕ) (k : Class) → at (x .pack .classes) n ≡
+      some k →
       (p : ClassNumber) → List·Memᴰ p (k .parents) → NumberedIs f s h (p .pack) found.Nothing → ⊥
   parent-missing j h x o n k e p mem q = go (p .pack) refl q
     where
@@ -107,22 +116,26 @@ module _ (f s : Bytes) (h : Home) (n i : ℕ) (r : Bytes) (p : RecordIs f s h n 
   pub parent-is : (g : Home) → b < 256 → NumberedIs f s h a (found.At g) → ParentIs f s h n i (record { home = g; number = b })
   parent-is g small q end es self j x o k e m at-i =
       let t = (record-front f s h n r p end es self j x o k e) .pair i m at-i in
-      parent-named f s end es self j h x o n k e m (at-mem (k .parents) i m at-i) g b (eb ∙ t .1) small (subst (λ (v : ℕ). NumberedIs f s h v (found.At g)) (ea ∙ t .0) q)
+      parent-named f s end es self j h x o n k e m (at-mem (k .parents) i m at-i) g b (eb ∙ t .1) small
+      (subst (λ (v : ℕ). NumberedIs f s h v (found.At g)) (ea ∙ t .0) q)
 
   pub parent-none : ParentThere f s h n i → NumberedIs f s h a found.Nothing → ⊥
   parent-none t q =
       let c = t .class .1 in
       let m = at-split (c .class .parents) i (t .inside) in
       let u = (record-front f s h n r p (t .class .0) (c .entries) (c .self) (c .asked) (c .pack) (c .home) (c .class) (c .is)) .pair i (m .0) (m .1) in
-      parent-missing f s (t .class .0) (c .entries) (c .self) (c .asked) h (c .pack) (c .home) n (c .class) (c .is) (m .0) (at-mem (c .class .parents) i (m .0) (m .1))
+      parent-missing f s (t .class .0) (c .entries) (c .self) (c .asked) h (c .pack) (c .home) n (c .class) (c .is) (m .0)
+      (at-mem (c .class .parents) i (m .0) (m .1))
       (subst (λ (v : ℕ). NumberedIs f s h v found.Nothing) (ea ∙ u .0) q)
 
 -- the first parent of kind 0 is that of the parents from i on
 abbrev pub Kind0From : Bytes → Bytes → Home → ℕ → ℕ → Type 0
 Kind0From f s h n i = AtClass f s h n λ end es self x k.
-    kind0Parent (installed (storeLimits s) es) (record { home = x; number = n }) ≡ find isKind0 (parentsNamed (installed (storeLimits s) es) x (drop i (k .parents)))
+    kind0Parent (installed (storeLimits s) es) (record { home = x; number = n }) ≡ find isKind0
+    (parentsNamed (installed (storeLimits s) es) x (drop i (k .parents)))
 
-pub named-first : (is : List Installed) (x : Installed) (p : ClassNumber) (ps : List ClassNumber) (c : ClassAt) (b : Bool) → classNamed is x p ≡ some c → isKind0 c ≡ b →
+pub named-first : (is : List Installed) (x : Installed) (p : ClassNumber) (ps : List ClassNumber) (c : ClassAt) (b : Bool) → classNamed is x p ≡ some c →
+    isKind0 c ≡ b →
     find isKind0 (parentsNamed is x (p ∷ ps)) ≡ pick b (some c) (find isKind0 (parentsNamed is x ps))
 named-first is x p ps c b e k = rw (e, k)
 
@@ -136,7 +149,14 @@ module _ (f s : Bytes) (h : Home) (n count i : ℕ) (q : CountIs f s h n count) 
       inv end es self j x o k e ∙ ap (λ (ps : List ClassNumber). find isKind0 (parentsNamed (installed (storeLimits s) es) x ps)) d
 
   pub parent-there : (t : ClassThere f s h n) → i < count → ParentThere f s h n i
-  parent-there t z = let c = t .1 in record { class = t; inside = omega (arith, q (t .0) (c .entries) (c .self) (c .asked) (c .pack) (c .home) (c .class) (c .is)) }
+  parent-there t z = let c = t .1 in record {
+    class = t;
+    inside = omega (
+      arith,
+      q (t .0) (c .entries) (c .self) (c .asked) (c .pack) (c .home) (c .class)
+          (c .is),
+    );
+  }
 
   module _ (z : i < count) (r : ClassSpot) (p : ParentIs f s h n i r) where
     -- the parent at hand, where it stands
@@ -162,7 +182,8 @@ module _ (f s : Bytes) (h : Home) (n count i : ℕ) (q : CountIs f s h n count) 
         let w : isKind0 (record { home = c .pack; number = r .number }) ≡ true = sym (y end es self j (c .pack) (c .home) (c .class) (c .is)) in (
           c .pack,
           c .home,
-          inv end es self j x o k e ∙ ap (λ (ps : List ClassNumber). find isKind0 (parentsNamed (installed (storeLimits s) es) x ps)) (m .2) ∙ named-first (installed (storeLimits s) es) x (m .0) (drop (suc i) (k .parents)) _ true (c .named) w,
+          inv end es self j x o k e ∙ ap (λ (ps : List ClassNumber). find isKind0 (parentsNamed (installed (storeLimits s) es) x ps)) (m .2) ∙ named-first
+              (installed (storeLimits s) es) x (m .0) (drop (suc i) (k .parents)) _ true (c .named) w,
           c .class,
           c .is,
         )
@@ -172,5 +193,6 @@ module _ (f s : Bytes) (h : Home) (n count i : ℕ) (q : CountIs f s h n count) 
         let m = at-split (k .parents) i (omega (arith, q end es self j x o k e)) in
         let c = (p end es self j x o k e (m .0) (m .1)) .0 in
         let w : isKind0 (record { home = c .pack; number = r .number }) ≡ false = sym (y end es self j (c .pack) (c .home) (c .class) (c .is)) in
-        inv end es self j x o k e ∙ ap (λ (ps : List ClassNumber). find isKind0 (parentsNamed (installed (storeLimits s) es) x ps)) (m .2) ∙ named-first (installed (storeLimits s) es) x (m .0) (drop (suc i) (k .parents)) _ false (c .named) w
+        inv end es self j x o k e ∙ ap (λ (ps : List ClassNumber). find isKind0 (parentsNamed (installed (storeLimits s) es) x ps)) (m .2) ∙ named-first
+        (installed (storeLimits s) es) x (m .0) (drop (suc i) (k .parents)) _ false (c .named) w
         ∙ ap (λ (v : ℕ). find isKind0 (parentsNamed (installed (storeLimits s) es) x (drop v (k .parents)))) (sym (add-one i))

@@ -28,7 +28,8 @@ module _ (f s : Bytes) (h : Home) (n : ℕ) where
   there-bounds t = let c = t .1 in home-bounds f s (t .0) (c .entries) (c .self) h (c .pack) (c .home)
 
   -- the place of a class's record
-  pub class-at : (i : ℕ) → ClassPlaced f s h n (spots.At i) → (end : ℕ) (es : List Entry) (self : Installed) → Judged f s end es self → (x : Installed) → HomeIs f s end es self h x →
+  pub class-at : (i : ℕ) → ClassPlaced f s h n (spots.At i) → (end : ℕ) (es : List Entry) (self : Installed) → Judged f s end es self → (x : Installed) →
+      HomeIs f s end es self h x →
       (k : Class) → at (x .pack .classes) n ≡ some k → (j : ℕ) × Reads (class (storeLimits s) (x .pack .domains)) (fileOf f s h) i k j
   class-at i p end es self j x o k e =
       let y = placed-at (p end es self (j .parents .imported) x o) in
@@ -36,13 +37,22 @@ module _ (f s : Bytes) (h : Home) (n : ℕ) where
       (y .1, subst (λ (a : Class). Reads (class (storeLimits s) (x .pack .domains)) (fileOf f s h) i a (y .1)) z (y .3))
 
   pub class-nowhere : (i : ℕ) → ClassPlaced f s h n spots.Nothing → ClassThere f s h n → RecordAt f s h n i
-  class-nowhere i p t = let c = t .1 in absurd (none-some (sym (placed-none (p (t .0) (c .entries) (c .self) (c .asked .parents .imported) (c .pack) (c .home))) ∙ c .is))
+  class-nowhere i p t = let c = t .1 in absurd
+      (none-some (sym (placed-none (p (t .0) (c .entries) (c .self) (c .asked .parents .imported) (c .pack) (c .home))) ∙ c .is))
 
   pub class-there : (g : Bytes) (i : ℕ) → g ≡ fileOf f s h → ClassPlaced f s h n (spots.At i) → ClassThere f s h n → say.ClassThere g i
   class-there g i z p t =
       let c = t .1 in
-      let y = class-at i p (t .0) (c .entries) (c .self) (c .asked) (c .pack) (c .home) (c .class) (c .is) in
-      (storeLimits s, c .pack .pack .domains, (c .class, y .0, subst (λ (b : Bytes). Reads (class (storeLimits s) (c .pack .pack .domains)) b i (c .class) (y .0)) (sym z) (y .1)))
+      let y = class-at i p (t .0) (c .entries) (c .self) (c .asked) (c .pack) (c .home) (c .class) (c .is) in (
+        storeLimits s,
+        c .pack .pack .domains,
+        (
+          c .class,
+          y .0,
+          subst (λ (b : Bytes). Reads (class (storeLimits s) (c .pack .pack .domains)) b i (c .class)
+              (y .0)) (sym z) (y .1),
+        ),
+      )
 
   -- the list of methods
   pub methods-in : (g : Bytes) (i r : ℕ) → g ≡ fileOf f s h → ClassPlaced f s h n (spots.At i) → MethodsAt g i r → MethodsIn f s h n r
@@ -50,7 +60,8 @@ module _ (f s : Bytes) (h : Home) (n : ℕ) where
       let y = class-at i p end es self j x o k e in (
         y .0,
         subst (λ (b : Bytes). Reads (counted mostMethods u1 (method (storeLimits s) (x .pack .domains))) b r (k .methods) (y .0)) z
-            (q (storeLimits s) (x .pack .domains) k (y .0) (subst (λ (b : Bytes). Reads (class (storeLimits s) (x .pack .domains)) b i k (y .0)) (sym z) (y .1))),
+            (q (storeLimits s) (x .pack .domains) k (y .0) (subst (λ (b : Bytes). Reads (class (storeLimits s) (x .pack .domains)) b i k (y .0)) (sym z)
+            (y .1))),
       )
 
 -- own class b
@@ -60,7 +71,8 @@ module _ (f s : Bytes) (end b : ℕ) where
       depthUpTo (installed (storeLimits s) es) (suc (storeLimits s .depth)) (own self b) ≤ storeLimits s .depth
   own-depth es self j k e =
       leb→le (depthUpTo (installed (storeLimits s) es) (suc (storeLimits s .depth)) (own self b)) (storeLimits s .depth)
-      (allFrom-zero (λ i k. depthWithin (storeLimits s) (installed (storeLimits s) es) self i) (self .pack .classes) b k ((parents-yes (storeLimits s) (installed (storeLimits s) es) self (j .q14)) .depths) e)
+      (allFrom-zero (λ i k. depthWithin (storeLimits s) (installed (storeLimits s) es) self i) (self .pack .classes) b k
+      ((parents-yes (storeLimits s) (installed (storeLimits s) es) self (j .q14)) .depths) e)
 
   pub own-class-there : OwnThere f s end b → ClassThere f s (ownHome end) b
   own-class-there t = (end, record { entries = t .0; self = t .1; asked = t .2; pack = t .1; home = homes.own; class = t .3; is = t .4 })

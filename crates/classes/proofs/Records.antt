@@ -77,16 +77,19 @@ module _ (f s : Bytes) (h : Home) (n : ℕ) where
 
   module _ (r : Bytes) (p : RecordIs f s h n r) where
     -- what a class record says, in every setting
-    pub record-front : (end : ℕ) (es : List Entry) (self : Installed) → Judged f s end es self → (x : Installed) → HomeIs f s end es self h x → (k : Class) → at (x .pack .classes) n ≡ some k → Front k r
+    pub record-front : (end : ℕ) (es : List Entry) (self : Installed) → Judged f s end es self → (x : Installed) → HomeIs f s end es self h x →
+        (k : Class) → at (x .pack .classes) n ≡ some k → Front k r
     record-front end es self j x o k e =
         let t = p end es self (j .parents .imported) x o in
         go (t .0) (t .1) (t .2)
       where
-        go : (c : Spot) → Placed (class (storeLimits s) (x .pack .domains)) (fileOf f s h) (at (x .pack .classes) n) (spot c) → r ≡ recordFrom (fileOf f s h) c → Front k r
+        go : (c : Spot) → Placed (class (storeLimits s) (x .pack .domains)) (fileOf f s h) (at (x .pack .classes) n) (spot c) → r ≡ recordFrom
+            (fileOf f s h) c → Front k r
         go (At c) q z =
             let y = placed-at q in
             let same : y .0 ≡ k = Option·some-injective _ _ (sym (y .2) ∙ e) in
-            subst (λ (b : Bytes). Front k b) (sym z) (subst (λ (a : Class). Front a (drop c (fileOf f s h))) same (front (storeLimits s) ((limits-range s) .1) (x .pack .domains) (fileOf f s h) c (y .0) (y .1) (y .3)))
+            subst (λ (b : Bytes). Front k b) (sym z) (subst (λ (a : Class). Front a (drop c (fileOf f s h))) same
+            (front (storeLimits s) ((limits-range s) .1) (x .pack .domains) (fileOf f s h) c (y .0) (y .1) (y .3)))
         go Nothing q z = absurd (none-some (sym (placed-none q) ∙ e))
 
     there-front : (t : ClassThere f s h n) → Front (t .1 .class) r

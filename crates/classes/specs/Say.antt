@@ -46,7 +46,8 @@ pub record ClassIn (J : List Entry → Installed → Type 0) (f s : Bytes) (end 
 -- a fact of class n of the package at home h, in every such setting
 abbrev pub OfClass : (List Entry → Installed → Type 0) → Bytes → Bytes → ℕ → Home → ℕ → (List Entry → Installed → Installed → Class → Type 0) → Type 0
 OfClass J f s end h n q =
-    (es : List Entry) (self : Installed) → J es self → (x : Installed) → HomeIs f s end es self h x → (k : Class) → at (x .pack .classes) n ≡ some k → q es self x k
+    (es : List Entry) (self : Installed) → J es self → (x : Installed) → HomeIs f s end es self h x → (k : Class) → at (x .pack .classes) n ≡ some k → q
+    es self x k
 
 -- the same wherever the earlier entries end
 abbrev pub ClassThere : Bytes → Bytes → Home → ℕ → Type 0
@@ -98,7 +99,8 @@ FoundAt f s end es self o (classes.At r) = (y : Installed) × HomeIs f s end es 
 FoundAt f s end es self o classes.Nothing = o ≡ none
 
 abbrev pub Kind0ParentIs : Bytes → Bytes → Home → ℕ → ClassFound → Type 0
-Kind0ParentIs f s h n r = AtClass f s h n λ end es self x k. FoundAt f s end es self (kind0Parent (installed (storeLimits s) es) (record { home = x; number = n })) r
+Kind0ParentIs f s h n r = AtClass f s h n λ end es self x k. FoundAt f s end es self
+    (kind0Parent (installed (storeLimits s) es) (record { home = x; number = n })) r
 
 -- the class told lies at the same home, or its entry stands before
 abbrev pub FoundNearer : Home → ClassFound → Type 0
@@ -111,4 +113,5 @@ RecordAt f s h n i = ClassPlaced f s h n (spots.At i)
 
 -- the place of its list of methods
 abbrev pub MethodsIn : Bytes → Bytes → Home → ℕ → ℕ → Type 0
-MethodsIn f s h n r = AtClass f s h n λ end es self x k. (j : ℕ) × Reads (counted mostMethods u1 (method (storeLimits s) (x .pack .domains))) (fileOf f s h) r (k .methods) j
+MethodsIn f s h n r = AtClass f s h n λ end es self x k. (j : ℕ) × Reads (counted mostMethods u1 (method (storeLimits s) (x .pack .domains)))
+    (fileOf f s h) r (k .methods) j

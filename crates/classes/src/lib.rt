@@ -5,7 +5,6 @@ use homes::Home;
 use homes::HomeFound;
 ghost use mathlib.Core.Path.{_≡_};
 ghost use Prim.Native.Nat.{_≤_};
-ghost use Rattle.homes.specs.Homes.{ownHome};
 ghost use Rattle.homes.specs.Found.{Indexed};
 ghost use Rattle.classes.specs.Say.{ClassThere, CountIs, ParentThere, ParentIs, Kind0Is, Kind0ParentIs, FoundNearer, RecordAt, MethodsIn};
 
@@ -19,17 +18,6 @@ pub struct ClassSpot {
 pub enum ClassFound {
     At(ClassSpot),
     Nothing,
-}
-
-// The home of the file being judged over the entries that end at a place.
-pub fn own_home(end: usize) -> Home
-    ensures { λ r. ⌜ r ≡ ownHome end ⌝ }
-{
-    Home {
-        from: 0,
-        to: 0,
-        before: end,
-    }
 }
 
 // How many parents class n of the package at a home has.

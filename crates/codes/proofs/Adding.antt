@@ -51,7 +51,8 @@ module _ (n : ℕ) where
   adds-before old k = adds-none old (negsuc k) refl
 
   -- two lists, one after the other
-  pub adds-join : (old : ℕ → Bool) (mid new : Bytes) (r q : Bool) (xs ys : List ℤ) → Adds n old mid r xs → Adds n (bitAt mid) new q ys → Adds n old new (r && q) (xs ++ ys)
+  pub adds-join : (old : ℕ → Bool) (mid new : Bytes) (r q : Bool) (xs ys : List ℤ) → Adds n old mid r xs → Adds n (bitAt mid) new q ys → Adds n old new
+      (r && q) (xs ++ ys)
   adds-join old mid new true q xs ys a b = record {
     answer = b .answer ∙ ap (λ (t : Bool). t && all (inCode n) ys) (a .answer) ∙ sym (all-join (inCode n) xs ys);
     marked = λ t k. b .marked t k ∙ ap (λ (o : Bool). o || any (goesTo k) ys) (a .marked refl k)
@@ -70,7 +71,8 @@ pub adds-is : {n : ℕ} {old : ℕ → Bool} {new : Bytes} {r q : Bool} {xs ys :
 adds-is {n} {old} {new} {r} {q} {xs} {ys} e f a = subst (λ (b : Bool). Adds n old new b ys) e (subst (Adds n old new r) f a)
 
 -- behind a yes, the others; behind a no, none
-pub adds-yes : {n : ℕ} {old : ℕ → Bool} {mid new : Bytes} {r q : Bool} {z : ℤ} {zs : List ℤ} → r ≡ true → Adds n old mid r (z ∷ []) → Adds n (bitAt mid) new q zs → Adds n old new q (z ∷ zs)
+pub adds-yes : {n : ℕ} {old : ℕ → Bool} {mid new : Bytes} {r q : Bool} {z : ℤ} {zs : List ℤ} → r ≡ true → Adds n old mid r (z ∷ []) → Adds n (bitAt mid)
+    new q zs → Adds n old new q (z ∷ zs)
 adds-yes {n} {old} {mid} {new} {r} {q} {z} {zs} e a b = adds-join n old mid new true q (z ∷ []) zs (adds-is e refl a) b
 
 pub adds-no : {n : ℕ} {old : ℕ → Bool} {mid : Bytes} {r : Bool} {z : ℤ} (zs : List ℤ) → r ≡ false → Adds n old mid r (z ∷ []) → Adds n old mid false (z ∷ zs)

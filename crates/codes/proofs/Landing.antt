@@ -30,7 +30,8 @@ module _ (n : ℕ) (ks : List ℕ) where
   starts-in b [] e = refl
   starts-in b (pos k ∷ zs) e = go (any (eqb k) ks) refl e (starts-in b zs)
     where
-      go : (t : Bool) → any (eqb k) ks ≡ t → (t && all (isStart ks) zs) ≡ true → (all (isStart ks) zs ≡ true → all (inCode n) zs ≡ true) → (ltb k n && all (inCode n) zs) ≡ true
+      go : (t : Bool) → any (eqb k) ks ≡ t → (t && all (isStart ks) zs) ≡ true → (all (isStart ks) zs ≡ true → all (inCode n) zs ≡ true) →
+          (ltb k n && all (inCode n) zs) ≡ true
       go true q e rec = ap (λ (x : Bool). x && all (inCode n) zs) (b k q) ∙ rec e
       go false q e rec = clash e
   starts-in b (negsuc k ∷ zs) e = clash e
@@ -56,15 +57,18 @@ not-starts ks k (pos j ∷ zs) e h = go (eqb k j) refl e (λ r. not-starts ks k 
     second true e = e
     second false e = refl
 
-    go : (t : Bool) → eqb k j ≡ t → (t || any (goesTo k) zs) ≡ true → (any (goesTo k) zs ≡ true → all (isStart ks) zs ≡ false) → (any (eqb j) ks && all (isStart ks) zs) ≡ false
+    go : (t : Bool) → eqb k j ≡ t → (t || any (goesTo k) zs) ≡ true → (any (goesTo k) zs ≡ true → all (isStart ks) zs ≡ false) →
+        (any (eqb j) ks && all (isStart ks) zs) ≡ false
     go true q e rec = ap (λ (x : Bool). x && all (isStart ks) zs) (subst (λ (i : ℕ). any (eqb i) ks ≡ false) (eqb-true k j q) h)
     go false q e rec = second (any (eqb j) ks) (rec e)
 not-starts ks k (negsuc j ∷ zs) e h = refl
 
-module _ (code : Bytes) (inside calls : Bool) (starts targets : Bytes) (ks : List ℕ) (q : split code ≡ some ks) (p : Passed code inside calls starts targets ks) where
+module _ (code : Bytes) (inside calls : Bool) (starts targets : Bytes) (ks : List ℕ) (q : split code ≡ some ks)
+    (p : Passed code inside calls starts targets ks) where
   branches-are : codeBranches code ≡ all (isStart ks) (flat (targetsAt code) ks)
   unfolding codeBranches
-  branches-are = ap (λ (o : Option (List ℕ)). someAnd o (λ starts. all (λ at. all (isStart starts) (targetsAt code at)) starts)) q ∙ all-flat (isStart ks) (targetsAt code) ks
+  branches-are = ap (λ (o : Option (List ℕ)). someAnd o (λ starts. all (λ at. all (isStart starts) (targetsAt code at)) starts)) q ∙ all-flat (isStart ks)
+      (targetsAt code) ks
 
   pub lands-outside : inside ≡ false → codeBranches code ≡ false
   lands-outside e = branches-are ∙ go (all (isStart ks) (flat (targetsAt code) ks)) refl
@@ -76,4 +80,5 @@ module _ (code : Bytes) (inside calls : Bool) (starts targets : Bytes) (ks : Lis
   pub lands-inside : inside ≡ true → (r : Bool) → WithinIs targets starts r → codeBranches code ≡ r
   lands-inside e true w = branches-are ∙ all-starts (length code) ks (flat (targetsAt code) ks) (sym (p .landed .answer) ∙ e)
       (λ k g. sym (p .marked k) ∙ w k (p .landed .marked e k ∙ g))
-  lands-inside e false w = branches-are ∙ not-starts ks (w .0) (flat (targetsAt code) ks) (sym (p .landed .marked e (w .0)) ∙ w .1) (sym (p .marked (w .0)) ∙ w .2)
+  lands-inside e false w = branches-are ∙ not-starts ks (w .0) (flat (targetsAt code) ks) (sym (p .landed .marked e (w .0)) ∙ w .1)
+      (sym (p .marked (w .0)) ∙ w .2)

@@ -38,11 +38,16 @@ module _ (code : Bytes) (last : ℕ) (inside calls : Bool) (starts targets : Byt
     unfolding codeSplits
     splits = go (split code) refl
       where
-        go : (o : Option (List ℕ)) → split code ≡ o → (ks : List ℕ) × (split code ≡ some ks) × (someAnd (split code) (lastMayEnd code) ≡ mayEnd (u1At code (last - 1)))
+        go : (o : Option (List ℕ)) → split code ≡ o → (ks : List ℕ) × (split code ≡ some ks) ×
+            (someAnd (split code) (lastMayEnd code) ≡ mayEnd (u1At code (last - 1)))
         go none q = absurd (z (w .answered ∙ ap lastIn q))
         go (some ks) q =
-            let e : last ≡ lastOf ks = w .answered ∙ ap lastIn q in
-            (ks, q, ap (λ (o : Option (List ℕ)). someAnd o (lastMayEnd code)) q ∙ ends-last code ks (λ y. z (e ∙ y)) ∙ ap (λ (k : ℕ). mayEnd (u1At code (k - 1))) (sym e))
+            let e : last ≡ lastOf ks = w .answered ∙ ap lastIn q in (
+              ks,
+              q,
+              ap (λ (o : Option (List ℕ)). someAnd o (lastMayEnd code)) q ∙ ends-last code ks (λ y. z (e ∙ y)) ∙ ap
+                  (λ (k : ℕ). mayEnd (u1At code (k - 1))) (sym e),
+            )
 
     pub number-ends : mayEnd (u1At code (last - 1)) ≡ false → codeNumber code ≡ 16
     number-ends e = rw (splits .2 ∙ e)

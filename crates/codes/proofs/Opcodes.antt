@@ -70,7 +70,13 @@ module _ (code : Bytes) (at : ℕ) where
 
   pub call-8E : u1At code at ≡ 0x8E → callAt code at ≡ record { kind = interface; index = u2At code (at + 2) } ∷ []
   unfolding callAt
-  call-8E e = rw (ne-eqb (u1At code at) 0x8B (λ q. omega arith), ne-eqb (u1At code at) 0x8C (λ q. omega arith), ne-eqb (u1At code at) 0x8D (λ q. omega arith), eq-eqb (u1At code at) 0x8E e)
+  call-8E e = rw (
+    ne-eqb (u1At code at) 0x8B (λ q. omega arith),
+    ne-eqb (u1At code at) 0x8C (λ q. omega arith),
+    ne-eqb (u1At code at) 0x8D
+        (λ q. omega arith),
+    eq-eqb (u1At code at) 0x8E e,
+  )
 
   pub no-call : (u1At code at ≡ 0x8B → ⊥) → (u1At code at ≡ 0x8C → ⊥) → (u1At code at ≡ 0x8D → ⊥) → (u1At code at ≡ 0x8E → ⊥) → callAt code at ≡ []
   unfolding callAt
@@ -92,7 +98,8 @@ module _ (code : Bytes) (at f n : ℕ) (s : Says (u1At code at) f n) where
   range-is = sym (or-false (within 0x8B 0x8E (u1At code at))) ∙ s .calls
 
   pub form-quiet : (f ≡ 1 → ⊥) → callAt code at ≡ []
-  form-quiet h = no-call code at (λ e. outside (omega arith) (omega arith)) (λ e. outside (omega arith) (omega arith)) (λ e. outside (omega arith) (omega arith)) (λ e. outside (omega arith) (omega arith))
+  form-quiet h = no-call code at (λ e. outside (omega arith) (omega arith)) (λ e. outside (omega arith) (omega arith))
+      (λ e. outside (omega arith) (omega arith)) (λ e. outside (omega arith) (omega arith))
     where
       outside : 0x8B ≤ u1At code at → u1At code at ≤ 0x8E → ⊥
       outside a b = h (eqb-true f 1 (sym range-is ∙ in-range 0x8B 0x8E (u1At code at) a b))

@@ -73,7 +73,8 @@ module _ (o f n : ℕ) where
   unfolding told
   tells-is h m = go (leb f 3) refl h
     where
-      go : (t : Bool) → leb f 3 ≡ t → T (pick t (isPlain n (lengthOf o)) (eqb o (0x6F + f) && eqb n (switchOf f .head))) → lengthOf o ≡ pick t (pick (eqb n 0) undefined (byOpcode n)) (bySwitch (switchOf f))
+      go : (t : Bool) → leb f 3 ≡ t → T (pick t (isPlain n (lengthOf o)) (eqb o (0x6F + f) && eqb n (switchOf f .head))) → lengthOf o ≡ pick t
+          (pick (eqb n 0) undefined (byOpcode n)) (bySwitch (switchOf f))
       go true e k = plain-is n (lengthOf o) k
       go false e k =
           ap lengthOf (eqb→eq o (0x6F + f) (and-l (eqb o (0x6F + f)) (eqb n (switchOf f .head)) k))

@@ -177,17 +177,21 @@ module _ (code : Bytes) (at f n : ℕ) (s : Says (u1At code at) f n) where
     | yes h ↦ plain-short h b
     | no h ↦ let l : 3 < f = omega arith in
         let e : n ≡ switchOf f .head = s .head l in
-        length-switch l ∙ ap (λ (o : Option ℕ). o andThen λ (h : ℕ). switchEntries (switchOf f) code at andThen λ k. fits code at (switchBytes (switchOf f) k)) (fits-none code at (switchOf f .head) (omega arith))
+        length-switch l ∙ ap (λ (o : Option ℕ). o andThen λ (h : ℕ). switchEntries (switchOf f) code at andThen λ k. fits code at
+        (switchBytes (switchOf f) k)) (fits-none code at (switchOf f .head) (omega arith))
   ]
 
   -- a switch whose head the code has
-  switch-entries : 3 < f → at + n ≤ length code → instructionLength code at ≡ (switchEntries (switchOf f) code at andThen λ k. fits code at (switchBytes (switchOf f) k))
+  switch-entries : 3 < f → at + n ≤ length code → instructionLength code at ≡
+      (switchEntries (switchOf f) code at andThen λ k. fits code at (switchBytes (switchOf f) k))
   unfolding lengthAs
   switch-entries l b =
       let e : n ≡ switchOf f .head = s .head l in
-      length-switch l ∙ ap (λ (o : Option ℕ). o andThen λ (h : ℕ). switchEntries (switchOf f) code at andThen λ k. fits code at (switchBytes (switchOf f) k)) (fits-some code at (switchOf f .head) (omega arith))
+      length-switch l ∙ ap (λ (o : Option ℕ). o andThen λ (h : ℕ). switchEntries (switchOf f) code at andThen λ k. fits code at
+      (switchBytes (switchOf f) k)) (fits-some code at (switchOf f .head) (omega arith))
 
-  module _ (m : ℕ) (l : 3 < f) (b : at + n ≤ length code) (e : (switchEntries (switchOf f) code at andThen λ k. some (switchBytes (switchOf f) k)) ≡ nonzero m) where
+  module _ (m : ℕ) (l : 3 < f) (b : at + n ≤ length code) (e : (switchEntries (switchOf f) code at andThen λ k. some (switchBytes (switchOf f) k)) ≡
+      nonzero m) where
     pub switch-fits : at + m ≤ length code → instructionLength code at ≡ nonzero m
     switch-fits h = switch-entries l b ∙ said-fits code at m (switchBytes (switchOf f)) (switchEntries (switchOf f) code at) e h
 
@@ -202,7 +206,8 @@ module _ (code : Bytes) (at f n : ℕ) (s : Says (u1At code at) f n) where
   ]
 
   -- and, of a switch, what its fields say
-  pub whole-switch : 3 < f → Whole code at → (m : ℕ) → (switchEntries (switchOf f) code at andThen λ k. some (switchBytes (switchOf f) k)) ≡ nonzero m → at + m ≤ length code
+  pub whole-switch : 3 < f → Whole code at → (m : ℕ) → (switchEntries (switchOf f) code at andThen λ k. some (switchBytes (switchOf f) k)) ≡ nonzero m →
+      at + m ≤ length code
   whole-switch l w m e = elim (decLe (at + m) (length code)) [
     | yes h ↦ h
     | no h ↦ absurd (subst (λ (o : Option ℕ). T (isSome o)) (switch-short m l (whole-size w) e (omega arith)) w)
@@ -214,7 +219,8 @@ module _ (code : Bytes) (at f n : ℕ) (s : Says (u1At code at) f n) where
   unfolding entriesBy
   whole-entries l w r e =
       let e′ = switch-entries l (whole-size w) in
-      let w′ : T (isSome (switchEntries (switchOf f) code at andThen λ k. fits code at (switchBytes (switchOf f) k))) = subst (λ (o : Option ℕ). T (isSome o)) e′ w in
+      let w′ : T (isSome (switchEntries (switchOf f) code at andThen λ k. fits code at (switchBytes (switchOf f) k))) = subst
+      (λ (o : Option ℕ). T (isSome o)) e′ w in
       let q = by-number (ltb f 6) refl in
       (q w′, in-code (subst (λ (o : Option ℕ). T (isSome (o andThen λ k. fits code at (switchBytes (switchOf f) k)))) (q w′) w′))
     where
@@ -224,16 +230,20 @@ module _ (code : Bytes) (at f n : ℕ) (s : Says (u1At code at) f n) where
         | no h ↦ absurd (subst (λ (o : Option ℕ). T (isSome o)) (fits-none code at (switchBytes (switchOf f) r) (omega arith)) t)
       ]
 
-      by-number : (t : Bool) → ltb f 6 ≡ t → T (isSome (switchEntries (switchOf f) code at andThen λ k. fits code at (switchBytes (switchOf f) k))) → switchEntries (switchOf f) code at ≡ some r
+      by-number : (t : Bool) → ltb f 6 ≡ t → T (isSome (switchEntries (switchOf f) code at andThen λ k. fits code at (switchBytes (switchOf f) k))) →
+          switchEntries (switchOf f) code at ≡ some r
       by-number false q t = e ∙ rw q
       by-number true q t =
           let d : switchEntries (switchOf f) code at ≡ nonzero r = e ∙ rw q in
-          d ∙ nonzero-is r (λ z. absurd (subst (λ (o : Option ℕ). T (isSome (o andThen λ k. fits code at (switchBytes (switchOf f) k)))) (d ∙ nonzero-none r z) t))
+          d ∙ nonzero-is r (λ z. absurd (subst (λ (o : Option ℕ). T (isSome (o andThen λ k. fits code at (switchBytes (switchOf f) k))))
+          (d ∙ nonzero-none r z) t))
 
   -- the bytes of the entries, and those of a branch
-  pub switch-room : 3 < f → Whole code at → (r : ℕ) → switchEntries (switchOf f) code at ≡ entriesBy f r → (entry : ℕ) → switchOf f .entry ≡ entry → at + n + entry * r ≤ length code
+  pub switch-room : 3 < f → Whole code at → (r : ℕ) → switchEntries (switchOf f) code at ≡ entriesBy f r → (entry : ℕ) → switchOf f .entry ≡ entry → at +
+      n + entry * r ≤ length code
   switch-room l w r e entry q =
-      let h : at + (switchOf f .head + entry * r) ≤ length code = subst (λ (k : ℕ). at + (switchOf f .head + k * r) ≤ length code) q (whole-entries l w r e .1) in
+      let h : at + (switchOf f .head + entry * r) ≤ length code = subst (λ (k : ℕ). at + (switchOf f .head + k * r) ≤ length code) q
+      (whole-entries l w r e .1) in
       omega (arith, s .head l)
 
   pub room-s1 : f ≡ 2 → Whole code at → at + 2 ≤ length code

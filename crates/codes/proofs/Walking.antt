@@ -76,7 +76,8 @@ module _ (code : Bytes) (inside calls : Bool) (starts targets : Bytes) (ks : Lis
           go false false x y z = absurd (subst (λ (b : Bool). lib.Dec.T b) (sym z) tt)
 
   -- neither call nor branch, a call, a branch
-  module _ (at f n : ℕ) (starts′ : Bytes) (s : Says (u1At code at) f n) (h : at < length code) (m : (k : ℕ) → bitAt starts′ k ≡ withBit (bitAt starts) at k) where
+  module _ (at f n : ℕ) (starts′ : Bytes) (s : Says (u1At code at) f n) (h : at < length code)
+      (m : (k : ℕ) → bitAt starts′ k ≡ withBit (bitAt starts) at k) where
     stays : f ≤ 1 → Adds (length code) (bitAt targets) targets true (targetsAt code at)
     stays e = adds-is refl (sym (no-targets code at f n s e)) (adds-nil (length code) targets)
 
@@ -90,7 +91,8 @@ module _ (code : Bytes) (inside calls : Bool) (starts targets : Bytes) (ks : Lis
     passed-call e = passed-more at starts′ targets true inside true h m (stays (omega arith)) (sym (and-true inside))
         (sym (ap (λ (b : Bool). not calls && b) (form-calls code at f n s e) ∙ and-false (not calls)))
 
-    pub passed-branch : 1 < f → (targets′ : Bytes) (r : Bool) → Adds (length code) (bitAt targets) targets′ r (targetsAt code at) → Passed code (inside && r) calls starts′ targets′ (ks ++ at ∷ [])
+    pub passed-branch : 1 < f → (targets′ : Bytes) (r : Bool) → Adds (length code) (bitAt targets) targets′ r (targetsAt code at) → Passed code
+        (inside && r) calls starts′ targets′ (ks ++ at ∷ [])
     passed-branch e targets′ r a = passed-more at starts′ targets′ r (inside && r) calls h m a refl (quiet (λ q. omega arith))
 
 -- what is known where a turn begins: the starts before it are passed
@@ -105,14 +107,21 @@ pub record Walking (code : Bytes) (at last : ℕ) (inside calls : Bool) (starts 
   pub within : at ≤ length code
 
 module _ (code : Bytes) where
-  pub walking-start : (starts targets : Bytes) → ((k : ℕ) → bitAt starts k ≡ false) → ((k : ℕ) → bitAt targets k ≡ false) → Walking code 0 0 true false starts targets
+  pub walking-start : (starts targets : Bytes) → ((k : ℕ) → bitAt starts k ≡ false) → ((k : ℕ) → bitAt targets k ≡ false) → Walking code 0 0 true false
+      starts targets
   unfolding split
   walking-start starts targets s t = record {
     before = [];
     fuel = length code;
     enough = omega arith;
     same = joined-nil (splitFrom (length code) code 0);
-    passed = record { marked = s; below = λ k e. absurd (subst (λ (b : Bool). lib.Dec.T b) (sym e) tt); landed = record { answer = refl; marked = λ e k. t k }; called = refl };
+    passed = record {
+      marked = s;
+      below = λ k e. absurd (subst (λ (b : Bool). lib.Dec.T b) (sym e) tt);
+      landed = record
+          { answer = refl; marked = λ e k. t k };
+      called = refl;
+    };
     lastIs = refl;
     bound = omega arith;
     within = omega arith;

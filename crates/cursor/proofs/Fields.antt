@@ -64,8 +64,10 @@ module _ (s : Bytes) (i : ℕ) (h : i < length s) where
   pub aid-cut : 5 ≤ getD s i 0 → getD s i 0 ≤ 16 → length s - (i + 1) < getD s i 0 → Says itself aid s i none
   aid-cut k m l = says-none (rw (front s i h, le-leb 5 (getD s i 0) k, le-leb (getD s i 0) 16 m) (span-ends (getD s i 0) s (i + 1) l))
 
-  pub aid-says : 5 ≤ getD s i 0 → getD s i 0 ≤ 16 → i + 1 + getD s i 0 ≤ length s → (n : ℕ) → n ≡ getD s i 0 → Says itself aid s i (some (take n (drop (i + 1) s), i + 1 + n))
-  aid-says k m l n e = rw e (says {a = take (getD s i 0) (drop (i + 1) s)} {j = i + 1 + getD s i 0} (rw (front s i h, le-leb 5 (getD s i 0) k, le-leb (getD s i 0) 16 m) (span-says (getD s i 0) s (i + 1) l)) refl l)
+  pub aid-says : 5 ≤ getD s i 0 → getD s i 0 ≤ 16 → i + 1 + getD s i 0 ≤ length s → (n : ℕ) → n ≡ getD s i 0 → Says itself aid s i
+      (some (take n (drop (i + 1) s), i + 1 + n))
+  aid-says k m l n e = rw e (says {a = take (getD s i 0) (drop (i + 1) s)} {j = i + 1 + getD s i 0}
+      (rw (front s i h, le-leb 5 (getD s i 0) k, le-leb (getD s i 0) 16 m) (span-says (getD s i 0) s (i + 1) l)) refl l)
 
 pub aid-ends : (s : Bytes) (i : ℕ) → length s ≤ i → Says itself aid s i none
 aid-ends s i h = says-none (rw (drop-of-length-le s {i = i} h))

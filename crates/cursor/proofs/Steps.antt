@@ -30,7 +30,8 @@ module _ {A : Type 0} {f : A → ℕ} {r : Reader A} {s : Bytes} {i : ℕ} {x : 
 
 -- an AID or none
 module _ {r : Reader Aid} {s : Bytes} {i : ℕ} {x : AidField} where
-  pub aid-is : {p : FilePlace} {n : ℕ} {c : Cursor} → x ≡ aidField.Is p n c → Says itself r s i (aidSaid s x) → Says itself r s i (some (take n (drop (p .0) s), c .at .0))
+  pub aid-is : {p : FilePlace} {n : ℕ} {c : Cursor} → x ≡ aidField.Is p n c → Says itself r s i (aidSaid s x) → Says itself r s i
+      (some (take n (drop (p .0) s), c .at .0))
   aid-is e h = subst (λ (y : AidField). Says itself r s i (aidSaid s y)) e h
 
   pub aid-bad : x ≡ aidField.Bad → Says itself r s i (aidSaid s x) → Says itself r s i none
@@ -86,7 +87,8 @@ module _ {A B : Type 0} {r : Reader A} (k : A → Reader B) {s : Bytes} {i : ℕ
   then-leads h none (stops-none p) = let x = said h in stops-none (rw (x .1, x .2) p)
 
   -- with a value of which f is told
-  pub then-told : {C : Type 0} {f : A → C} {c : C} {j : ℕ} → Says f r s i (some (c, j)) → (o : Option ℕ) → ((a : A) → f a ≡ c → Stops (k a) s j o) → Stops (r >>= k) s i o
+  pub then-told : {C : Type 0} {f : A → C} {c : C} {j : ℕ} → Says f r s i (some (c, j)) → (o : Option ℕ) → ((a : A) → f a ≡ c → Stops (k a) s j o) → Stops
+      (r >>= k) s i o
   then-told (says {a} e v h) o p = then-leads (says e refl h) o (p a v)
 
   -- with whatever value

@@ -3,7 +3,7 @@ ghost use mathlib.Core.Path.{_≡_};
 ghost use Prim.Native.Nat.{_≤_};
 ghost use lib.ListN.{length};
 ghost use Rattle.rules.specs.Bytes.{aidLength, u1, u2, aid, span, counted, same};
-ghost use Rattle.rules.specs.Package.{standard, storeLimits};
+ghost use Rattle.rules.specs.Package.{standard};
 ghost use Rattle.cursor.specs.Aids.{bytesOf, padded, Made};
 ghost use Rattle.cursor.specs.Limits.{limitsOf};
 ghost use Rattle.cursor.specs.Says.{Says, Stops, itself, fieldSaid, aidSaid, skipSaid};
@@ -26,13 +26,6 @@ impl Limits {
             code: 4096,
         }
     }
-}
-
-// The limits of a store: document 01's.
-pub fn limits_of(s: &[u8]) -> Limits
-    ensures { λ r. ⌜ limitsOf r ≡ storeLimits (now (s .entry)) ⌝ }
-{
-    Limits::standard()
 }
 
 // An AID: its bytes, zeros behind them, and how many they are.

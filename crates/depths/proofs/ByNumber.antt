@@ -78,7 +78,8 @@ module _ {A : Type 0} (q : A → Bool) (xs : List A) (i n : ℕ) where
   pub count-more : (x : A) → at xs i ≡ some x → Counting → count q xs ≡ n + pick (q x) 1 0 + count q (drop (i + 1) xs)
   count-more x e t = let z = ap (count q) (drop-at xs i x e) in go (q x) z
     where
-      go : (b : Bool) → count q (drop i xs) ≡ pick b (suc (count q (drop (i + 1) xs))) (count q (drop (i + 1) xs)) → count q xs ≡ n + pick b 1 0 + count q (drop (i + 1) xs)
+      go : (b : Bool) → count q (drop i xs) ≡ pick b (suc (count q (drop (i + 1) xs))) (count q (drop (i + 1) xs)) → count q xs ≡ n + pick b 1 0 + count q
+          (drop (i + 1) xs)
       go true z = omega (arith, t)
       go false z = omega (arith, t)
 

@@ -46,7 +46,8 @@ imports-there f n p c h l q e = omega (arith, h, c l q e)
 pub own-row : (f s : Bytes) (end : ℕ) (t rows : List ℕ) → RowsTrue f s end t rows → RowTrue f rows 0
 own-row f s end t rows r = r .row 0 (omega arith)
 
-pub own-written : (f s : Bytes) (end : ℕ) (t rows new : List ℕ) → length new ≡ length rows → RowsTrue f s end t rows → RowTrue f new 0 × Beside rows new 0 → RowsTrue f s end t new
+pub own-written : (f s : Bytes) (end : ℕ) (t rows new : List ℕ) → length new ≡ length rows → RowsTrue f s end t rows → RowTrue f new 0 × Beside rows new
+    0 → RowsTrue f s end t new
 own-written f s end t rows new l r w = rows-written f s end t rows new 0 l r (w .0) (w .1)
 
 -- a class's number is below the greatest count
@@ -73,13 +74,16 @@ module _ (f s : Bytes) (end : ℕ) where
         go (suc q) h = rw (at-none (self .pack .imports) q (omega arith))
 
     module _ (t : List ℕ) (i : ImportHomes f s end t) (g : PackageThere f p) where
-      exists-as : (b : Bool) → (OfJudged f s end λ es self. (y : Installed) → packageNumbered (installed (storeLimits s) es) self p ≡ some y → HomeIs f s end es self (homeOf end t p) y → b ≡ isSome (at (y .pack .classes) c)) →
+      exists-as : (b : Bool) → (OfJudged f s end λ es self. (y : Installed) → packageNumbered (installed (storeLimits s) es) self p ≡ some y → HomeIs f s
+          end es self (homeOf end t p) y → b ≡ isSome (at (y .pack .classes) c)) →
           (d r : Bool) → eqb p 0 ≡ d → r ≡ (b && (not d || ltb c n)) → ExistsIs f s end n (record { pack = p; class = c }) r
       exists-as b q d r z w es self j =
           let y = number-home f s end t i p g es self j in
-          w ∙ ap₂ (λ (u v : Bool). u && (not v || ltb c n)) (q es self j (y .0) (y .1) (y .2)) (sym z) ∙ sym (exists-some (installed (storeLimits s) es) self (y .0) n p c (y .1))
+          w ∙ ap₂ (λ (u v : Bool). u && (not v || ltb c n)) (q es self j (y .0) (y .1) (y .2)) (sym z) ∙ sym
+          (exists-some (installed (storeLimits s) es) self (y .0) n p c (y .1))
 
-      pub exists-at : (k : ℕ) → ClassPlaced f s (homeOf end t p) c (At k) → (d r : Bool) → eqb p 0 ≡ d → r ≡ (not d || ltb c n) → ExistsIs f s end n (record { pack = p; class = c }) r
+      pub exists-at : (k : ℕ) → ClassPlaced f s (homeOf end t p) c (At k) → (d r : Bool) → eqb p 0 ≡ d → r ≡ (not d || ltb c n) → ExistsIs f s end n
+          (record { pack = p; class = c }) r
       exists-at k q = exists-as true λ es self j y e h. let z = placed-at (q end es self j y h) in rw (z .2)
 
       pub exists-not : ClassPlaced f s (homeOf end t p) c Nothing → ExistsIs f s end n (record { pack = p; class = c }) false
@@ -105,7 +109,8 @@ module _ (f s : Bytes) (end : ℕ) where
     pub own-parent : Judged f s end → (i m : ℕ) → m ≡ getD f (a + 1) 0 → i < m → a + 3 + 2 * i < length f
     own-parent t i m z h = ((own-record t) .1 .parent i (omega (arith, z))) .to
 
-    module _ (i m b c : ℕ) (z : m ≡ getD f (a + 1) 0) (h : i < m) (zb : b ≡ getD f (a + 2 + 2 * i) 0) (zc : c ≡ getD f (a + 3 + 2 * i) 0) (t : ExistLeft n i) where
+    module _ (i m b c : ℕ) (z : m ≡ getD f (a + 1) 0) (h : i < m) (zb : b ≡ getD f (a + 2 + 2 * i) 0) (zc : c ≡ getD f (a + 3 + 2 * i) 0)
+        (t : ExistLeft n i) where
       parent-is : (v : Bool) → ExistsIs f s end n (record { pack = b; class = c }) v → OfOwnClass f s end n λ es self k.
           (x : ClassNumber) × (at (k .parents) i ≡ some x) × (parentExists (installed (storeLimits s) es) self n x ≡ v)
       parent-is v y es self u k e =
@@ -121,12 +126,14 @@ module _ (f s : Bytes) (end : ℕ) where
       pub exist-bad : ExistsIs f s end n (record { pack = b; class = c }) false → AllExist f s end n false
       exist-bad y es self u k e =
           let w = parent-is false y es self u k e in
-          sym (all-from (parentExists (installed (storeLimits s) es) self n) 0 (k .parents) ∙ left-bad (λ j x. parentExists (installed (storeLimits s) es) self n x) (k .parents) i (w .0) (w .1) (w .2) (t es self u k e))
+          sym (all-from (parentExists (installed (storeLimits s) es) self n) 0 (k .parents) ∙ left-bad
+          (λ j x. parentExists (installed (storeLimits s) es) self n x) (k .parents) i (w .0) (w .1) (w .2) (t es self u k e))
 
     pub exist-done : (i m : ℕ) → m ≡ getD f (a + 1) 0 → m ≤ i → ExistLeft n i → AllExist f s end n true
     exist-done i m z h t es self u k e =
         let w = own-by es self u k e in
-        sym (all-from (parentExists (installed (storeLimits s) es) self n) 0 (k .parents) ∙ left-done (λ j x. parentExists (installed (storeLimits s) es) self n x) (k .parents) i (omega (arith, z, w .count)) (t es self u k e))
+        sym (all-from (parentExists (installed (storeLimits s) es) self n) 0 (k .parents) ∙ left-done
+        (λ j x. parentExists (installed (storeLimits s) es) self n x) (k .parents) i (omega (arith, z, w .count)) (t es self u k e))
 
   -- the own classes from class n on are left
   abbrev pub ClassesLeft : ℕ → Type 0
@@ -139,12 +146,14 @@ module _ (f s : Bytes) (end : ℕ) where
     pub classes-more : (a : ℕ) → ClassFrom f n a → AllExist f s end n true → ClassesLeft (n + 1)
     classes-more a h q es self i =
         let y = own-at n a h es self i in
-        left-more (λ j k. all (parentExists (installed (storeLimits s) es) self j) (k .parents)) (self .pack .classes) n (y .0) (y .1) (sym (q es self i (y .0) (y .1))) (t es self i)
+        left-more (λ j k. all (parentExists (installed (storeLimits s) es) self j) (k .parents)) (self .pack .classes) n (y .0) (y .1)
+        (sym (q es self i (y .0) (y .1))) (t es self i)
 
     pub classes-bad : (a : ℕ) → ClassFrom f n a → AllExist f s end n false → ParentsExist f s end false
     classes-bad a h q es self i =
         let y = own-at n a h es self i in
-        sym (left-bad (λ j k. all (parentExists (installed (storeLimits s) es) self j) (k .parents)) (self .pack .classes) n (y .0) (y .1) (sym (q es self i (y .0) (y .1))) (t es self i))
+        sym (left-bad (λ j k. all (parentExists (installed (storeLimits s) es) self j) (k .parents)) (self .pack .classes) n (y .0) (y .1)
+        (sym (q es self i (y .0) (y .1))) (t es self i))
 
     pub classes-done : files.ClassPlaced f n Nothing → ParentsExist f s end true
     classes-done h es self i =

@@ -45,7 +45,8 @@ module _ (f s : Bytes) (end : ℕ) where
   abbrev pub DepthsLeft : ℕ → ℕ → Type 0
   DepthsLeft n figure = OfParents f s end λ es self.
       Left (λ j k. depthWithin (storeLimits s) (installed (storeLimits s) es) self j) (self .pack .classes) n
-      × (deepestFrom (storeLimits s) (installed (storeLimits s) es) self 0 (self .pack .classes) ≡ max figure (deepestFrom (storeLimits s) (installed (storeLimits s) es) self n (drop n (self .pack .classes))))
+      × (deepestFrom (storeLimits s) (installed (storeLimits s) es) self 0 (self .pack .classes) ≡ max figure
+      (deepestFrom (storeLimits s) (installed (storeLimits s) es) self n (drop n (self .pack .classes))))
 
   pub kinds-start : KindsLeft 0
   kinds-start es self g = refl
@@ -61,12 +62,15 @@ module _ (f s : Bytes) (end : ℕ) where
     pub kinds-next : KindsLeft n → KindsIs f s end (ownHome end) n true → KindsLeft (n + 1)
     kinds-next t q es self g =
         let y = own-is es self g in
-        left-more (λ j k. parentKinds (installed (storeLimits s) es) self k) (self .pack .classes) n (y .0) (y .1 .is) (sym (q es self self (y .0) (y .1))) (t es self g)
+        left-more (λ j k. parentKinds (installed (storeLimits s) es) self k) (self .pack .classes) n (y .0) (y .1 .is)
+        (sym (q es self self (y .0) (y .1))) (t es self g)
 
     pub kinds-bad : (ds : List ℕ) → KindsLeft n → KindsIs f s end (ownHome end) n false → LaterParts f s end ds No
     kinds-bad ds t q es self g =
         let y = own-is es self g in
-        let e = all-from (parentKinds (installed (storeLimits s) es) self) 0 (self .pack .classes) ∙ left-bad (λ j k. parentKinds (installed (storeLimits s) es) self k) (self .pack .classes) n (y .0) (y .1 .is) (sym (q es self self (y .0) (y .1))) (t es self g) in
+        let e = all-from (parentKinds (installed (storeLimits s) es) self) 0 (self .pack .classes) ∙ left-bad
+        (λ j k. parentKinds (installed (storeLimits s) es) self k) (self .pack .classes) n (y .0) (y .1 .is) (sym (q es self self (y .0) (y .1)))
+        (t es self g) in
         rw e
 
     module _ (figure : ℕ) (t : DepthsLeft n figure) (most : ℕ) (l : most ≡ storeLimits s .depth) (d : ℕ) (q : DepthIs f s end (ownHome end) n d) where
@@ -79,16 +83,20 @@ module _ (f s : Bytes) (end : ℕ) where
           let b = t es self g in
           let e = q es self self (y .0) (y .1) in
           let r = ap (deepestFrom (storeLimits s) (installed (storeLimits s) es) self n) (drop-at (self .pack .classes) n (y .0) (y .1 .is))
-          ∙ ap₂ (λ (u : ℕ) (j : ℕ). max u (deepestFrom (storeLimits s) (installed (storeLimits s) es) self j (drop (n + 1) (self .pack .classes)))) (sym e) (sym (add-one n)) in (
-            left-more (λ j k. depthWithin (storeLimits s) (installed (storeLimits s) es) self j) (self .pack .classes) n (y .0) (y .1 .is) (within-is true (le-leb d most z) es self g) (b .0),
+          ∙ ap₂ (λ (u : ℕ) (j : ℕ). max u (deepestFrom (storeLimits s) (installed (storeLimits s) es) self j (drop (n + 1) (self .pack .classes))))
+          (sym e) (sym (add-one n)) in (
+            left-more (λ j k. depthWithin (storeLimits s) (installed (storeLimits s) es) self j) (self .pack .classes) n (y .0) (y .1 .is)
+                (within-is true (le-leb d most z) es self g) (b .0),
             omega (arith, b .1, r, w),
           )
 
       pub depths-bad : (ds : List ℕ) → most < d → LaterParts f s end ds No
       depths-bad ds z es self g =
           let y = own-is es self g in
-          let e = left-bad (λ j k. depthWithin (storeLimits s) (installed (storeLimits s) es) self j) (self .pack .classes) n (y .0) (y .1 .is) (within-is false (lt-leb d most z) es self g) ((t es self g) .0) in
-          ap (λ (b : Bool). all (parentKinds (installed (storeLimits s) es) self) (self .pack .classes) && b) e ∙ and-none (all (parentKinds (installed (storeLimits s) es) self) (self .pack .classes))
+          let e = left-bad (λ j k. depthWithin (storeLimits s) (installed (storeLimits s) es) self j) (self .pack .classes) n (y .0) (y .1 .is)
+          (within-is false (lt-leb d most z) es self g) ((t es self g) .0) in
+          ap (λ (b : Bool). all (parentKinds (installed (storeLimits s) es) self) (self .pack .classes) && b) e ∙ and-none
+          (all (parentKinds (installed (storeLimits s) es) self) (self .pack .classes))
 
   -- the depths of the own classes below n
   pub own-start : (ds : List ℕ) → length ds ≡ mostClasses → OwnTo f s end 0 ds
@@ -120,12 +128,14 @@ module _ (f s : Bytes) (end : ℕ) where
     pub later-done : (figure : ℕ) (ds : List ℕ) → KindsLeft n → DepthsLeft n figure → OwnTo f s end n ds → LaterParts f s end ds (Yes figure)
     later-done figure ds t u o = (both, own-all ds o)
       where
-        both : OfParents f s end λ es self. (laterParts s es self ≡ true) × (figure ≡ deepestFrom (storeLimits s) (installed (storeLimits s) es) self 0 (self .pack .classes))
+        both : OfParents f s end λ es self. (laterParts s es self ≡ true) ×
+            (figure ≡ deepestFrom (storeLimits s) (installed (storeLimits s) es) self 0 (self .pack .classes))
         both es self g =
             let e = placed-none (over (storeLimits s) (self .pack) (g .imported .setting .reads)) in
             let b = u es self g in
             let r = ap (deepestFrom (storeLimits s) (installed (storeLimits s) es) self n) (drop-none (self .pack .classes) n e) in
-            let k = all-from (parentKinds (installed (storeLimits s) es) self) 0 (self .pack .classes) ∙ left-none (λ j k. parentKinds (installed (storeLimits s) es) self k) (self .pack .classes) n e (t es self g) in
+            let k = all-from (parentKinds (installed (storeLimits s) es) self) 0 (self .pack .classes) ∙ left-none
+            (λ j k. parentKinds (installed (storeLimits s) es) self k) (self .pack .classes) n e (t es self g) in
             let d = left-none (λ j k. depthWithin (storeLimits s) (installed (storeLimits s) es) self j) (self .pack .classes) n e (b .0) in
             (ap₂ _&&_ k d, omega (arith, b .1, r))
 
@@ -145,7 +155,8 @@ module _ (f s : Bytes) (end : ℕ) where
     parents-there t = (t .0, t .1, with-parents (t .0) (t .1) (t .2))
 
     -- the answer is that of the later parts
-    later-is : (es : List Entry) (self : Installed) → Imports f s end es self → q14-parents (storeLimits s) (installed (storeLimits s) es) self ≡ laterParts s es self
+    later-is : (es : List Entry) (self : Installed) → Imports f s end es self → q14-parents (storeLimits s) (installed (storeLimits s) es) self ≡
+        laterParts s es self
     unfolding q14-parents
     later-is es self i = ap (λ (b : Bool). b && laterParts s es self) (sym (p es self i))
 
@@ -159,4 +170,8 @@ module _ (f s : Bytes) (end : ℕ) where
 
   -- with a yes each parent exists
   pub parented-parents : (v : ℕ) → ParentedIs f s end (Yes v) → (es : List Entry) (self : Installed) → Imports f s end es self → Parents f s end es self
-  parented-parents v q es self i = record { imported = i; exist = (parents-yes (storeLimits s) (installed (storeLimits s) es) self (of-true ((q es self i) .0))) .exist }
+  parented-parents v q es self i = record {
+    imported = i;
+    exist = (parents-yes (storeLimits s) (installed (storeLimits s) es) self
+        (of-true ((q es self i) .0))) .exist;
+  }

@@ -1,5 +1,4 @@
 -- The laws behind question 14.
-pub mod Keys
 pub mod ByNumber
 pub mod Records
 pub mod Exist

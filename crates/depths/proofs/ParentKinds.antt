@@ -20,7 +20,7 @@ use Rattle.homes.specs.Homes as homes
 use Rattle.homes.specs.Found.{ImportHomes}
 use Rattle.homes.specs.declared.Home.{Home}
 use Rattle.homes.proofs.Homes.{parent-smaller, home-reads}
-use Rattle.named.specs.Named.{homeOf, PackageThere, ClassFrom}
+use Rattle.named.specs.Named.{Judged, homeOf, PackageThere, ClassFrom}
 use Rattle.named.proofs.Numbers.{number-home}
 use Rattle.depths.specs.Depths.{ParentsThere, ImportCount, ClassIs, ClassThere, OfClass, ParentAt, ParentIs, Kind0Is, Kind0Count, KindsIs}
 use Rattle.depths.proofs.ByNumber.{none-counted, Counting, count-more, count-done}
@@ -42,15 +42,29 @@ number-below is self (suc k) y e = go (at (self .pack .imports) k) refl e
     go (some a) z q = let b = at-below (self .pack .imports) k a z in omega arith
 
 -- a parent that exists has a package and a record there
-package-of : (o : Option Installed) (c : ℕ) → T (someAnd (o andThen λ v. some (own v c)) (λ d. isSome (recordOf d))) → (y : Installed) × (o ≡ some y) × (k : Class) × (at (y .pack .classes) c ≡ some k)
+package-of : (o : Option Installed) (c : ℕ) → T (someAnd (o andThen λ v. some (own v c)) (λ d. isSome (recordOf d))) → (y : Installed) × (o ≡ some y) ×
+    (k : Class) × (at (y .pack .classes) c ≡ some k)
 package-of none c h = absurd h
 package-of (some y) c h = let v = some-is (at (y .pack .classes) c) h in (y, refl, v .0, v .1)
 
+-- what questions 12 and 13 leave to be asked
+pub judged-here : (f s : Bytes) (end : ℕ) → ParentsThere f s end → Judged f s end
+judged-here f s end g = (g .0, g .1, g .2 .imported)
+
+-- parent i of own class n, which is listed as class c of package b: an own one has a smaller number
+pub record Listed (f s : Bytes) (end n i : ℕ) (t : List ℕ) (b c : ℕ) : Type 0 where
+  pub there : PackageThere f b
+  pub class : ClassThere f s end (homeOf end t b) c
+  pub smaller : b ≡ 0 → c < n
+  pub is : ParentIs f s end n i (homeOf end t b) c
+
 module _ (f s : Bytes) (end n a : ℕ) (q : ClassFrom f n a) where
   pub class-by : (es : List Entry) (self x : Installed) (k : Class) → ClassIs f s end (ownHome end) n es self x k → RecordBy f a k
-  class-by es self x k c = record-by (storeLimits s) f (x .pack) n a k (home-reads f s end es self (c .parents .imported .setting) (ownHome end) x (c .home)) q (c .is)
+  class-by es self x k c = record-by (storeLimits s) f (x .pack) n a k (home-reads f s end es self (c .parents .imported .setting) (ownHome end) x
+      (c .home)) q (c .is)
 
-  module _ (t : List ℕ) (u : ImportHomes f s end t) (r : ℕ) (few : ImportCount f r) (i m b c : ℕ) (z : m ≡ getD f (a + 1) 0) (h : i < m) (zb : b ≡ getD f (a + 2 + 2 * i) 0) (zc : c ≡ getD f (a + 3 + 2 * i) 0) where
+  module _ (t : List ℕ) (u : ImportHomes f s end t) (r : ℕ) (few : ImportCount f r) (i m b c : ℕ) (z : m ≡ getD f (a + 1) 0) (h : i < m)
+      (zb : b ≡ getD f (a + 2 + 2 * i) 0) (zc : c ≡ getD f (a + 3 + 2 * i) 0) where
     -- the listed parent, by its bytes and as a class that exists
     pub record Lists (es : List Entry) (self : Installed) (k : Class) : Type 0 where
       pub number : ClassNumber
@@ -66,29 +80,41 @@ module _ (f s : Bytes) (end n a : ℕ) (q : ClassFrom f n a) where
     lists es self g k e =
         let w = (record-by (storeLimits s) f (self .pack) n a k (g .imported .setting .reads) q e) .parent i (omega (arith, z)) in
         let p = allFrom-zero _ (self .pack .classes) n k (g .exist) e in
-        let x = and-l (someAnd (classNamed (installed (storeLimits s) es) self (w .number)) (λ d. isSome (recordOf d))) _ (all-mem (parentExists (installed (storeLimits s) es) self n) p (at-mem (k .parents) i (w .number) (w .listed))) in
+        let x = and-l (someAnd (classNamed (installed (storeLimits s) es) self (w .number)) (λ d. isSome (recordOf d))) _
+        (all-mem (parentExists (installed (storeLimits s) es) self n) p (at-mem (k .parents) i (w .number) (w .listed))) in
         let y = package-of (packageNumbered (installed (storeLimits s) es) self (w .number .pack)) (w .number .class) x in
         let zp : b ≡ w .number .pack = zb ∙ w .pack in
         let zk : c ≡ w .number .class = zc ∙ w .class in
-        record { number = w .number; listed = w .listed; pack = zp; class = zk; home = y .0; is = ap (packageNumbered (installed (storeLimits s) es) self) zp ∙ y .1; record′ = y .2; there = ap (at (y .0 .pack .classes)) zk ∙ y .3 }
+        record {
+          number = w .number;
+          listed = w .listed;
+          pack = zp;
+          class = zk;
+          home = y .0;
+          is = ap (packageNumbered (installed (storeLimits s) es) self)
+              zp ∙ y .1;
+          record′ = y .2;
+          there = ap (at (y .0 .pack .classes)) zk ∙ y .3;
+        }
 
     module _ (g : ParentsThere f s end) where
       one : Lists (g .0) (g .1) ((own-at f s end n a q (g .0) (g .1) (g .2 .imported)) .0)
       one = let y = own-at f s end n a q (g .0) (g .1) (g .2 .imported) in lists (g .0) (g .1) (g .2) (y .0) (y .1)
 
-      pub package-there : PackageThere f b
+      package-there : PackageThere f b
       package-there l p e =
           let d = number-below (installed (storeLimits s) (g .0)) (g .1) b (one .home) (one .is) in
           omega (arith, d, few l p e, few (storeLimits s) (g .1 .pack) (g .2 .imported .setting .reads))
 
       -- an own one has a smaller number
-      pub own-smaller : b ≡ 0 → c < n
+      own-smaller : b ≡ 0 → c < n
       own-smaller e =
           let y = own-at f s end n a q (g .0) (g .1) (g .2 .imported) in
-          let v = parent-smaller f s end (g .0) (g .1) (g .2) (ownHome end) (g .1) homes.own n (y .0) (y .1) (one .number) (at-mem (y .0 .parents) i (one .number) (one .listed)) (sym (one .pack) ∙ e) in
+          let v = parent-smaller f s end (g .0) (g .1) (g .2) (ownHome end) (g .1) homes.own n (y .0) (y .1) (one .number)
+          (at-mem (y .0 .parents) i (one .number) (one .listed)) (sym (one .pack) ∙ e) in
           omega (arith, v, one .class)
 
-      pub parent-is : ParentIs f s end n i (homeOf end t b) c
+      parent-is : ParentIs f s end n i (homeOf end t b) c
       parent-is es self x k d = subst (λ (v : Installed). ParentAt f s end es self v k i (homeOf end t b) c) (sym e) here
         where
           e : x ≡ self
@@ -100,15 +126,27 @@ module _ (f s : Bytes) (end n a : ℕ) (q : ClassFrom f n a) where
               let y = number-home f s end t u b package-there es self (d .parents .imported) in
               let v : y .0 ≡ l .home = Option·some-injective _ _ (sym (y .1) ∙ l .is) in
               let m : classNamed (installed (storeLimits s) es) self (l .number) ≡ some (own (l .home) c) =
-              ap₂ (λ (o : Option Installed) (j : ℕ). o andThen λ w. some (own w j)) (ap (packageNumbered (installed (storeLimits s) es) self) (sym (l .pack)) ∙ l .is) (sym (l .class)) in
-              record { number = l .number; listed = l .listed; home = l .home; named = m; class = l .record′; there = record { parents = d .parents; home = subst (HomeIs f s end es self (homeOf end t b)) v (y .2); is = l .there } }
+              ap₂ (λ (o : Option Installed) (j : ℕ). o andThen λ w. some (own w j))
+              (ap (packageNumbered (installed (storeLimits s) es) self) (sym (l .pack)) ∙ l .is) (sym (l .class)) in
+              record {
+                number = l .number;
+                listed = l .listed;
+                home = l .home;
+                named = m;
+                class = l .record′;
+                there = record
+                    { parents = d .parents; home = subst (HomeIs f s end es self (homeOf end t b)) v (y .2); is = l .there };
+              }
 
       -- it is a class
-      pub parent-class : ClassThere f s end (homeOf end t b) c
+      parent-class : ClassThere f s end (homeOf end t b) c
       parent-class =
           let y = own-at f s end n a q (g .0) (g .1) (g .2 .imported) in
           let p = parent-is (g .0) (g .1) (g .1) (y .0) (record { parents = g .2; home = homes.own; is = y .1 }) in
           (g .0, g .1, p .home, p .class, p .there)
+
+      pub listed : Listed f s end n i t b c
+      listed = record { there = package-there; class = parent-class; smaller = own-smaller; is = parent-is }
 
 -- the kind of a class, by the first byte of its record
 module _ (f s : Bytes) (end : ℕ) (h : Home) (n v : ℕ) (k0 : ℕ) (low : v ≡ 1 → k0 ≡ 0) (high : (v ≡ 1 → ⊥) → k0 ≡ 1) where
@@ -131,23 +169,29 @@ module _ (f s : Bytes) (end n : ℕ) where
   kinds-more i m g b v t p q es self x k c =
       let y = p es self x k c in
       let e : parentIsKind0 (installed (storeLimits s) es) x (y .number) ≡ not (y .class .interface) = rw (y .named, y .there .is) in
-      let z : v ≡ pick (parentIsKind0 (installed (storeLimits s) es) x (y .number)) 1 0 = q es self (y .home) (y .class) (y .there) ∙ flip (y .class .interface) ∙ ap (λ (w : Bool). pick w 1 0) (sym e) in
-      count-more (parentIsKind0 (installed (storeLimits s) es) x) (k .parents) i m (y .number) (y .listed) (t es self x k c) ∙ ap (λ (w : ℕ). m + w + count (parentIsKind0 (installed (storeLimits s) es) x) (drop (i + 1) (k .parents))) (sym z)
+      let z : v ≡ pick (parentIsKind0 (installed (storeLimits s) es) x (y .number)) 1 0 = q es self (y .home) (y .class) (y .there) ∙ flip
+      (y .class .interface) ∙ ap (λ (w : Bool). pick w 1 0) (sym e) in
+      count-more (parentIsKind0 (installed (storeLimits s) es) x) (k .parents) i m (y .number) (y .listed) (t es self x k c) ∙ ap
+      (λ (w : ℕ). m + w + count (parentIsKind0 (installed (storeLimits s) es) x) (drop (i + 1) (k .parents))) (sym z)
     where
       flip : (b : Bool) → _≡_ {A = ℕ} (pick b 0 1) (pick (not b) 1 0)
       flip true = refl
       flip false = refl
 
   pub kinds-done : (a i m v : ℕ) → ClassFrom f n a → v ≡ getD f (a + 1) 0 → v ≤ i → Kinds i m → Kind0Count f s end (ownHome end) n m
-  kinds-done a i m v q z h t es self x k c = count-done (parentIsKind0 (installed (storeLimits s) es) x) (k .parents) i m (omega (arith, z, h, (class-by f s end n a q es self x k c) .count)) (t es self x k c)
+  kinds-done a i m v q z h t es self x k c = count-done (parentIsKind0 (installed (storeLimits s) es) x) (k .parents) i m
+      (omega (arith, z, h, (class-by f s end n a q es self x k c) .count)) (t es self x k c)
 
   -- what is asked of a class, as a bound of that count
   pub kinds-is : (m v : ℕ) → Kind0Is f s end (ownHome end) n v → Kind0Count f s end (ownHome end) n m → KindsIs f s end (ownHome end) n (leb m v)
   kinds-is m v p q es self x k c =
       ap₂ leb (q es self x k c) (p es self x k c) ∙ go (k .interface) (none-counted (parentIsKind0 (installed (storeLimits s) es) x) (k .parents))
     where
-      go : (b : Bool) → all (λ y. not (parentIsKind0 (installed (storeLimits s) es) x y)) (k .parents) ≡ leb (count (parentIsKind0 (installed (storeLimits s) es) x) (k .parents)) 0 →
-          leb (count (parentIsKind0 (installed (storeLimits s) es) x) (k .parents)) (pick b 0 1) ≡ pick b (all (λ y. not (parentIsKind0 (installed (storeLimits s) es) x y)) (k .parents)) (leb (count (parentIsKind0 (installed (storeLimits s) es) x) (k .parents)) 1)
+      go : (b : Bool) → all (λ y. not (parentIsKind0 (installed (storeLimits s) es) x y)) (k .parents) ≡ leb
+          (count (parentIsKind0 (installed (storeLimits s) es) x) (k .parents)) 0 →
+          leb (count (parentIsKind0 (installed (storeLimits s) es) x) (k .parents)) (pick b 0 1) ≡ pick b
+          (all (λ y. not (parentIsKind0 (installed (storeLimits s) es) x y)) (k .parents))
+          (leb (count (parentIsKind0 (installed (storeLimits s) es) x) (k .parents)) 1)
       go true e = sym e
       go false e = refl
 

@@ -37,7 +37,13 @@ class-by l ds g a k j p =
     let c = reads-counted (l .parents) u1 classNumber steady-u1 g (a + 1) (k .parents) (t .middle) (t .parents) in
     let u = reads-u1 g (a + 1) (c .number) (c .place) (c .count) in
     let m = many-length classNumber steady-number (c .number) g (c .place) (k .parents) (t .middle) (c .list) in
-    record { inside = u .inside; kind = t .interface; count = u .byte ∙ sym m; parent = λ i h. go (c .number) (c .place) (u .next) (c .list) i (omega (arith, u .byte)) }
+    record {
+      inside = u .inside;
+      kind = t .interface;
+      count = u .byte ∙ sym m;
+      parent = λ i h. go (c .number) (c .place) (u .next) (c .list) i
+          (omega (arith, u .byte));
+    }
   where
     go : (n b : ℕ) → a + 1 + 1 ≡ b → {e : ℕ} → Reads (many n classNumber) g b (k .parents) e → (i : ℕ) → i < n → ParentBy g a k i
     go n b z {e} l i h =
@@ -54,7 +60,8 @@ class-by l ds g a k j p =
         }
 
 -- the record of a class of a file that reads
-pub record-by : (l : Limits) (g : Bytes) (p : Package) (n a : ℕ) (k : Class) → readFile l g ≡ some p → ClassFrom g n a → at (p .classes) n ≡ some k → RecordBy g a k
+pub record-by : (l : Limits) (g : Bytes) (p : Package) (n a : ℕ) (k : Class) → readFile l g ≡ some p → ClassFrom g n a → at (p .classes) n ≡ some k →
+    RecordBy g a k
 record-by l g p n a k e h q =
     let z = from-front g n a h l p e in
     let w : z .one ≡ k = Option·some-injective _ _ (sym (z .is) ∙ q) in

@@ -53,7 +53,8 @@ capped-max k a b = elim (decLe a k) [
 
 -- a depth told up to k is the one told up to k + 1, or k where that is more
 module _ (is : List Installed) where
-  greatest-capped : (k : ℕ) (cs : List ClassAt) → ((c : ClassAt) → depthUpTo is k c ≡ capped k (depthUpTo is (suc k) c)) → greatest (depthUpTo is k) cs ≡ capped k (greatest (depthUpTo is (suc k)) cs)
+  greatest-capped : (k : ℕ) (cs : List ClassAt) → ((c : ClassAt) → depthUpTo is k c ≡ capped k (depthUpTo is (suc k) c)) → greatest (depthUpTo is k) cs ≡
+      capped k (greatest (depthUpTo is (suc k)) cs)
   greatest-capped k [] h = sym (capped-low k 0 (omega arith))
   greatest-capped k (c ∷ cs) h = ap₂ max (h c) (greatest-capped k cs h) ∙ sym (capped-max k (depthUpTo is (suc k) c) (greatest (depthUpTo is (suc k)) cs))
 
@@ -72,15 +73,19 @@ depth-small s most e = omega (arith, e, (limits-range s) .0)
 
 module _ (f s : Bytes) (end n : ℕ) where
   -- an own class
-  pub depth-is : (most d r : ℕ) → most ≡ storeLimits s .depth → DeepestIs f s end (ownHome end) n d → r ≡ suc (capped most d) → DepthIs f s end (ownHome end) n r
+  pub depth-is : (most d r : ℕ) → most ≡ storeLimits s .depth → DeepestIs f s end (ownHome end) n d → r ≡ suc (capped most d) → DepthIs f s end
+      (ownHome end) n r
   depth-is most d r e q z es self x k c =
-      let p : parentsOf (installed (storeLimits s) es) (own x n) ≡ parentsNamed (installed (storeLimits s) es) x (k .parents) = ap (λ (o : _). listOf o (λ (k : Class). parentsNamed (installed (storeLimits s) es) x (k .parents))) (c .is) in
-      z ∙ ap₂ (λ (m v : ℕ). suc (capped m v)) e (q es self x k c ∙ ap (greatest (depthOf s es)) (sym p)) ∙ sym (depth-more (installed (storeLimits s) es) (storeLimits s .depth) (own x n))
+      let p : parentsOf (installed (storeLimits s) es) (own x n) ≡ parentsNamed (installed (storeLimits s) es) x (k .parents) = ap
+      (λ (o : _). listOf o (λ (k : Class). parentsNamed (installed (storeLimits s) es) x (k .parents))) (c .is) in
+      z ∙ ap₂ (λ (m v : ℕ). suc (capped m v)) e (q es self x k c ∙ ap (greatest (depthOf s es)) (sym p)) ∙ sym
+      (depth-more (installed (storeLimits s) es) (storeLimits s .depth) (own x n))
 
   -- the greatest depth of its parents so far, those from parent i on left
   abbrev pub Deepest : ℕ → ℕ → Type 0
   Deepest i d = OfClass f s end (ownHome end) n λ es self x k.
-      greatest (depthOf s es) (parentsNamed (installed (storeLimits s) es) x (k .parents)) ≡ max d (greatest (depthOf s es) (parentsNamed (installed (storeLimits s) es) x (drop i (k .parents))))
+      greatest (depthOf s es) (parentsNamed (installed (storeLimits s) es) x (k .parents)) ≡ max d
+      (greatest (depthOf s es) (parentsNamed (installed (storeLimits s) es) x (drop i (k .parents))))
 
   pub deepest-start : Deepest 0 0
   deepest-start es self x k c = omega arith
@@ -88,17 +93,20 @@ module _ (f s : Bytes) (end n : ℕ) where
   pub deepest-more : (i d : ℕ) (g : Home) (m e r : ℕ) → Deepest i d → ParentIs f s end n i g m → DepthIs f s end g m e → r ≡ max e d → Deepest (i + 1) r
   deepest-more i d g m e r t p q z es self x k c =
       let y = p es self x k c in
-      let w = ap (λ (l : List ClassNumber). greatest (depthOf s es) (parentsNamed (installed (storeLimits s) es) x l)) (drop-at (k .parents) i (y .number) (y .listed)) ∙ front (y .number) (own (y .home) m) (y .named) (drop (i + 1) (k .parents)) in
+      let w = ap (λ (l : List ClassNumber). greatest (depthOf s es) (parentsNamed (installed (storeLimits s) es) x l))
+      (drop-at (k .parents) i (y .number) (y .listed)) ∙ front (y .number) (own (y .home) m) (y .named) (drop (i + 1) (k .parents)) in
       omega (arith, t es self x k c, w, q es self (y .home) (y .class) (y .there), z)
     where
       front : (w : ClassNumber) (a : ClassAt) → classNamed (installed (storeLimits s) es) x w ≡ some a → (ws : List ClassNumber) →
-          greatest (depthOf s es) (parentsNamed (installed (storeLimits s) es) x (w ∷ ws)) ≡ max (depthOf s es a) (greatest (depthOf s es) (parentsNamed (installed (storeLimits s) es) x ws))
+          greatest (depthOf s es) (parentsNamed (installed (storeLimits s) es) x (w ∷ ws)) ≡ max (depthOf s es a)
+          (greatest (depthOf s es) (parentsNamed (installed (storeLimits s) es) x ws))
       front w a e ws = rw e
 
   pub deepest-done : (a i v d : ℕ) → ClassFrom f n a → v ≡ getD f (a + 1) 0 → v ≤ i → Deepest i d → DeepestIs f s end (ownHome end) n d
   deepest-done a i v d q z h t es self x k c =
       let e = drop-end (k .parents) i (omega (arith, z, h, (class-by f s end n a q es self x k c) .count)) in
-      let w : greatest (depthOf s es) (parentsNamed (installed (storeLimits s) es) x (drop i (k .parents))) ≡ 0 = ap (λ (l : List ClassNumber). greatest (depthOf s es) (parentsNamed (installed (storeLimits s) es) x l)) e in
+      let w : greatest (depthOf s es) (parentsNamed (installed (storeLimits s) es) x (drop i (k .parents))) ≡ 0 = ap
+      (λ (l : List ClassNumber). greatest (depthOf s es) (parentsNamed (installed (storeLimits s) es) x l)) e in
       omega (arith, t es self x k c, w)
 
   -- 0 where the kinds are wrong, else the depth

@@ -16,14 +16,13 @@ use Rattle.rules.proofs.Tests.{none-some}
 use Rattle.bits.specs.Bits.{halfAt, withHalf}
 use Rattle.places.specs.Reads.{Reads}
 use Rattle.places.proofs.Steady.{steady-u1, steady-number, steady-method, steady-many}
-use Rattle.places.proofs.Inverse.{reads-u1, reads-counted}
+use Rattle.places.proofs.Inverse.{reads-forward, reads-u1, reads-counted}
 use Rattle.places.proofs.Parts.{class-part, number-part}
 use Rattle.places.proofs.Track.{placed-none, many-wide}
 use Rattle.files.specs.Say.{Readable, ClassThere, AfterClass}
 use Rattle.named.specs.Named.{Stands, first, next, ClassesFrom, ClassFrom}
 use Rattle.named.proofs.Rows.{stands-one, from-start, from-next, from-end}
 use Rattle.depths.specs.Depths.{keptHalf, DepthsFit, FileKeptTo, FileKept}
-use Rattle.depths.proofs.Keys.{reads-forward}
 
 -- a class takes a byte or more, and five with a parent
 class-five : (l : Limits) (ds : List Aid) (g : Bytes) (i : ℕ) (k : Class) (j : ℕ) → Reads (class l ds) g i k j → i + 3 + 2 * getD g (i + 1) 0 ≤ j
@@ -90,7 +89,8 @@ module _ (g : Bytes) (from : ℕ) (ds : List ℕ) where
   pub kept-start : (t : List ℕ) → FileKeptTo g from ds t 0
   kept-start t m i h = absurd (omega arith)
 
-  module _ (r : Readable g) (fit : DepthsFit g ds) (old new : List ℕ) (n i : ℕ) (s : Stands g n i) (w : (j : ℕ) → halfAt new j ≡ keptHalf old (from + i) (getD g (i + 1) 0) (getD ds n 0) j) where
+  module _ (r : Readable g) (fit : DepthsFit g ds) (old new : List ℕ) (n i : ℕ) (s : Stands g n i)
+      (w : (j : ℕ) → halfAt new j ≡ keptHalf old (from + i) (getD g (i + 1) 0) (getD ds n 0) j) where
     same : (j : ℕ) → (j ≡ (from + i) / 5 → ⊥) → halfAt new j ≡ halfAt old j
     unfolding withHalf
     same j ne = w j ∙ go (eqb (getD g (i + 1) 0) 0)
@@ -103,12 +103,16 @@ module _ (g : Bytes) (from : ℕ) (ds : List ℕ) where
     unfolding withHalf
     here h =
         let z : getD g (i + 1) 0 ≡ 0 → ⊥ = λ e. omega (arith, e, h) in
-        let e : halfAt new ((from + i) / 5) ≡ getD ds n 0 - 1 = w ((from + i) / 5) ∙ ap (λ (b : Bool). pick b (halfAt old ((from + i) / 5)) (pick (eqb ((from + i) / 5) ((from + i) / 5)) (getD ds n 0 - 1) (halfAt old ((from + i) / 5)))) (ne-eqb (getD g (i + 1) 0) 0 z) ∙ ap (λ (b : Bool). pick b (getD ds n 0 - 1) (halfAt old ((from + i) / 5))) (eq-eqb ((from + i) / 5) ((from + i) / 5) refl) in
+        let e : halfAt new ((from + i) / 5) ≡ getD ds n 0 - 1 = w ((from + i) / 5) ∙ ap
+        (λ (b : Bool). pick b (halfAt old ((from + i) / 5)) (pick (eqb ((from + i) / 5) ((from + i) / 5)) (getD ds n 0 - 1)
+        (halfAt old ((from + i) / 5)))) (ne-eqb (getD g (i + 1) 0) 0 z) ∙ ap (λ (b : Bool). pick b (getD ds n 0 - 1) (halfAt old ((from + i) / 5)))
+        (eq-eqb ((from + i) / 5) ((from + i) / 5) refl) in
         omega (arith, e, (fit .fit n i s h) .0)
 
     pub kept-more : FileKeptTo g from ds old n → FileKeptTo g from ds new (n + 1)
     kept-more k m a h q z = elim (decLe n m) [
-      | yes o ↦ let e : n ≡ m = omega (arith, h) in let j : i ≡ a = stands-one g r m i a (subst (λ (v : ℕ). Stands g v i) e s) q in subst (λ (v : ℕ). halfAt new ((from + v) / 5) + 1 ≡ getD ds m 0) j (subst (λ (v : ℕ). halfAt new ((from + i) / 5) + 1 ≡ getD ds v 0) e (here (rw j z)))
+      | yes o ↦ let e : n ≡ m = omega (arith, h) in let j : i ≡ a = stands-one g r m i a (subst (λ (v : ℕ). Stands g v i) e s) q in subst
+          (λ (v : ℕ). halfAt new ((from + v) / 5) + 1 ≡ getD ds m 0) j (subst (λ (v : ℕ). halfAt new ((from + i) / 5) + 1 ≡ getD ds v 0) e (here (rw j z)))
       | no o ↦
           let p = stands-apart g r m a n i q s (omega arith) in
           ap (λ (v : ℕ). v + 1) (same ((from + a) / 5) (λ e. omega (arith, e, p, z))) ∙ k m a (omega arith) q z

@@ -67,7 +67,8 @@ AllExist f s end n r = OfOwnClass f s end n λ es self k. r ≡ all (parentExist
 
 -- all parents of all own classes do
 abbrev pub ParentsExist : Bytes → Bytes → ℕ → Bool → Type 0
-ParentsExist f s end r = OfJudged f s end λ es self. r ≡ allFrom (λ i k. all (parentExists (installed (storeLimits s) es) self i) (k .parents)) 0 (self .pack .classes)
+ParentsExist f s end r = OfJudged f s end λ es self. r ≡ allFrom (λ i k. all (parentExists (installed (storeLimits s) es) self i) (k .parents)) 0
+    (self .pack .classes)
 
 -- class n of the package at home h, where each parent exists
 pub record ClassIs (f s : Bytes) (end : ℕ) (h : Home) (n : ℕ) (es : List Entry) (self x : Installed) (k : Class) : Type 0 where
@@ -155,12 +156,14 @@ laterParts s es self =
 
 abbrev pub LaterParts : Bytes → Bytes → ℕ → List ℕ → Parented → Type 0
 LaterParts f s end depths No = OfParents f s end λ es self. laterParts s es self ≡ false
-LaterParts f s end depths (Yes d) = (OfParents f s end λ es self. (laterParts s es self ≡ true) × (d ≡ deepestFrom (storeLimits s) (installed (storeLimits s) es) self 0 (self .pack .classes))) × OwnDepths f s end depths
+LaterParts f s end depths (Yes d) = (OfParents f s end λ es self. (laterParts s es self ≡ true) ×
+    (d ≡ deepestFrom (storeLimits s) (installed (storeLimits s) es) self 0 (self .pack .classes))) × OwnDepths f s end depths
 
 -- 14, and the depth figure
 abbrev pub ParentedIs : Bytes → Bytes → ℕ → Parented → Type 0
 ParentedIs f s end No = OfJudged f s end λ es self. q14-parents (storeLimits s) (installed (storeLimits s) es) self ≡ false
-ParentedIs f s end (Yes d) = OfJudged f s end λ es self. (q14-parents (storeLimits s) (installed (storeLimits s) es) self ≡ true) × (d ≡ deepestFrom (storeLimits s) (installed (storeLimits s) es) self 0 (self .pack .classes))
+ParentedIs f s end (Yes d) = OfJudged f s end λ es self. (q14-parents (storeLimits s) (installed (storeLimits s) es) self ≡ true) ×
+    (d ≡ deepestFrom (storeLimits s) (installed (storeLimits s) es) self 0 (self .pack .classes))
 
 -- with a yes, the depths of all own classes
 abbrev pub OwnTold : Bytes → Bytes → ℕ → List ℕ → Parented → Type 0

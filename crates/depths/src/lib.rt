@@ -42,6 +42,12 @@ pub struct Listed {
     pub class: usize,
 }
 
+// A parent as it is listed: its package number and its class number.
+pub struct Parent {
+    pub pack: usize,
+    pub class: usize,
+}
+
 // Of a class 1 where it is of kind 0, else 0, and its depth; of parents how many are of kind 0, and the greatest depth.
 pub struct Told {
     pub kind0: usize,
@@ -54,6 +60,25 @@ fn import_count(f: &[u8]) -> usize
     ensures { λ r. ⌜ ImportCount (now (f .entry)) r ⌝ }
 {
     wide(f[files::imports_at(f)])
+}
+
+// How many parents the class has whose record stands at a place.
+fn parent_count(f: &[u8], place: usize) -> usize
+    requires { ⌜ place + 1 < length (now f) ⌝ }
+    ensures { λ r. ⌜ (r ≡ getD (now (f .entry)) (place + 1) 0) × (r < 256) ⌝ }
+{
+    wide(f[place + 1])
+}
+
+// Its parent with number i, as it is listed.
+fn parent_at(f: &[u8], place: usize, i: usize) -> Parent
+    requires { ⌜ place + 3 + 2 * i < length (now f) ⌝ }
+    ensures { λ r. ⌜ (r .pack ≡ getD (now (f .entry)) (place + 2 + 2 * i) 0) × (r .class ≡ getD (now (f .entry)) (place + 3 + 2 * i) 0) ⌝ }
+{
+    Parent {
+        pack: wide(f[place + 2 + 2 * i]),
+        class: wide(f[place + 3 + 2 * i]),
+    }
 }
 
 // Does a parent of an own class, told by package and class number, exist, an own one with a smaller number?
@@ -99,19 +124,11 @@ fn class_parents_exist<'a>(
     ensures { λ r. ⌜ AllExist (now (f .entry)) (now (s .entry)) (o .end) (o .number) r ⌝ }
     ensures { λ _. ⌜ RowsTrue (now (f .entry)) (now (s .entry)) (o .end) (now (homes .entry)) (now (rows .exit)) ⌝ }
 {
-    let a = o.place;
-    let k = wide(f[a + 1]);
+    let k = parent_count(f, o.place);
     let mut i = 0;
     while i < k {
-        if !parent_exists(
-            f,
-            s,
-            homes,
-            rows,
-            o,
-            wide(f[a + 2 + 2 * i]),
-            wide(f[a + 3 + 2 * i]),
-        ) {
+        let x = parent_at(f, o.place, i);
+        if !parent_exists(f, s, homes, rows, o, x.pack, x.class) {
             return false;
         }
         i += 1;
@@ -251,25 +268,18 @@ fn own_parents<'a>(
     ensures { λ r. ⌜ DeepestIs (now (f .entry)) (now (s .entry)) (o .end) (ownHome (o .end)) (o .number) (r .depth) ⌝ }
     ensures { λ _. ⌜ RowsTrue (now (f .entry)) (now (s .entry)) (o .end) (now (homes .entry)) (now (rows .exit)) ⌝ }
 {
-    let a = o.place;
-    let k = wide(f[a + 1]);
+    let k = parent_count(f, o.place);
     let mut i = 0;
     let mut found = 0;
     let mut deepest = 0;
     while i < k {
-        let w = parent_told(
-            f,
-            s,
-            homes,
-            rows,
-            t,
-            depths,
-            Listed {
-                end: o.end,
-                pack: wide(f[a + 2 + 2 * i]),
-                class: wide(f[a + 3 + 2 * i]),
-            },
-        );
+        let x = parent_at(f, o.place, i);
+        let y = Listed {
+            end: o.end,
+            pack: x.pack,
+            class: x.class,
+        };
+        let w = parent_told(f, s, homes, rows, t, depths, y);
         found += w.kind0;
         deepest = larger(w.depth, deepest);
         i += 1;

@@ -75,7 +75,8 @@ pub domains-append : (pre xs ys : List Entry) → domainsAccepted pre (xs ++ ys)
 domains-append pre [] ys = ap (λ (zs : List Entry). domainsAccepted zs ys) (sym (append-nil pre))
 domains-append pre (x ∷ xs) ys =
     ap (λ (b : Bool). domainAccepted pre x && b)
-    (domains-append (pre ++ x ∷ []) xs ys ∙ ap (λ (zs : List Entry). domainsAccepted (pre ++ x ∷ []) xs && domainsAccepted zs ys) (append-assoc pre (x ∷ []) xs))
+    (domains-append (pre ++ x ∷ []) xs ys ∙ ap (λ (zs : List Entry). domainsAccepted (pre ++ x ∷ []) xs && domainsAccepted zs ys)
+    (append-assoc pre (x ∷ []) xs))
     ∙ sym (and-assoc (domainAccepted pre x) (domainsAccepted (pre ++ x ∷ []) xs) (domainsAccepted (pre ++ x ∷ xs) ys))
 
 pub rests-append : (l : Limits) (n : ℕ) (pre xs ys : List Entry) →
@@ -83,5 +84,6 @@ pub rests-append : (l : Limits) (n : ℕ) (pre xs ys : List Entry) →
 rests-append l n pre [] ys = ap (λ (zs : List Entry). restsAccepted l n zs ys) (sym (append-nil pre))
 rests-append l n pre (x ∷ xs) ys =
     ap (λ (b : Bool). restAccepted l n pre x && b)
-    (rests-append l n (pre ++ x ∷ []) xs ys ∙ ap (λ (zs : List Entry). restsAccepted l n (pre ++ x ∷ []) xs && restsAccepted l n zs ys) (append-assoc pre (x ∷ []) xs))
+    (rests-append l n (pre ++ x ∷ []) xs ys ∙ ap (λ (zs : List Entry). restsAccepted l n (pre ++ x ∷ []) xs && restsAccepted l n zs ys)
+    (append-assoc pre (x ∷ []) xs))
     ∙ sym (and-assoc (restAccepted l n pre x) (restsAccepted l n (pre ++ x ∷ []) xs) (restsAccepted l n (pre ++ x ∷ xs) ys))

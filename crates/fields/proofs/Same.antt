@@ -25,7 +25,8 @@ same-lengths [] (y ∷ ys) h = refl
 same-lengths (x ∷ xs) [] h = refl
 same-lengths (x ∷ xs) (y ∷ ys) h = rw (same-lengths xs ys (λ e. h (ap suc e))) (and-no (eqb x y))
 
-pub same-step : (a b : Bytes) (i : ℕ) → i < length a → i < length b → getD a i 0 ≡ getD b i 0 → same (drop i a) (drop i b) ≡ same (drop (i + 1) a) (drop (i + 1) b)
+pub same-step : (a b : Bytes) (i : ℕ) → i < length a → i < length b → getD a i 0 ≡ getD b i 0 → same (drop i a) (drop i b) ≡ same (drop (i + 1) a)
+    (drop (i + 1) b)
 same-step a b i ha hb e = rw (drop-one a i ha, drop-one b i hb, eq-eqb (getD a i 0) (getD b i 0) e)
 
 pub same-differ : (a b : Bytes) (i : ℕ) → i < length a → i < length b → (getD a i 0 ≡ getD b i 0 → ⊥) → same (drop i a) (drop i b) ≡ false

@@ -44,11 +44,13 @@ module _ {f : Bytes} (k past left c : ℕ) (t : MethodNumbers f k past left c) w
 
   pub methods-on : (n b d : ℕ) → 0 < left → MethodNumberIs f c n → b ≡ firstOf past n → AfterMethod f c d → MethodNumbers f k b (left - 1) d
   methods-on n b d h e q m =
-      numbers-on methodReader (λ w. steady-method (w .0) (w .1)) mostMethods (λ w. codeQuestions) (λ w. in-order) f k past left c t n h (λ w. e (w .0) (w .1)) b d q (λ w. m (w .0) (w .1))
+      numbers-on methodReader (λ w. steady-method (w .0) (w .1)) mostMethods (λ w. codeQuestions) (λ w. in-order) f k past left c t n h
+      (λ w. e (w .0) (w .1)) b d q (λ w. m (w .0) (w .1))
 
   pub methods-done : {i : ℕ} → MethodsAt f i k → left ≤ 0 → ClassNumberIs f i past
   methods-done m h l ds x j r =
-      numbers-done methodReader (λ w. steady-method (w .0) (w .1)) mostMethods (λ w. codeQuestions) (λ w. in-order) f k past left c t h (l, ds) (x .methods) j (m l ds x j r)
+      numbers-done methodReader (λ w. steady-method (w .0) (w .1)) mostMethods (λ w. codeQuestions) (λ w. in-order) f k past left c t h (l, ds)
+      (x .methods) j (m l ds x j r)
 
 -- the loop over the classes of a file
 abbrev classReader : Limits × List Aid → Reader Class
@@ -68,7 +70,11 @@ allFrom-all p k (x ∷ xs) = ap (λ (b : Bool). p x && b) (allFrom-all p (suc k)
 -- a file's number is that of its list of classes
 file-number : (p : Package) (n : ℕ) → n ≡ noOfAll classQuestions (p .classes) → n ≡ fileNumber p
 unfolding q16-splits q17-targets quiet
-file-number p n e = rw (allFrom-all (λ (k : Class). all (codeTest codeSplits) (k .methods)) 0 (p .classes), allFrom-all (λ (k : Class). all (codeTest codeBranches) (k .methods)) 0 (p .classes)) e
+file-number p n e = rw (
+  allFrom-all (λ (k : Class). all (codeTest codeSplits) (k .methods)) 0 (p .classes),
+  allFrom-all
+      (λ (k : Class). all (codeTest codeBranches) (k .methods)) 0 (p .classes),
+) e
 
 module _ {f : Bytes} (k past left c : ℕ) (t : ClassNumbers f k past left c) where
   pub classes-here : (l : Limits) (p : Package) → readFile l f ≡ some p → ClassesAt f k → 0 < left → Ends (class l (p .domains)) f c
@@ -78,12 +84,14 @@ module _ {f : Bytes} (k past left c : ℕ) (t : ClassNumbers f k past left c) wh
 
   pub classes-on : (n b d : ℕ) → 0 < left → ClassNumberIs f c n → b ≡ firstOf past n → AfterClass f c d → ClassNumbers f k b (left - 1) d
   classes-on n b d h e q m =
-      numbers-on classReader (λ w. steady-class (w .0) (w .1)) mostClasses (λ w. classQuestions) (λ w. in-order) f k past left c t n h (λ w. e (w .0) (w .1)) b d q (λ w. m (w .0) (w .1))
+      numbers-on classReader (λ w. steady-class (w .0) (w .1)) mostClasses (λ w. classQuestions) (λ w. in-order) f k past left c t n h
+      (λ w. e (w .0) (w .1)) b d q (λ w. m (w .0) (w .1))
 
   pub classes-done : ClassesAt f k → left ≤ 0 → FileNumberIs f past
   classes-done m h l p r =
       file-number p past
-      (numbers-done classReader (λ w. steady-class (w .0) (w .1)) mostClasses (λ w. classQuestions) (λ w. in-order) f k past left c t h (l, p .domains) (p .classes) (length f)
+      (numbers-done classReader (λ w. steady-class (w .0) (w .1)) mostClasses (λ w. classQuestions) (λ w. in-order) f k past left c t h (l, p .domains)
+      (p .classes) (length f)
       (classes-read m l p r))
 
 -- the code of a method
@@ -102,11 +110,13 @@ no-code l s i true c j e p = absurd (subst T e tt)
 no-code l s i false c j e p = rw (← code-none l s i c j p .0, no-calls) refl
 
 module _ {f : Bytes} {i : ℕ} where
-  pub method-short : (starts targets code : Bytes) → CodeIs f i code → MethodHere f starts targets i → (length code ≤ 8 * length starts) × (length code ≤ 8 * length targets)
+  pub method-short : (starts targets code : Bytes) → CodeIs f i code → MethodHere f starts targets i → (length code ≤ 8 * length starts) ×
+      (length code ≤ 8 * length targets)
   method-short starts targets code h e =
       let m = e .2 .0 in
       let t = method-part (e .0) (e .1) f i m (e .2 .1) (e .2 .2) in
-      let short : length code ≤ e .0 .code = rw (h (e .0) (e .1) m (e .2 .1) (e .2 .2)) (code-short (e .0) f (t .middle) (m .implemented) (m .code) (e .2 .1) (t .code)) in
+      let short : length code ≤ e .0 .code = rw (h (e .0) (e .1) m (e .2 .1) (e .2 .2))
+      (code-short (e .0) f (t .middle) (m .implemented) (m .code) (e .2 .1) (t .code)) in
       (omega (arith, short, e .3 .0), omega (arith, short, e .3 .1))
 
   pub bare-number : ImplementedIs f i false → MethodNumberIs f i 0

@@ -39,7 +39,8 @@ module _ (p : Package) where
       go true true c e = (refl, refl)
 
   -- another number is that of the first no, whatever is asked behind 16 and 17
-  pub number-no : (qs : List Question) → (fileNumber p ≡ 0 → ⊥) → (fileNumber p ≡ 18 → ⊥) → firstNo ((16, q16-splits p) ∷ (17, q17-targets p) ∷ qs) ≡ fileNumber p
+  pub number-no : (qs : List Question) → (fileNumber p ≡ 0 → ⊥) → (fileNumber p ≡ 18 → ⊥) → firstNo ((16, q16-splits p) ∷ (17, q17-targets p) ∷ qs) ≡
+      fileNumber p
   number-no qs z e = go (q16-splits p) (q17-targets p) (quiet p) z e
     where
       go : (a b c : Bool) → (numberOf a b c ≡ 0 → ⊥) → (numberOf a b c ≡ 18 → ⊥) → pick a (pick b (firstNo qs) 17) 16 ≡ numberOf a b c
@@ -73,9 +74,11 @@ classes-quiet q i [] e = refl
 classes-quiet q i (k ∷ ks) e = go (all (λ m. noCalls (m .code)) (k .methods)) refl e (classes-quiet q (suc i) ks)
   where
     go : (b : Bool) → all (λ m. noCalls (m .code)) (k .methods) ≡ b → (b && all (λ k. all (λ m. noCalls (m .code)) (k .methods)) ks) ≡ true →
-        (all (λ k. all (λ m. noCalls (m .code)) (k .methods)) ks ≡ true → allFrom (λ i k. all (λ m. all (q i m) (callsOf (m .code))) (k .methods)) (suc i) ks ≡ true) →
+        (all (λ k. all (λ m. noCalls (m .code)) (k .methods)) ks ≡ true → allFrom (λ i k. all (λ m. all (q i m) (callsOf (m .code))) (k .methods)) (suc i)
+        ks ≡ true) →
         (all (λ m. all (q i m) (callsOf (m .code))) (k .methods) && allFrom (λ i k. all (λ m. all (q i m) (callsOf (m .code))) (k .methods)) (suc i) ks) ≡ true
-    go true x e rec = ap (λ (b : Bool). b && allFrom (λ i k. all (λ m. all (q i m) (callsOf (m .code))) (k .methods)) (suc i) ks) (methods-quiet (q i) (k .methods) x) ∙ rec e
+    go true x e rec = ap (λ (b : Bool). b && allFrom (λ i k. all (λ m. all (q i m) (callsOf (m .code))) (k .methods)) (suc i) ks)
+        (methods-quiet (q i) (k .methods) x) ∙ rec e
     go false x e rec = clash e
 
 -- a file without calls passes 18 and 19

@@ -68,7 +68,8 @@ module _ {B : Type 0} {f g : List Method → B} {s : Bytes} {i left c : ℕ} (t 
 module _ {s : Bytes} {i left c : ℕ} where
   module _ (t : MethodLoop nil nil s i left c) where
     pub methods-skip : {d : ℕ} → 0 < left → AfterMethod s c d → MethodLoop nil nil s i (left - 1) d
-    methods-skip {d} h e l ds = track-more (method l ds) (steady-method l ds) s (counted mostMethods u1 (method l ds)) i nil nil left c (t l ds) nil d h (e l ds) (λ x m p ys. refl)
+    methods-skip {d} h e l ds = track-more (method l ds) (steady-method l ds) s (counted mostMethods u1 (method l ds)) i nil nil left c (t l ds) nil d h
+        (e l ds) (λ x m p ys. refl)
 
     pub methods-done : left ≤ 0 → AfterMethods s i c
     methods-done h l ds xs j p = (track-done (method l ds) (steady-method l ds) s (counted mostMethods u1 (method l ds)) i nil nil left c (t l ds) h xs j p) .0
@@ -88,7 +89,8 @@ module _ {s : Bytes} {i left c : ℕ} where
     methods-hit h q l ds ms j e = each-hit (method l ds) (steady-method l ds) s (counted mostMethods u1 (method l ds)) i left c p (t l ds) h (q l ds) ms j e
 
     pub methods-miss : {d : ℕ} → 0 < left → MethodTests s c p true → AfterMethod s c d → MethodLoop (all p) (all p) s i (left - 1) d
-    methods-miss {d} h q e l ds = each-miss (method l ds) (steady-method l ds) s (counted mostMethods u1 (method l ds)) i left c p (t l ds) d h (q l ds) (e l ds)
+    methods-miss {d} h q e l ds = each-miss (method l ds) (steady-method l ds) s (counted mostMethods u1 (method l ds)) i left c p (t l ds) d h (q l ds)
+        (e l ds)
 
     pub methods-none : left ≤ 0 → OfMethods s i λ l ds ms. all p ms ≡ true
     methods-none h l ds ms j e = each-none (method l ds) (steady-method l ds) s (counted mostMethods u1 (method l ds)) i left c p (t l ds) h ms j e

@@ -41,7 +41,8 @@ module _ {s : Bytes} {i : ℕ} where
       (omega (arith, t .next), omega (arith, t .to), rw n (t .bytes))
 
 -- references
-references-to : (s : Bytes) (i : ℕ) (xs : List Reference) (j : ℕ) → Reads (counted mostReferences u2 reference) s i xs j → (i + 1 < length s) × (i + 2 + 4 * u2At s i ≡ j)
+references-to : (s : Bytes) (i : ℕ) (xs : List Reference) (j : ℕ) → Reads (counted mostReferences u2 reference) s i xs j → (i + 1 < length s) ×
+    (i + 2 + 4 * u2At s i ≡ j)
 references-to s i xs j p =
     let c = reads-counted mostReferences u2 reference steady-u2 s i xs j p in
     let u = reads-u2 s i (c .number) (c .place) (c .count) in
@@ -71,11 +72,13 @@ module _ {s : Bytes} {i : ℕ} where
         let u = reads-u2 s i (c .number) (c .place) (c .count) in
         at-none xs k (omega (arith, many-length reference steady-reference (c .number) s (c .place) xs j (c .list), u .value))
 
-    pub reference-some : k < u2At s i → (xs : List Reference) (j : ℕ) → Reads (counted mostReferences u2 reference) s i xs j → some (referenceOf s (i + 2 + 4 * k)) ≡ at xs k
+    pub reference-some : k < u2At s i → (xs : List Reference) (j : ℕ) → Reads (counted mostReferences u2 reference) s i xs j → some
+        (referenceOf s (i + 2 + 4 * k)) ≡ at xs k
     reference-some h xs j p =
         let c = reads-counted mostReferences u2 reference steady-u2 s i xs j p in
         let u = reads-u2 s i (c .number) (c .place) (c .count) in
-        let n = many-nth reference steady-reference 4 s (λ i a j p. (reference-part s i a j p) .next) (c .number) (c .place) xs j (c .list) k (omega (arith, u .value)) in
+        let n = many-nth reference steady-reference 4 s (λ i a j p. (reference-part s i a j p) .next) (c .number) (c .place) xs j (c .list) k
+        (omega (arith, u .value)) in
         let z = placed-at n in
         go (z .0) (z .1) (z .2) (moved (z .3) (ap (λ (m : ℕ). m + 4 * k) (sym (u .next))) refl refl)
       where
@@ -169,7 +172,8 @@ module _ {s : Bytes} {i b d : ℕ} (w : b ≡ getD s i 0) (e : AfterPolicy s (i 
     code-is {n} q l ds m j p = let k : d + 2 + n - (d + 2) ≡ u2At s d = omega arith in rw k ((code-at l ds m j p) .bytes)
 
 -- classes
-parents-to : (l : Limits) (s : Bytes) (i : ℕ) (xs : List ClassNumber) (j : ℕ) → Reads (counted (l .parents) u1 classNumber) s i xs j → (i < length s) × (i + 1 + 2 * getD s i 0 ≡ j)
+parents-to : (l : Limits) (s : Bytes) (i : ℕ) (xs : List ClassNumber) (j : ℕ) → Reads (counted (l .parents) u1 classNumber) s i xs j → (i < length s) ×
+    (i + 1 + 2 * getD s i 0 ≡ j)
 parents-to l s i xs j p =
     let c = reads-counted (l .parents) u1 classNumber steady-u1 s i xs j p in
     let u = reads-u1 s i (c .number) (c .place) (c .count) in

@@ -27,10 +27,12 @@ module _ {f : Bytes} {i : ℕ} where
   pub imports-read : ImportsAt f i → (l : Limits) (p : Package) → readFile l f ≡ some p → (j : ℕ) × Reads (counted mostImports u1 aid) f i (p .imports) j
   imports-read h l p e = let x = h l p e in (x .0 .referencesAt, moved (x .0 .imports) (x .1) refl refl)
 
-  pub references-read : ReferencesAt f i → (l : Limits) (p : Package) → readFile l f ≡ some p → (j : ℕ) × Reads (counted mostReferences u2 reference) f i (p .references) j
+  pub references-read : ReferencesAt f i → (l : Limits) (p : Package) → readFile l f ≡ some p → (j : ℕ) × Reads (counted mostReferences u2 reference) f i
+      (p .references) j
   references-read h l p e = let x = h l p e in (x .0 .classesAt, moved (x .0 .references) (x .1) refl refl)
 
-  pub classes-read : ClassesAt f i → (l : Limits) (p : Package) → readFile l f ≡ some p → Reads (counted mostClasses u1 (class l (p .domains))) f i (p .classes) (length f)
+  pub classes-read : ClassesAt f i → (l : Limits) (p : Package) → readFile l f ≡ some p → Reads (counted mostClasses u1 (class l (p .domains))) f i
+      (p .classes) (length f)
   classes-read h l p e = let x = h l p e in moved (x .0 .classes) (x .1) refl refl
 
   -- each list stands there

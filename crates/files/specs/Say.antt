@@ -137,7 +137,8 @@ abbrev pub Classes : Bytes → ℕ → Type 0
 Classes s i = (l : Limits) × (ds : List Aid) × Ends (counted mostClasses u1 (class l ds)) s i
 
 abbrev pub ClassNth : Bytes → ℕ → ℕ → Spot → Type 0
-ClassNth s i k r = (l : Limits) (ds : List Aid) (cs : List Class) (j : ℕ) → Reads (counted mostClasses u1 (class l ds)) s i cs j → Placed (class l ds) s (at cs k) (spot r)
+ClassNth s i k r = (l : Limits) (ds : List Aid) (cs : List Class) (j : ℕ) → Reads (counted mostClasses u1 (class l ds)) s i cs j → Placed (class l ds) s
+    (at cs k) (spot r)
 
 -- a file
 abbrev pub Readable : Bytes → Type 0

@@ -27,12 +27,14 @@ place-front q i [] fs h = let z : _≡_ {A = ℕ} 0 1 = cc in absurd (omega arit
 place-front q i (e ∷ es) fs h = go (q e) h (place-front q (i + length (entryBytes e)) es fs)
   where
     go : (b : Bool) → (b || any q es) ≡ true → (any q es ≡ true → placeOf q (i + length (entryBytes e)) (es ++ fs) ≡ placeOf q (i + length (entryBytes e)) es) →
-        pick b (some (i, i + length (entryBytes e))) (placeOf q (i + length (entryBytes e)) (es ++ fs)) ≡ pick b (some (i, i + length (entryBytes e))) (placeOf q (i + length (entryBytes e)) es)
+        pick b (some (i, i + length (entryBytes e))) (placeOf q (i + length (entryBytes e)) (es ++ fs)) ≡ pick b (some (i, i + length (entryBytes e)))
+        (placeOf q (i + length (entryBytes e)) es)
     go true k r = refl
     go false k r = r k
 
 -- of the entries es that end at a place, those in front end at another
-module _ (s : Bytes) (end before : ℕ) (a : Aid) (es pre : List Entry) (stand : Entries s openingLength es end) (front : Entries s openingLength pre before) (h : before ≤ end) (here : T (isSome (byAid (installed (storeLimits s) pre) a))) where
+module _ (s : Bytes) (end before : ℕ) (a : Aid) (es pre : List Entry) (stand : Entries s openingLength es end)
+    (front : Entries s openingLength pre before) (h : before ≤ end) (here : T (isSome (byAid (installed (storeLimits s) pre) a))) where
   rest : Split s es pre before end
   rest = entries-split s openingLength es pre before end h front stand
 
@@ -50,11 +52,13 @@ module _ (s : Bytes) (end before : ℕ) (a : Aid) (es pre : List Entry) (stand :
   same-package : byAid (installed (storeLimits s) pre) a ≡ byAid (installed (storeLimits s) es) a
   same-package =
       byAid-more (installed (storeLimits s) pre) (installed (storeLimits s) (rest .rest)) a here
-      ∙ ap (λ (is : List Installed). byAid is a) (sym (flat-append (installedBy (storeLimits s)) pre (rest .rest)) ∙ ap (installed (storeLimits s)) (sym (rest .are)))
+      ∙ ap (λ (is : List Installed). byAid is a) (sym (flat-append (installedBy (storeLimits s)) pre (rest .rest)) ∙ ap (installed (storeLimits s))
+      (sym (rest .are)))
 
   pub earlier : (r : HomeFound) → HomeSays s es a r → HomeSays s pre a r
   earlier (At v) p = record {
-    place = sym (place-front (isPackage (storeLimits s) a) openingLength pre (rest .rest) package-here) ∙ ap (placeOf (isPackage (storeLimits s) a) openingLength) (sym (rest .are)) ∙ p .place;
+    place = sym (place-front (isPackage (storeLimits s) a) openingLength pre (rest .rest) package-here) ∙ ap
+        (placeOf (isPackage (storeLimits s) a) openingLength) (sym (rest .are)) ∙ p .place;
     home = p .home;
     stands = p .stands;
     inside = p .inside;

@@ -60,14 +60,17 @@ module _ (f s : Bytes) (end : ℕ) (es : List Entry) (self : Installed) where
   home-below g h x (stored t) =
       let e : Entry = loaded (x .domain) (part s (h .from) (h .to)) in
       let l : length (entriesBytes es) ≡ length (entriesBytes (t .pre)) + length (entriesBytes (e ∷ t .post)) =
-      ap (λ (zs : List Entry). length (entriesBytes zs)) (t .are) ∙ ap length (flat-append entryBytes (t .pre) (e ∷ t .post)) ∙ length-append (entriesBytes (t .pre)) (entriesBytes (e ∷ t .post)) in
+      ap (λ (zs : List Entry). length (entriesBytes zs)) (t .are) ∙ ap length (flat-append entryBytes (t .pre) (e ∷ t .post)) ∙ length-append
+      (entriesBytes (t .pre)) (entriesBytes (e ∷ t .post)) in
       omega (arith, entries-next s openingLength es end (g .stand), entries-next s openingLength (t .pre) (h .before) (t .stand), l)
 
   -- a stored package was accepted over the entries before it
-  pub stored-yes : (g : Setting f s end es self) (h : Home) (x : Installed) (t : Stored s es h x) → LoadYes (storeLimits s) (g .size) (t .pre) (x .domain) (part s (h .from) (h .to)) (x .pack)
+  pub stored-yes : (g : Setting f s end es self) (h : Home) (x : Installed) (t : Stored s es h x) → LoadYes (storeLimits s) (g .size) (t .pre) (x .domain)
+      (part s (h .from) (h .to)) (x .pack)
   stored-yes g h x t =
       let e : Entry = loaded (x .domain) (part s (h .from) (h .to)) in
-      let a : T (acceptedAll (storeLimits s) (g .size) [] (t .pre ++ e ∷ t .post)) = subst (λ (zs : List Entry). T (acceptedAll (storeLimits s) (g .size) [] zs)) (t .are) (g .sound) in
+      let a : T (acceptedAll (storeLimits s) (g .size) [] (t .pre ++ e ∷ t .post)) = subst
+      (λ (zs : List Entry). T (acceptedAll (storeLimits s) (g .size) [] zs)) (t .are) (g .sound) in
       let b = and-r (acceptedAll (storeLimits s) (g .size) [] (t .pre)) _ (subst T (accepted-append (storeLimits s) (g .size) [] (t .pre) (e ∷ t .post)) a) in
       let c : T (accepted (storeLimits s) (g .size) (t .pre) e) = and-l (accepted (storeLimits s) (g .size) (t .pre) e) _ b in
       let y = load-yes (storeLimits s) (g .size) (t .pre) (x .domain) (part s (h .from) (h .to)) (eqb→eq _ 0 c) in
@@ -86,13 +89,30 @@ module _ (f s : Bytes) (end : ℕ) (es : List Entry) (self : Installed) where
   pub home-before : Imports f s end es self → (h : Home) (x : Installed) → HomeIs f s end es self h x → Before h x
   home-before i _ _ own =
       let g = i .setting in
-      record { pre = es; post = []; are = sym (append-nil es); stand = g .stand; reads = all-read (storeLimits s) (g .size) [] es (g .sound); imports = i .imports }
+      record {
+        pre = es;
+        post = [];
+        are = sym (append-nil es);
+        stand = g .stand;
+        reads = all-read (storeLimits s) (g .size) [] es (g .sound);
+        imports =
+            i .imports;
+      }
   home-before i h x (stored t) =
       let g = i .setting in
       let e : Entry = loaded (x .domain) (part s (h .from) (h .to)) in
-      let a : T (acceptedAll (storeLimits s) (g .size) [] (t .pre ++ e ∷ t .post)) = subst (λ (zs : List Entry). T (acceptedAll (storeLimits s) (g .size) [] zs)) (t .are) (g .sound) in
+      let a : T (acceptedAll (storeLimits s) (g .size) [] (t .pre ++ e ∷ t .post)) = subst
+      (λ (zs : List Entry). T (acceptedAll (storeLimits s) (g .size) [] zs)) (t .are) (g .sound) in
       let b = and-l (acceptedAll (storeLimits s) (g .size) [] (t .pre)) _ (subst T (accepted-append (storeLimits s) (g .size) [] (t .pre) (e ∷ t .post)) a) in
-      record { pre = t .pre; post = e ∷ t .post; are = t .are; stand = t .stand; reads = all-read (storeLimits s) (g .size) [] (t .pre) b; imports = (stored-yes g h x t) .q13 }
+      record {
+        pre = t .pre;
+        post = e ∷ t .post;
+        are = t .are;
+        stand = t .stand;
+        reads = all-read (storeLimits s) (g .size) [] (t .pre) b;
+        imports =
+            (stored-yes g h x t) .q13;
+      }
 
   -- an import of the package at a home, found among the entries before it
   pub import-found : (h : Home) (x : Installed) (b : Before h x) (a : Aid) → List·Memᴰ a (x .pack .imports) → (i j k : ℕ) → PackageAt s (b .pre) a i j k →
@@ -101,25 +121,41 @@ module _ (f s : Bytes) (end : ℕ) (es : List Entry) (self : Installed) where
   import-found h x b a m i j k p =
       let r = found-at (isPackage (storeLimits s) a) s openingLength (b .pre) (h .before) i k (b .stand) (p .place) in
       let z = entry-one s i (r .one) (loaded (p .home .domain) (part s j k)) k k (r .stands) (p .stands) in
-      let more = byAid-more (installed (storeLimits s) (b .pre)) (installed (storeLimits s) (b .post)) a (all-mem (λ c. isSome (byAid (installed (storeLimits s) (b .pre)) c)) (b .imports) m) in
-      let e : byAid (installed (storeLimits s) es) a ≡ some (p .home) = sym (more ∙ ap (λ (is : List Installed). byAid is a) (sym (flat-append (installedBy (storeLimits s)) (b .pre) (b .post)) ∙ ap (installed (storeLimits s)) (sym (b .are)))) ∙ p .is in
+      let more = byAid-more (installed (storeLimits s) (b .pre)) (installed (storeLimits s) (b .post)) a
+      (all-mem (λ c. isSome (byAid (installed (storeLimits s) (b .pre)) c)) (b .imports) m) in
+      let e : byAid (installed (storeLimits s) es) a ≡ some (p .home) = sym
+      (more ∙ ap (λ (is : List Installed). byAid is a) (sym (flat-append (installedBy (storeLimits s)) (b .pre) (b .post)) ∙ ap
+      (installed (storeLimits s)) (sym (b .are)))) ∙ p .is in
       let are : es ≡ r .before ++ loaded (p .home .domain) (part s j k) ∷ (r .after ++ b .post) =
-      b .are ∙ ap (λ (zs : List Entry). zs ++ b .post) (r .are ∙ ap (λ (v : Entry). r .before ++ v ∷ r .after) (z .0)) ∙ append-assoc (r .before) (loaded (p .home .domain) (part s j k) ∷ r .after) (b .post) in
+      b .are ∙ ap (λ (zs : List Entry). zs ++ b .post) (r .are ∙ ap (λ (v : Entry). r .before ++ v ∷ r .after) (z .0)) ∙ append-assoc (r .before)
+      (loaded (p .home .domain) (part s j k) ∷ r .after) (b .post) in
       let t : Stored s es (record { from = j; to = k; before = i }) (p .home) =
-      record { pre = r .before; post = r .after ++ b .post; are = are; stand = r .earlier; entry = p .stands; reads = p .reads; inside = p .inside; order = p .from } in
+      record {
+        pre = r .before;
+        post = r .after ++ b .post;
+        are = are;
+        stand = r .earlier;
+        entry = p .stands;
+        reads = p .reads;
+        inside = p .inside;
+        order = p .from;
+      } in
       (p .home, e, stored t, omega (arith, (entries-to s k (r .after) (h .before) (r .later)) .0, p .inside, p .from))
 
   -- an import is never missing there
-  pub import-there : (h : Home) (x : Installed) (b : Before h x) (a : Aid) → List·Memᴰ a (x .pack .imports) → byAid (installed (storeLimits s) (b .pre)) a ≡ none → ⊥
+  pub import-there : (h : Home) (x : Installed) (b : Before h x) (a : Aid) → List·Memᴰ a (x .pack .imports) → byAid (installed (storeLimits s) (b .pre))
+      a ≡ none → ⊥
   unfolding q13-imports
-  import-there h x b a m e = none-absurd (byAid (installed (storeLimits s) (b .pre)) a) e (all-mem (λ c. isSome (byAid (installed (storeLimits s) (b .pre)) c)) (b .imports) m)
+  import-there h x b a m e = none-absurd (byAid (installed (storeLimits s) (b .pre)) a) e
+      (all-mem (λ c. isSome (byAid (installed (storeLimits s) (b .pre)) c)) (b .imports) m)
     where
       none-absurd : (o : Option Installed) → o ≡ none → T (isSome o) → ⊥
       none-absurd none e h = h
       none-absurd (some y) e h = none-some (sym e)
 
   -- an own parent has a smaller number, in the package at any home
-  pub parent-smaller : Parents f s end es self → (h : Home) (x : Installed) → HomeIs f s end es self h x → (n : ℕ) (k : Class) → at (x .pack .classes) n ≡ some k →
+  pub parent-smaller : Parents f s end es self → (h : Home) (x : Installed) → HomeIs f s end es self h x → (n : ℕ) (k : Class) → at (x .pack .classes) n ≡
+      some k →
       (p : ClassNumber) → List·Memᴰ p (k .parents) → p .pack ≡ 0 → p .class < n
   parent-smaller g _ _ own n k e p m z =
       smaller (installed (storeLimits s) es) self n p (all-mem _ (allFrom-zero _ (self .pack .classes) n k (g .exist) e) m) z

@@ -69,7 +69,8 @@ pub import-placed : (g : Bytes) (i k : ℕ) (r : Spot) → ImportsAt g i → Aid
 import-placed g i k r q n l p e = let t = imports-read q l p e in n _ (p .imports) (t .0) (t .1)
 
 -- the search for a package, as a home
-pub by-aid-file : (s : Bytes) (end : ℕ) (a : Aid) (r : FileSpot) (i j k : ℕ) → r ≡ FileSpots.File i j k → FileAt s end a r → ByAid s end a (At (record { from = j; to = k; before = i }))
+pub by-aid-file : (s : Bytes) (end : ℕ) (a : Aid) (r : FileSpot) (i j k : ℕ) → r ≡ FileSpots.File i j k → FileAt s end a r → ByAid s end a
+    (At (record { from = j; to = k; before = i }))
 by-aid-file s end a r i j k e q es t u = subst (λ (x : FileSpot). FileSays s es a x) e (q es t u)
 
 pub by-aid-missing : (s : Bytes) (end : ℕ) (a : Aid) (r : FileSpot) → r ≡ FileSpots.Missing → FileAt s end a r → ByAid s end a Nothing
@@ -92,9 +93,11 @@ module _ (f s : Bytes) (h : Home) where
       let b = home-before f s end es self i h x t in
       let o : packageNumbered (installed (storeLimits s) es) x (suc k) ≡ byAid (installed (storeLimits s) es) a = rw (n .2 ∙ ap some z) in
       let here = all-mem (λ y. isSome (byAid (installed (storeLimits s) (b .pre)) y)) (b .imports) m in
-      subst⁻¹ (λ (v : Option Installed). FoundIs f s end es self h v r) o (found r m b (earlier s stop (h .before) a (d .0) (b .pre) (d .1) (b .stand) le here r (w (d .0) (d .1) (d .2))))
+      subst⁻¹ (λ (v : Option Installed). FoundIs f s end es self h v r) o
+      (found r m b (earlier s stop (h .before) a (d .0) (b .pre) (d .1) (b .stand) le here r (w (d .0) (d .1) (d .2))))
     where
-      found : (r : HomeFound) → List·Memᴰ a (x .pack .imports) → (b : Before f s end es self h x) → HomeSays s (b .pre) a r → FoundIs f s end es self h (byAid (installed (storeLimits s) es) a) r
+      found : (r : HomeFound) → List·Memᴰ a (x .pack .imports) → (b : Before f s end es self h x) → HomeSays s (b .pre) a r → FoundIs f s end es self h
+          (byAid (installed (storeLimits s) es) a) r
       found (At v) m b u = import-found f s end es self h x b a m (v .before) (v .from) (v .to) u
       found Nothing m b u = absurd (import-there f s end es self h x b a m u)
 

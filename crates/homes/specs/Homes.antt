@@ -120,4 +120,5 @@ ClassPlaced f s h n r = OfHome f s h λ end es self x. Placed (class (storeLimit
 
 -- the record of class n, as a part of the file at home h; no bytes where it has no such class
 abbrev pub RecordIs : Bytes → Bytes → Home → ℕ → Bytes → Type 0
-RecordIs f s h n r = OfHome f s h λ end es self x. (c : Spot) × Placed (class (storeLimits s) (x .pack .domains)) (fileOf f s h) (at (x .pack .classes) n) (spot c) × (r ≡ recordFrom (fileOf f s h) c)
+RecordIs f s h n r = OfHome f s h λ end es self x. (c : Spot) × Placed (class (storeLimits s) (x .pack .domains)) (fileOf f s h) (at (x .pack .classes) n)
+    (spot c) × (r ≡ recordFrom (fileOf f s h) c)

@@ -1,4 +1,3 @@
 -- What the functions over homes require and ensure.
 pub mod Homes
-pub mod Memo
 pub mod Found

@@ -65,7 +65,8 @@ put-new t k h b = home-is _ _ _ (h .from) (h .to) (h .before) (put-from t k h b)
 put-old : (t : List ℕ) (k : ℕ) (h : Home) (i : ℕ) → i < k → homeAt (putAt t k h) i ≡ homeAt t i
 unfolding homeOf
 put-old t k h i b =
-    home-is _ _ _ (getD t (3 * i) 0) (getD t (3 * i + 1) 0) (getD t (3 * i + 2) 0) (put-other t k h (3 * i) (omega arith)) (put-other t k h (3 * i + 1) (omega arith)) (put-other t k h (3 * i + 2) (omega arith))
+    home-is _ _ _ (getD t (3 * i) 0) (getD t (3 * i + 1) 0) (getD t (3 * i + 2) 0) (put-other t k h (3 * i) (omega arith))
+    (put-other t k h (3 * i + 1) (omega arith)) (put-other t k h (3 * i + 2) (omega arith))
 
 module _ (f s : Bytes) (end : ℕ) where
   -- the homes of the first k imports stand in the table
@@ -80,10 +81,13 @@ module _ (f s : Bytes) (end : ℕ) where
   filled-more k t u h q b p e = subst⁻¹ (Filled (k + 1)) e (record { size = size; homes = λ es self g i c a n. home es self g i c a n (same-or-not i k) })
     where
       size : length (putAt t k h) ≡ 48
-      size = length-set (set (set t (3 * k) (h .from)) (3 * k + 1) (h .to)) (3 * k + 2) (h .before) ∙ length-set (set t (3 * k) (h .from)) (3 * k + 1) (h .to) ∙ length-set t (3 * k) (h .from) ∙ q .size
+      size = length-set (set (set t (3 * k) (h .from)) (3 * k + 1) (h .to)) (3 * k + 2) (h .before) ∙ length-set (set t (3 * k) (h .from)) (3 * k + 1)
+          (h .to) ∙ length-set t (3 * k) (h .from) ∙ q .size
 
-      home : (es : List Entry) (self : Installed) → Setting f s end es self → (i : ℕ) → i < k + 1 → (a : Aid) → at (self .pack .imports) i ≡ some a → (i ≡ k) ⊎ (i ≡ k → ⊥) → HomeSays s es a (At (homeAt (putAt t k h) i))
-      home es self g i c a n (inl d) = rw d (subst⁻¹ (λ (v : Home). HomeSays s es a (At v)) (put-new t k h (omega (arith, q .size))) (p es self g a (rw (← d) n)))
+      home : (es : List Entry) (self : Installed) → Setting f s end es self → (i : ℕ) → i < k + 1 → (a : Aid) → at (self .pack .imports) i ≡ some a →
+          (i ≡ k) ⊎ (i ≡ k → ⊥) → HomeSays s es a (At (homeAt (putAt t k h) i))
+      home es self g i c a n (inl d) = rw d (subst⁻¹ (λ (v : Home). HomeSays s es a (At v)) (put-new t k h (omega (arith, q .size)))
+          (p es self g a (rw (← d) n)))
       home es self g i c a n (inr d) = subst⁻¹ (λ (v : Home). HomeSays s es a (At v)) (put-old t k h i (omega arith)) (q .homes es self g i (omega arith) a n)
 
   -- one is missing
@@ -115,7 +119,15 @@ module _ (f s : Bytes) (end : ℕ) where
             let x = at-there (self .pack .imports) j c in
             let m = at-mem (self .pack .imports) j (x .0) (x .1) in
             let d : Before f s end es self (ownHome end) self =
-            record { pre = es; post = []; are = sym (append-nil es); stand = g .setting .stand; reads = all-read (storeLimits s) (g .setting .size) [] es (g .setting .sound); imports = g .imports } in
+            record {
+              pre = es;
+              post = [];
+              are = sym (append-nil es);
+              stand = g .setting .stand;
+              reads = all-read (storeLimits s) (g .setting .size) [] es
+                  (g .setting .sound);
+              imports = g .imports;
+            } in
             let p = q .homes es self (g .setting) j (omega (arith, imports-count f s end i h es self (g .setting))) (x .0) (x .1) in
             let o : packageNumbered (installed (storeLimits s) es) self (suc j) ≡ byAid (installed (storeLimits s) es) (x .0) = rw (x .1) in
             subst⁻¹ (λ (v : Option Installed). FoundIs f s end es self (ownHome end) v (At (homeAt t j))) o

@@ -13,17 +13,9 @@ use Rattle.rules.specs.Store.{Entry, openingLength}
 use Rattle.rules.proofs.Tests.{of-true}
 use Rattle.rules.proofs.Lists.{some-is}
 use Rattle.store.specs.Entries.{EntryAt, Entries, StandFrom, placeOf}
-use Rattle.store.proofs.Stand.{entry-later, entries-to, entry-one, Front, entries-front, Split, entries-split}
+use Rattle.store.proofs.Stand.{entry-later, entries-to, entry-one, Front, entries-front, Split, entries-split, entry-apart}
 use Rattle.store.proofs.Walk.{any-append, place-any, found-at}
 use Rattle.index.specs.Index.{Stood}
-
--- an entry that starts before another ends before it
-entry-apart : (s : Bytes) (i j k : ℕ) (e : Entry) → StandFrom s openingLength i → EntryAt s i e k → StandFrom s openingLength j → i < j → k ≤ j
-entry-apart s i j k e p t q h =
-    let r = entries-split s openingLength (q .0) (p .0) i j (omega arith) (p .1) (q .1) in
-    let f = entries-front s i (r .rest) j h (r .stand) in
-    let o = entry-one s i e (f .one) k (f .place) t (f .stands) in
-    omega (arith, o .1, (entries-to s (f .place) (f .others) j (f .rest)) .0)
 
 -- an entry stands behind the opening bytes, and has bytes
 pub stood-inside : {s : Bytes} {end p : ℕ} {e : Entry} {j : ℕ} → Stood s end p e j → (7 ≤ p) × (p < j) × (j ≤ end)
@@ -53,7 +45,12 @@ stood-among {s} {end} {p} {e} {j} es r t =
     front : (rest : List Entry) → es ≡ t .behind .0 ++ rest → Front s p rest end → Among es e
     front rest z f =
         let o = entry-one s p (f .one) e (f .place) j (f .stands) (t .stands) in
-        record { before = t .behind .0; after = f .others; are = z ∙ ap (λ (v : List Entry). t .behind .0 ++ v) (f .are ∙ ap (λ (x : Entry). x ∷ f .others) (o .0)) }
+        record {
+          before = t .behind .0;
+          after = f .others;
+          are = z ∙ ap (λ (v : List Entry). t .behind .0 ++ v)
+              (f .are ∙ ap (λ (x : Entry). x ∷ f .others) (o .0));
+        }
 
     split : p < end → Split s es (t .behind .0) p end → Among es e
     split l x = front (x .rest) (x .are) (entries-front s p (x .rest) end l (x .stand))
@@ -106,9 +103,15 @@ stood-more later h t = record { behind = t .behind; stands = t .stands; to = ome
 pub stood-cases : {s : Bytes} {p : ℕ} {e : Entry} {j : ℕ} (at next : ℕ) (one : Entry) → StandFrom s openingLength at → EntryAt s at one next →
     Stood s next p e j → Stood s at p e j ⊎ ((p ≡ at) × (e ≡ one) × (j ≡ next))
 stood-cases {s} {p} {e} {j} at next one f u t = elim (decLe at p) [
-  | no g ↦ inl (record { behind = t .behind; stands = t .stands; to = entry-apart s p at j e (t .behind) (t .stands) f (omega arith) })
+  | no g ↦ inl (record {
+    behind = t .behind;
+    stands = t .stands;
+    to = entry-apart s openingLength (t .behind .0) (f .0) p at j e (t .behind .1)
+        (t .stands) (f .1) (omega arith);
+  })
   | yes g ↦ elim (decLe p at) [
-    | no h ↦ let a = entry-apart s at p next one f u (t .behind) (omega arith) in absurd (omega (arith, (stood-inside t) .1, t .to))
+    | no h ↦ let a = entry-apart s openingLength (f .0) (t .behind .0) at p next one (f .1) u (t .behind .1) (omega arith) in absurd
+        (omega (arith, (stood-inside t) .1, t .to))
     | yes h ↦
         let z : p ≡ at = omega arith in
         let o = entry-one s at e one j next (subst (λ (n : ℕ). EntryAt s n e j) z (t .stands)) u in

@@ -39,7 +39,11 @@ module _ (s : Bytes) (end : ℕ) (f : Bytes) where
   module _ (ten : q10-marked f ≡ true) where
     pub parents-11 : readFile (storeLimits s) f ≡ none → ParentsAnswer s end f (Refused 11)
     unfolding loadQuestions packageQuestions q11-reads
-    parents-11 e d es o = (omega arith, number-yes 10 (q10-marked f) (packageQuestions (storeLimits s) (length s) es d f (readFile (storeLimits s) f)) 11 ten (rw e))
+    parents-11 e d es o = (
+      omega arith,
+      number-yes 10 (q10-marked f) (packageQuestions (storeLimits s) (length s) es d f (readFile (storeLimits s) f)) 11
+          ten (rw e),
+    )
 
     module _ (p : Package) (eleven : readFile (storeLimits s) f ≡ some p) where
       -- a number from 12 on is one from 10 on
@@ -53,8 +57,11 @@ module _ (s : Bytes) (end : ℕ) (f : Bytes) where
 
       pub parents-12 : NewIs f s end false → ParentsAnswer s end f (Refused 12)
       unfolding packageQuestions
-      parents-12 n d es o =
-          (omega arith, read-number d es 12 (number-no 12 (q12-new (installed (storeLimits s) es) p) (from 13 (asks s es d f p)) (sym (n es (selfOf s end d f p) (setting s end d f es p (read es o))))))
+      parents-12 n d es o = (
+        omega arith,
+        read-number d es 12 (number-no 12 (q12-new (installed (storeLimits s) es) p) (from 13 (asks s es d f p))
+            (sym (n es (selfOf s end d f p) (setting s end d f es p (read es o))))),
+      )
 
       module _ (twelve : NewIs f s end true) where
         -- 12 was answered yes
@@ -66,7 +73,8 @@ module _ (s : Bytes) (end : ℕ) (f : Bytes) where
         parents-13 n d es o = (
           omega arith,
           read-number d es 13 (number-yes 12 (q12-new (installed (storeLimits s) es) p) (from 13 (asks s es d f p)) 13 (is-new d es o)
-              (number-no 13 (q13-imports (installed (storeLimits s) es) p) (from 14 (asks s es d f p)) (sym (n es (selfOf s end d f p) (setting s end d f es p (read es o)))))),
+              (number-no 13 (q13-imports (installed (storeLimits s) es) p) (from 14 (asks s es d f p))
+              (sym (n es (selfOf s end d f p) (setting s end d f es p (read es o)))))),
         )
 
         module _ (thirteen : ImportsIs f s end true) where
@@ -85,20 +93,31 @@ module _ (s : Bytes) (end : ℕ) (f : Bytes) where
           unfolding packageQuestions
           parents-14 n d es o =
               let rest = from 15 (asks s es d f p) in
-              let no = number-no 14 (q14-parents (storeLimits s) (installed (storeLimits s) es) (selfOf s end d f p)) rest (n es (selfOf s end d f p) (imported d es o)) in
-              let from-13 = number-yes 13 (q13-imports (installed (storeLimits s) es) p) (from 14 (asks s es d f p)) 14 (has-imports d es o) no in
-              (omega arith, read-number d es 14 (number-yes 12 (q12-new (installed (storeLimits s) es) p) (from 13 (asks s es d f p)) 14 (is-new d es o) from-13))
+              let no = number-no 14 (q14-parents (storeLimits s) (installed (storeLimits s) es) (selfOf s end d f p)) rest
+              (n es (selfOf s end d f p) (imported d es o)) in
+              let from-13 = number-yes 13 (q13-imports (installed (storeLimits s) es) p) (from 14 (asks s es d f p)) 14 (has-imports d es o) no in (
+                omega arith,
+                read-number d es 14 (number-yes 12 (q12-new (installed (storeLimits s) es) p) (from 13 (asks s es d f p)) 14 (is-new d es o)
+                    from-13),
+              )
 
           pub parents-yes : (depth : ℕ) → ParentedIs f s end (parented.Yes depth) → ParentsAnswer s end f (Accepted depth)
           unfolding deepest
           parents-yes depth y d es o =
               let q = y es (selfOf s end d f p) (imported d es o) in
-              let asked : Asked14 s end d f es p = record { read = read es o; q12 = of-true (is-new d es o); q13 = of-true (has-imports d es o); q14 = of-true (q .0) } in
+              let asked : Asked14 s end d f es p = record {
+                read = read es o;
+                q12 = of-true (is-new d es o);
+                q13 = of-true (has-imports d es o);
+                q14 =
+                    of-true (q .0);
+              } in
               (p, asked, ten, q .1)
 
 module _ (s : Bytes) (end : ℕ) (d : Aid) (f : Bytes) (es : List Entry) where
   -- a number from 15 on is one from 10 on, where 10 to 14 were answered yes
-  pub behind-14 : (p : Package) → Asked14 s end d f es p → q10-marked f ≡ true → (n : ℕ) → n ≡ firstNo (from 15 (asks s es d f p)) → n ≡ firstNo (fileAsks s es d f)
+  pub behind-14 : (p : Package) → Asked14 s end d f es p → q10-marked f ≡ true → (n : ℕ) → n ≡ firstNo (from 15 (asks s es d f p)) → n ≡ firstNo
+      (fileAsks s es d f)
   unfolding loadQuestions packageQuestions q11-reads
   behind-14 p a ten n h =
       let is = installed (storeLimits s) es in
@@ -108,22 +127,26 @@ module _ (s : Bytes) (end : ℕ) (d : Aid) (f : Bytes) (es : List Entry) where
       number-yes 10 (q10-marked f) (packageQuestions (storeLimits s) (length s) es d f (readFile (storeLimits s) f)) n ten (rw (a .read .reads) from-12)
 
   -- a number from 10 on is a load's, where 3 and 5 were answered yes
-  pub behind-5 : q3-lengths (d ∷ []) ≡ true → q5-created es d ≡ true → (n : ℕ) → n ≡ firstNo (fileAsks s es d f) → n ≡ firstNo (loadQuestions (storeLimits s) (length s) es d f)
+  pub behind-5 : q3-lengths (d ∷ []) ≡ true → q5-created es d ≡ true → (n : ℕ) → n ≡ firstNo (fileAsks s es d f) → n ≡ firstNo
+      (loadQuestions (storeLimits s) (length s) es d f)
   unfolding loadQuestions
-  behind-5 three five n h = number-yes 3 (q3-lengths (d ∷ [])) (from 5 (loadQuestions (storeLimits s) (length s) es d f)) n three (number-yes 5 (q5-created es d) (fileAsks s es d f) n five h)
+  behind-5 three five n h = number-yes 3 (q3-lengths (d ∷ [])) (from 5 (loadQuestions (storeLimits s) (length s) es d f)) n three
+      (number-yes 5 (q5-created es d) (fileAsks s es d f) n five h)
 
 module _ (s : Bytes) (end : ℕ) (d : Aid) (f : Bytes) where
   -- 3 and 5 answered no
   pub load-3 : aidLength (length d) ≡ false → LoadSays s end d f (Refused 3)
   unfolding loadQuestions
-  load-3 h es o = answer-refused (loadQuestions (storeLimits s) (length s) es d f) _ 3 (number-no 3 (q3-lengths (d ∷ [])) (from 5 (loadQuestions (storeLimits s) (length s) es d f)) (one-length d ∙ h)) (λ z. omega (arith, z))
+  load-3 h es o = answer-refused (loadQuestions (storeLimits s) (length s) es d f) _ 3
+      (number-no 3 (q3-lengths (d ∷ [])) (from 5 (loadQuestions (storeLimits s) (length s) es d f)) (one-length d ∙ h)) (λ z. omega (arith, z))
 
   module _ (three : aidLength (length d) ≡ true) where
     pub load-5 : ((es : List Entry) → Over s end es → false ≡ q5-created es d) → LoadSays s end d f (Refused 5)
     unfolding loadQuestions
     load-5 c es o =
         answer-refused (loadQuestions (storeLimits s) (length s) es d f) _ 5
-        (number-yes 3 (q3-lengths (d ∷ [])) (from 5 (loadQuestions (storeLimits s) (length s) es d f)) 5 (one-length d ∙ three) (number-no 5 (q5-created es d) (fileAsks s es d f) (sym (c es o)))) (λ z. omega (arith, z))
+        (number-yes 3 (q3-lengths (d ∷ [])) (from 5 (loadQuestions (storeLimits s) (length s) es d f)) 5 (one-length d ∙ three)
+        (number-no 5 (q5-created es d) (fileAsks s es d f) (sym (c es o)))) (λ z. omega (arith, z))
 
     -- both answered yes
     pub load-file : ((es : List Entry) → Over s end es → true ≡ q5-created es d) → (r : LoadAnswer) → FileSays s end d f r → LoadSays s end d f r
@@ -157,7 +180,8 @@ module _ (s : Bytes) (end : ℕ) (d : Aid) (f : Bytes) where
         pub file-done : n ≡ 0 → FileSays s end d f (Accepted depth)
         file-done z es o =
             let x = subst (ParentsSay s end d f es) e (first d es o) in
-            let is : deepestOf (storeLimits s) es d (readFile (storeLimits s) f) ≡ depth = ap (deepestOf (storeLimits s) es d) (x .1 .read .reads) ∙ sym (x .3) in
+            let is : deepestOf (storeLimits s) es d (readFile (storeLimits s) f) ≡ depth = ap (deepestOf (storeLimits s) es d) (x .1 .read .reads) ∙ sym
+            (x .3) in
             subst (λ (m : ℕ). AnswerIs (fileAsks s es d f) m (Accepted depth)) (sym is) (answer-accepted (fileAsks s es d f) depth (sym z ∙ file-number es o))
 
 -- what the answer of the reader says of questions 10 and 11

@@ -57,7 +57,8 @@ module _ (s : Bytes) (end at : ℕ) (es : List Entry) (g : Reached s end at es) 
   unfolding soundEntries
   whole =
       ap (acceptedAll (storeLimits s) (length s) []) (g .are) ∙ accepted-append (storeLimits s) (length s) [] (g .pre) (g .rest)
-      ∙ ap (λ (b : Bool). b && acceptedAll (storeLimits s) (length s) (g .pre) (g .rest)) (is-true (acceptedAll (storeLimits s) (length s) [] (g .pre)) (g .over .sound))
+      ∙ ap (λ (b : Bool). b && acceptedAll (storeLimits s) (length s) (g .pre) (g .rest))
+      (is-true (acceptedAll (storeLimits s) (length s) [] (g .pre)) (g .over .sound))
 
   -- an entry that is accepted
   pub going-on : (e : Entry) (next : ℕ) → FirstIs s at e next end (g .rest) → accepted (storeLimits s) (length s) (g .pre) e ≡ true → Reached s end next es
@@ -68,14 +69,17 @@ module _ (s : Bytes) (end at : ℕ) (es : List Entry) (g : Reached s end at es) 
     over = record {
       stand = entries-more s 7 (g .pre) at e next (g .over .stand) (f .stands);
       sound = subst⁻¹ T (accepted-append (storeLimits s) (length s) [] (g .pre) (e ∷ []))
-          (and-i (acceptedAll (storeLimits s) (length s) [] (g .pre)) _ (g .over .sound) (and-i (accepted (storeLimits s) (length s) (g .pre) e) true (of-true a) tt));
+          (and-i (acceptedAll (storeLimits s) (length s) [] (g .pre)) _ (g .over .sound)
+          (and-i (accepted (storeLimits s) (length s) (g .pre) e) true (of-true a) tt));
     };
     behind = f .after;
   }
 
   -- one that is not
-  pub going-bad : (e : Entry) (next : ℕ) → FirstIs s at e next end (g .rest) → accepted (storeLimits s) (length s) (g .pre) e ≡ false → soundEntries (storeLimits s) (length s) es ≡ false
-  going-bad e next f a = whole ∙ ap (acceptedAll (storeLimits s) (length s) (g .pre)) (f .are) ∙ ap (λ (b : Bool). b && acceptedAll (storeLimits s) (length s) (g .pre ++ e ∷ []) (f .rest)) a
+  pub going-bad : (e : Entry) (next : ℕ) → FirstIs s at e next end (g .rest) → accepted (storeLimits s) (length s) (g .pre) e ≡ false → soundEntries
+      (storeLimits s) (length s) es ≡ false
+  going-bad e next f a = whole ∙ ap (acceptedAll (storeLimits s) (length s) (g .pre)) (f .are) ∙ ap
+      (λ (b : Bool). b && acceptedAll (storeLimits s) (length s) (g .pre ++ e ∷ []) (f .rest)) a
 
   -- the end
   pub going-done : g .rest ≡ [] → soundEntries (storeLimits s) (length s) es ≡ true
@@ -88,7 +92,8 @@ unfolding createQuestions q21-fits
 domain-accepted s at j a pre o t y =
     let n = entry-next s at (domain a) j t in
     let u : used pre ≡ at = over-used s at pre o in
-    let fits : leb (used pre + length (entryBytes (domain a))) (length s) ≡ true = le-leb (used pre + length (entryBytes (domain a))) (length s) (omega (arith, u, n, t .to)) in
+    let fits : leb (used pre + length (entryBytes (domain a))) (length s) ≡ true = le-leb (used pre + length (entryBytes (domain a))) (length s)
+    (omega (arith, u, n, t .to)) in
     rw (is-true (q3-lengths (a ∷ [])) (y .0), is-true (q4-new pre a) (y .1), fits)
 
 -- a package's entry, by the number of its questions from 10 on
@@ -125,7 +130,8 @@ module _ (s : Bytes) (x : PackageEntry) (there : PackageThere s x) where
   }
 
   -- the depths of its classes are kept behind it
-  pub depths-behind : OverSome s (x .at) → {t t′ ds : List ℕ} → DepthsKept s (x .at) t → DepthsFit f ds → OwnDepths f s (x .at) ds → FileKept f (x .file) ds t′ →
+  pub depths-behind : OverSome s (x .at) → {t t′ ds : List ℕ} → DepthsKept s (x .at) t → DepthsFit f ds → OwnDepths f s (x .at) ds → FileKept f (x .file)
+      ds t′ →
       ((j : ℕ) → j < x .file / 5 → halfAt t′ j ≡ halfAt t j) → length t′ ≡ length t → DepthsKept s (x .next) t′
   depths-behind o {t} {t′} {ds} k fit own file same len =
       depths-next s (x .at) (x .file) (x .next) d t t′ ds k (there .stands) (there .inside) (there .file) own file same len (o .0, o .1 .stand)
@@ -217,10 +223,12 @@ module _ (s : Bytes) (end at : ℕ) (g : Going s end at) where
         }
 
     pub package-on : EntrySays s at (loaded (part s a m) (part s m j)) true → Going s end j
-    package-on y es t = let r = g es t in going-on s end at es r (loaded (part s a m) (part s m j)) j ((p (r .rest) (r .behind)) .2) (sym (y (r .pre) (r .over)))
+    package-on y es t = let r = g es t in going-on s end at es r (loaded (part s a m) (part s m j)) j ((p (r .rest) (r .behind)) .2)
+        (sym (y (r .pre) (r .over)))
 
     pub package-bad : EntrySays s at (loaded (part s a m) (part s m j)) false → PackagesSay s end false
-    package-bad y es t = let r = g es t in sym (going-bad s end at es r (loaded (part s a m) (part s m j)) j ((p (r .rest) (r .behind)) .2) (sym (y (r .pre) (r .over))))
+    package-bad y es t = let r = g es t in sym (going-bad s end at es r (loaded (part s a m) (part s m j)) j ((p (r .rest) (r .behind)) .2)
+        (sym (y (r .pre) (r .over))))
 
   pub all-done : PartAt s at end parts.AtEnd → PackagesSay s end true
   all-done p es t = let v = g es t in sym (going-done s end at es v ((p (v .rest) (v .behind)) .0))

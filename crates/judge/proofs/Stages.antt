@@ -27,7 +27,7 @@ use Rattle.calls.specs.Calls.{CodesSplit, CallsNumberIs}
 use Rattle.rules.proofs.Tests.{of-true}
 use Rattle.named.specs.Named.{Judged}
 use Rattle.running.specs.Say.{JudgedThere, RunningIs}
-use Rattle.judge.specs.Says.{FileRead, Asked14, ReadSome, Asked14Some, NumberFrom, from, asks}
+use Rattle.judge.specs.Says.{FileRead, Asked14, ReadSome, Asked14Some, NumberFrom, NumberBefore, from, asks}
 use Rattle.judge.proofs.Answers.{number-no, number-yes, joined-no, joined-yes}
 
 module _ (s : Bytes) (end : ℕ) (d : Aid) (f : Bytes) where
@@ -63,7 +63,8 @@ module _ (s : Bytes) (end : ℕ) (d : Aid) (f : Bytes) where
   pub number-20 : RunningIs f s end false → NumberFrom 20 s end d f 20
   unfolding packageQuestions
   number-20 n es p a =
-      number-no 20 (q20-running (storeLimits s) (installed (storeLimits s) es) (selfOf p)) (from 21 (asks s es d f p)) (sym (n es (selfOf p) (parents es p a) (a .q14)))
+      number-no 20 (q20-running (storeLimits s) (installed (storeLimits s) es) (selfOf p)) (from 21 (asks s es d f p))
+      (sym (n es (selfOf p) (parents es p a) (a .q14)))
 
   pub number-21 : (b : Bool) → RunningIs f s end true → Fits s end (loaded d f) b → NumberFrom 20 s end d f (pick b 0 21)
   unfolding packageQuestions
@@ -80,22 +81,29 @@ module _ (s : Bytes) (end : ℕ) (d : Aid) (f : Bytes) where
   calls es p = (18, q18-calls (installed (storeLimits s) es) (selfOf p)) ∷ (19, q19-allowed (installed (storeLimits s) es) (selfOf p)) ∷ []
 
   module _ (c : ℕ) (number : CallsNumberIs f s end d c) where
-    pub number-18 : (c ≡ 0 → ⊥) → NumberFrom 18 s end d f c
+    number-18 : (c ≡ 0 → ⊥) → NumberFrom 18 s end d f c
     unfolding packageQuestions
     number-18 z es p a = joined-no (calls es p) (from 20 (asks s es d f p)) c tt (number es (selfOf p) (imports es p a) refl) z
 
-    pub behind-19 : c ≡ 0 → (r : ℕ) → NumberFrom 20 s end d f r → NumberFrom 18 s end d f r
+    behind-19 : c ≡ 0 → (r : ℕ) → NumberFrom 20 s end d f r → NumberFrom 18 s end d f r
     unfolding packageQuestions
     behind-19 z r n es p a = joined-yes (calls es p) (from 20 (asks s es d f p)) r tt (sym z ∙ number es (selfOf p) (imports es p a) refl) (n es p a)
 
+    pub calls-before : NumberBefore 18 20 s end d f c
+    calls-before = (number-18, behind-19)
+
   -- 15
-  pub number-15 : NamesIs f false → NumberFrom 15 s end d f 15
+  number-15 : NamesIs f false → NumberFrom 15 s end d f 15
   unfolding packageQuestions
   number-15 n es p a = number-no 15 (q15-names p) (from 16 (asks s es d f p)) (sym (n (storeLimits s) p (a .read .reads)))
 
+  pub names-before : NamesIs f false → NumberBefore 15 20 s end d f 15
+  names-before n = ((λ z. number-15 n), (λ z. absurd (omega (arith, z))))
+
   module _ (fifteen : NamesIs f true) (c : ℕ) (number : FileNumberIs f c) where
     -- behind 15
-    behind-15 : (es : List Entry) (p : Package) → Asked14 s end d f es p → (r : ℕ) → r ≡ firstNo (from 16 (asks s es d f p)) → r ≡ firstNo (from 15 (asks s es d f p))
+    behind-15 : (es : List Entry) (p : Package) → Asked14 s end d f es p → (r : ℕ) → r ≡ firstNo (from 16 (asks s es d f p)) → r ≡ firstNo
+        (from 15 (asks s es d f p))
     unfolding packageQuestions
     behind-15 es p a r h = number-yes 15 (q15-names p) (from 16 (asks s es d f p)) r (sym (fifteen (storeLimits s) p (a .read .reads))) h
 
@@ -104,7 +112,7 @@ module _ (s : Bytes) (end : ℕ) (d : Aid) (f : Bytes) where
     of-file es p a = number (storeLimits s) p (a .read .reads)
 
     -- 16 or 17
-    pub number-16 : (c ≡ 0 → ⊥) → (c ≡ 18 → ⊥) → NumberFrom 15 s end d f c
+    number-16 : (c ≡ 0 → ⊥) → (c ≡ 18 → ⊥) → NumberFrom 15 s end d f c
     unfolding packageQuestions
     number-16 z y es p a =
         let e = of-file es p a in
@@ -118,13 +126,13 @@ module _ (s : Bytes) (end : ℕ) (d : Aid) (f : Bytes) where
         behind-15 es p a r (number-yes 16 (q16-splits p) (from 17 (asks s es d f p)) r x (number-yes 17 (q17-targets p) (from 18 (asks s es d f p)) r y h))
 
     -- neither: 18 and 19 are to be asked
-    pub behind-17 : c ≡ 18 → (r : ℕ) → NumberFrom 18 s end d f r → NumberFrom 15 s end d f r
+    behind-17 : c ≡ 18 → (r : ℕ) → NumberFrom 18 s end d f r → NumberFrom 15 s end d f r
     behind-17 e r n es p a =
         let x = codes.number-18 p (sym (of-file es p a) ∙ e) in
         behind-codes es p a (x .0) (x .1) r (n es p a)
 
     -- neither, and there are no calls: 18 and 19 are answered yes
-    pub without-calls : c ≡ 0 → (r : ℕ) → NumberFrom 20 s end d f r → NumberFrom 15 s end d f r
+    without-calls : c ≡ 0 → (r : ℕ) → NumberFrom 20 s end d f r → NumberFrom 15 s end d f r
     unfolding packageQuestions
     without-calls e r n es p a =
         let x = codes.number-0 p (sym (of-file es p a) ∙ e) in
@@ -132,6 +140,14 @@ module _ (s : Bytes) (end : ℕ) (d : Aid) (f : Bytes) where
         let from-19 = number-yes 19 (q19-allowed is (selfOf p)) (from 20 (asks s es d f p)) r (codes.quiet-19 is (selfOf p) (x .2)) (n es p a) in
         let from-18 = number-yes 18 (q18-calls is (selfOf p)) (from 19 (asks s es d f p)) r (codes.quiet-18 is (selfOf p) (x .2)) from-19 in
         behind-codes es p a (x .0) (x .1) r from-18
+
+    -- 16 or 17, or no calls
+    pub codes-before : (c ≡ 18 → ⊥) → NumberBefore 15 20 s end d f c
+    codes-before y = ((λ z. number-16 z y), without-calls)
+
+    -- 18 and 19 behind them
+    pub calls-behind : c ≡ 18 → (r : ℕ) → NumberBefore 18 20 s end d f r → NumberBefore 15 20 s end d f r
+    calls-behind e r b = ((λ z. behind-17 e r (b .0 z)), (λ z n from-20. behind-17 e n (b .1 z n from-20)))
 
     -- every code splits
     pub codes-split : Asked14Some s end d f → c ≡ 18 → CodesSplit f

@@ -7,6 +7,7 @@
 -- Asked14 s end d f es p    == and questions 12 to 14 were answered yes: what every later question may assume
 -- AnswerIs qs depth r       == r is the answer to a list of questions, with the depth where all are answered yes
 -- NumberFrom k s end d f r  == r is the number of a load's questions from k on, those before it answered yes
+-- NumberBefore k m ..       == the same, of the questions from k on that stand before m: 0 where they are answered yes
 -- fileAsks s es d f         == a load's questions from 10 on
 -- ParentsAnswer s end f r   == questions 10 to 14 of a file; ParentsTold == what is found with a yes
 -- FileSays, LoadSays        == a load's answer from 10 on, and whole
@@ -82,6 +83,10 @@ Asked14Some s end d f = (es : List Entry) × (p : Package) × Asked14 s end d f 
 abbrev pub NumberFrom : ℕ → Bytes → ℕ → Aid → Bytes → ℕ → Type 0
 NumberFrom k s end d f r = (es : List Entry) (p : Package) → Asked14 s end d f es p → r ≡ firstNo (from k (asks s es d f p))
 
+-- the number of the first no from k on before m; 0 where these are answered yes, and the number from m on is the one from k on
+abbrev pub NumberBefore : ℕ → ℕ → Bytes → ℕ → Aid → Bytes → ℕ → Type 0
+NumberBefore k m s end d f r = ((r ≡ 0 → ⊥) → NumberFrom k s end d f r) × (r ≡ 0 → (n : ℕ) → NumberFrom m s end d f n → NumberFrom k s end d f n)
+
 -- a load's questions from 10 on, whatever the file
 abbrev pub fileAsks : Bytes → List Entry → Aid → Bytes → List Question
 fileAsks s es d f = from 10 (loadQuestions (storeLimits s) (length s) es d f)
@@ -131,7 +136,8 @@ pub record PackageThere (s : Bytes) (x : PackageEntry) : Type 0 where
   pub domain : x .from ≤ x .file
   pub file : x .file ≤ x .next
   pub inside : x .at < x .file
-  pub known : (pre : List Entry) → Over s (x .at) pre → (q3-lengths (part s (x .from) (x .file) ∷ []) ≡ true) × (q5-created pre (part s (x .from) (x .file)) ≡ true)
+  pub known : (pre : List Entry) → Over s (x .at) pre → (q3-lengths (part s (x .from) (x .file) ∷ []) ≡ true) ×
+      (q5-created pre (part s (x .from) (x .file)) ≡ true)
 
 -- whether each entry up to a place would have been accepted
 abbrev pub PackagesSay : Bytes → ℕ → Bool → Type 0

@@ -21,7 +21,7 @@ ghost use Rattle.files.specs.Say.{Readable};
 ghost use Rattle.homes.specs.Found.{Indexed, ImportHomes};
 ghost use Rattle.depths.specs.Depths.{DepthsKept};
 ghost use Rattle.running.specs.Walk.{seenLength};
-ghost use Rattle.judge.specs.Says.{ReadSome, Asked14Some, NumberFrom, ParentsAnswer, ParentsTold, FileSays, LoadSays, DomainsYes, entryOf, PackageThere, EntrySays, PackagesSay};
+ghost use Rattle.judge.specs.Says.{ReadSome, Asked14Some, NumberFrom, NumberBefore, ParentsAnswer, ParentsTold, FileSays, LoadSays, DomainsYes, entryOf, PackageThere, EntrySays, PackagesSay};
 
 // A load: the number of the first no, or the depth of the deepest own class.
 pub enum LoadAnswer {
@@ -59,27 +59,20 @@ fn running_number<'a>(
     0
 }
 
-// Load, from 18 on, of a file each code of which splits.
+// 18 and 19 of a file each code of which splits: the number of the first no, or 0.
 fn calls_number<'a>(
     s: &'a [u8],
     end: usize,
     domain: &[u8],
     file: &'a [u8],
     homes: &[usize; 48],
-    index: &[u16],
-    seen: &mut [u8],
 ) -> u32
     requires { ⌜ Asked14Some (now s) end (now domain) (now file) × CodesSplit (now file) ⌝ }
-    requires { ⌜ ImportHomes (now file) (now s) end (now homes) × Indexed (now s) end (now index) ⌝ }
-    requires { ⌜ (length (now s) ≤ 65535) × (seenLength (now s) ≤ length (now seen)) ⌝ }
-    ensures { λ r. ⌜ NumberFrom 18 (now (s .entry)) end (now (domain .entry)) (now (file .entry)) r ⌝ }
+    requires { ⌜ ImportHomes (now file) (now s) end (now homes) ⌝ }
+    ensures { λ r. ⌜ NumberBefore 18 20 (now (s .entry)) end (now (domain .entry)) (now (file .entry)) r ⌝ }
 {
     let table = codes::table();
-    let number = calls::calls_ok(file, s, end, domain, &table, homes);
-    if number != 0 {
-        return number as u32;
-    }
-    running_number(s, end, domain, file, index, seen)
+    calls::calls_ok(file, s, end, domain, &table, homes) as u32
 }
 
 // 16 and 17 of a file: the number of the first no; 18 where there is none and the file has calls, 0 where it has none.
@@ -93,8 +86,30 @@ fn codes_number(s: &[u8], file: &[u8]) -> u8
     file_codes::codes_ok(file, &table, &mut starts, &mut targets)
 }
 
-// Load, from 15 on, of a file that passed 14.
+// 15 to 19 of a file that passed 14: the number of the first no, or 0.
 fn inside_number<'a>(
+    s: &'a [u8],
+    end: usize,
+    domain: &[u8],
+    file: &'a [u8],
+    homes: &[usize; 48],
+) -> u32
+    requires { ⌜ Asked14Some (now s) end (now domain) (now file) ⌝ }
+    requires { ⌜ ImportHomes (now file) (now s) end (now homes) ⌝ }
+    ensures { λ r. ⌜ NumberBefore 15 20 (now (s .entry)) end (now (domain .entry)) (now (file .entry)) r ⌝ }
+{
+    if !names::names_ok(file) {
+        return 15;
+    }
+    let number = codes_number(s, file);
+    if number != 18 {
+        return number as u32;
+    }
+    calls_number(s, end, domain, file, homes)
+}
+
+// Load, from 15 on, of a file that passed 14. The tables of 15 to 19 are gone when 20 is asked.
+fn later_number<'a>(
     s: &'a [u8],
     end: usize,
     domain: &[u8],
@@ -108,17 +123,11 @@ fn inside_number<'a>(
     requires { ⌜ (length (now s) ≤ 65535) × (seenLength (now s) ≤ length (now seen)) ⌝ }
     ensures { λ r. ⌜ NumberFrom 15 (now (s .entry)) end (now (domain .entry)) (now (file .entry)) r ⌝ }
 {
-    if !names::names_ok(file) {
-        return 15;
+    let number = inside_number(s, end, domain, file, homes);
+    if number != 0 {
+        return number;
     }
-    let number = codes_number(s, file);
-    if number == 0 {
-        return running_number(s, end, domain, file, index, seen);
-    }
-    if number != 18 {
-        return number as u32;
-    }
-    calls_number(s, end, domain, file, homes, index, seen)
+    running_number(s, end, domain, file, index, seen)
 }
 
 // 12 to 14 of a file that reads: the number of the first no, or the depth of the deepest class; with it the homes of the imports and
@@ -145,7 +154,7 @@ fn package_answer<'a>(
         return LoadAnswer::Refused(13);
     }
     let mut rows = [0u16; 512];
-    let limits = cursor::limits_of(s);
+    let limits = store::limits_of(s);
     let bounds = Bounds {
         end: end,
         most: limits.depth,
@@ -172,7 +181,7 @@ fn parents_answer<'a>(
     ensures { λ r. ⌜ ParentsAnswer (now (s .entry)) end (now (file .entry)) r ⌝ }
     ensures { λ r. ⌜ ParentsTold (now (s .entry)) end (now (file .entry)) (now (homes .exit)) (now (own .exit)) r ⌝ }
 {
-    match reader::read_package(file, cursor::limits_of(s)) {
+    match reader::read_package(file, store::limits_of(s)) {
         Read::Unmarked => LoadAnswer::Refused(10),
         Read::Unreadable => LoadAnswer::Refused(11),
         Read::Package(_) => package_answer(s, end, file, index, homes, depths, own),
@@ -199,7 +208,7 @@ fn file_answer<'a>(
     match parents_answer(s, end, file, index, &mut homes, depths, &mut own) {
         LoadAnswer::Refused(n) => LoadAnswer::Refused(n),
         LoadAnswer::Accepted(depth) => {
-            let number = inside_number(s, end, domain, file, &homes, index, seen);
+            let number = later_number(s, end, domain, file, &homes, index, seen);
             if number != 0 {
                 return LoadAnswer::Refused(number);
             }
@@ -257,7 +266,7 @@ fn package_sound(
         LoadAnswer::Refused(_) => false,
         LoadAnswer::Accepted(_) => {
             depths::keep_depths(s, depths, &own, file, next);
-            if inside_number(s, at, &s[from..file], &s[file..next], &homes, index, seen) != 0 {
+            if later_number(s, at, &s[from..file], &s[file..next], &homes, index, seen) != 0 {
                 return false;
             }
             index::enter_package(s, at, file, next, index);

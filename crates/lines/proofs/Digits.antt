@@ -59,5 +59,6 @@ module _ (s : Bytes) (i : ℕ) (h : i + 1 < length s) where
   no-low x y e k f m = rw (first-two, limit-some 16 x e k, limit-none 16 y f m)
 
   -- two digits, the high one first
-  pub two-digits : (x y : ℕ) → ifBelow 16 x ≡ digit (getD s i 0) → x < 16 → ifBelow 16 y ≡ digit (getD s (i + 1) 0) → y < 16 → ifBelow 256 (x * 16 + y) ≡ firstByte (drop i s)
+  pub two-digits : (x y : ℕ) → ifBelow 16 x ≡ digit (getD s i 0) → x < 16 → ifBelow 16 y ≡ digit (getD s (i + 1) 0) → y < 16 → ifBelow 256 (x * 16 + y) ≡
+      firstByte (drop i s)
   two-digits x y e k f m = rw (first-two, limit-some 16 x e k, limit-some 16 y f m, lt-ltb (x * 16 + y) 256 (omega arith))

@@ -26,7 +26,8 @@ pub parts-whole : (b : ℕ) (cs : Bytes) → length (before b cs) ≡ length cs 
 parts-whole b [] e = refl
 parts-whole b (c ∷ cs) e = go (eqb c b) (parts-whole b cs) e
   where
-    go : (t : Bool) → (length (before b cs) ≡ length cs → parts b cs ≡ cs ∷ []) → length (pick t [] (c ∷ before b cs)) ≡ suc (length cs) → pick t ([] ∷ parts b cs) (onFirst c (parts b cs)) ≡ (c ∷ cs) ∷ []
+    go : (t : Bool) → (length (before b cs) ≡ length cs → parts b cs ≡ cs ∷ []) → length (pick t [] (c ∷ before b cs)) ≡ suc (length cs) → pick t
+        ([] ∷ parts b cs) (onFirst c (parts b cs)) ≡ (c ∷ cs) ∷ []
     go true rec h = absurd (omega arith)
     go false rec h = rw (rec (omega arith))
 
@@ -35,7 +36,9 @@ pub parts-next : (b : ℕ) (cs : Bytes) → length (before b cs) < length cs →
 parts-next b [] h = absurd (omega arith)
 parts-next b (c ∷ cs) h = go (eqb c b) (parts-next b cs) h
   where
-    go : (t : Bool) → (length (before b cs) < length cs → parts b cs ≡ before b cs ∷ parts b (drop (suc (length (before b cs))) cs)) → length (pick t [] (c ∷ before b cs)) < suc (length cs) → pick t ([] ∷ parts b cs) (onFirst c (parts b cs)) ≡ pick t [] (c ∷ before b cs) ∷ parts b (drop (suc (length (pick t [] (c ∷ before b cs)))) (c ∷ cs))
+    go : (t : Bool) → (length (before b cs) < length cs → parts b cs ≡ before b cs ∷ parts b (drop (suc (length (before b cs))) cs)) → length
+        (pick t [] (c ∷ before b cs)) < suc (length cs) → pick t ([] ∷ parts b cs) (onFirst c (parts b cs)) ≡ pick t [] (c ∷ before b cs) ∷ parts b
+        (drop (suc (length (pick t [] (c ∷ before b cs)))) (c ∷ cs))
     go true rec k = refl
     go false rec k = rw (rec (omega arith))
 
@@ -59,7 +62,8 @@ before-take b (c ∷ cs) = go (eqb c b) (before-take b cs)
     go false rec = ap (λ (x : Bytes). c ∷ x) rec
 
 -- a character that is not b adds one
-pub before-step : (b : ℕ) (s : Bytes) (i : ℕ) → i < length s → (getD s i 0 ≡ b → ⊥) → i + length (before b (drop i s)) ≡ i + 1 + length (before b (drop (i + 1) s))
+pub before-step : (b : ℕ) (s : Bytes) (i : ℕ) → i < length s → (getD s i 0 ≡ b → ⊥) → i + length (before b (drop i s)) ≡ i + 1 + length
+    (before b (drop (i + 1) s))
 before-step b s i h e = rw (add-one, drop-cons s i 0, ne-eqb (getD s i 0) b e) (omega arith)
 
 -- a b ends them

@@ -62,7 +62,8 @@ second k w cs = go (leb (length cs) (length (before space cs))) refl
     more h =
         rw (parts-next space cs h, parts-first space (drop (suc (length (before space cs))) cs) .1)
 
-    go : (t : Bool) → leb (length cs) (length (before space cs)) ≡ t → letterAnd k (w ∷ parts space cs) ≡ (argument w andThen λ x. argument cs andThen withTwo k x)
+    go : (t : Bool) → leb (length cs) (length (before space cs)) ≡ t → letterAnd k (w ∷ parts space cs) ≡
+        (argument w andThen λ x. argument cs andThen withTwo k x)
     go true e =
         let h : length cs ≤ length (before space cs) = leb-true (length cs) (length (before space cs)) e in
         let b : length (before space cs) ≤ length cs = before-bound space cs in

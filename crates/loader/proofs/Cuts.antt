@@ -27,7 +27,8 @@ module _ (s : Bytes) (u : ℕ) (h : SoundAt s u) (o : Operation) (q : Entry → 
   pub cut-refused : (n : ℕ) → r ≡ cut.Refused n → (n ≡ number s o) × (s ≡ after s o)
   cut-refused n z = let p = subst (CutSays s u o q) z c in asked-refused s u h o n (p .0) (p .1)
 
-  pub cut-done : (i j : ℕ) (t : Bytes) → r ≡ cut.Entry i j → ((es : List Entry) → change es o ≡ without q es) → CutOut s t i j → (0 ≡ number s o) × (t ≡ after s o)
+  pub cut-done : (i j : ℕ) (t : Bytes) → r ≡ cut.Entry i j → ((es : List Entry) → change es o ≡ without q es) → CutOut s t i j → (0 ≡ number s o) ×
+      (t ≡ after s o)
   cut-done i j t z k w =
       let x = opening s u h in
       let p = subst (CutSays s u o q) z c in

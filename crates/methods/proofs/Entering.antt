@@ -62,7 +62,8 @@ module _ (t : Bytes) (l : List ℕ) (a e p : ℕ) (sorted : Sorted t l a e) wher
   }
 
   -- none is
-  module _ (m : List ℕ) (r : ℕ) (w : Lower t l a e (nameAt t p) r) (o : Opened l m e r p) (room : e < length l) (np : Named t p) (less : Nameless t l a e (nameAt t p)) where
+  module _ (m : List ℕ) (r : ℕ) (w : Lower t l a e (nameAt t p) r) (o : Opened l m e r p) (room : e < length l) (np : Named t p)
+      (less : Nameless t l a e (nameAt t p)) where
     from-here : (k : ℕ) → a ≤ k → k < e + 1 → (q : ℕ) → getD m k 0 ≡ q → Has l a e q ⊎ ((q ≡ p) × Nameless t l a e (nameAt t p))
     from-here k low h q z = ⊎-elim before after (less-or k r)
       where
@@ -107,7 +108,8 @@ module _ (t : Bytes) (l : List ℕ) (a e p : ℕ) (sorted : Sorted t l a e) wher
 
     -- the names that are not smaller are greater
     greater : (k : ℕ) → r ≤ k → k < e → nameAt t p < nameAt t (getD l k 0)
-    greater k u v = ⊎-elim (λ z. absurd (less (getD l k 0) (k, omega (arith, w .low), v, refl) z)) (λ z. omega (arith, z, w .over k u v)) (equal-or (nameAt t (getD l k 0)) (nameAt t p))
+    greater k u v = ⊎-elim (λ z. absurd (less (getD l k 0) (k, omega (arith, w .low), v, refl) z)) (λ z. omega (arith, z, w .over k u v))
+        (equal-or (nameAt t (getD l k 0)) (nameAt t p))
 
     entered-order : (i j : ℕ) → a ≤ i → i < j → j < e + 1 → nameAt t (getD m i 0) < nameAt t (getD m j 0)
     entered-order i j low h g = ⊎-elim early late (less-or i r)
@@ -151,5 +153,6 @@ module _ (t : Bytes) (l : List ℕ) (a e p : ℕ) (sorted : Sorted t l a e) wher
   pub entered-over : (m : List ℕ) (r : ℕ) → Lower t l a e (nameAt t p) r → Opened l m e r p → e < length l → Named t p → e ≤ r → Entered t l m a e p (e + 1)
   entered-over m r w o room np h = entered-new m r w o room np (none-over t l a e (nameAt t p) sorted r w h)
 
-  pub entered-here : (m : List ℕ) (r : ℕ) → Lower t l a e (nameAt t p) r → Opened l m e r p → e < length l → Named t p → r < e → (nameAt t (getD l r 0) ≡ nameAt t p → ⊥) → Entered t l m a e p (e + 1)
+  pub entered-here : (m : List ℕ) (r : ℕ) → Lower t l a e (nameAt t p) r → Opened l m e r p → e < length l → Named t p → r < e →
+      (nameAt t (getD l r 0) ≡ nameAt t p → ⊥) → Entered t l m a e p (e + 1)
   entered-here m r w o room np h z = entered-new m r w o room np (none-here t l a e (nameAt t p) sorted r w h z)

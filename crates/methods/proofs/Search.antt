@@ -35,7 +35,14 @@ pub record Between (t : Bytes) (l : List ℕ) (a e x lo hi : ℕ) : Type 0 where
 
 module _ (t : Bytes) (l : List ℕ) (a e x : ℕ) (sorted : Sorted t l a e) where
   pub between-start : Between t l a e x a e
-  between-start = record { start = omega arith; low = sorted .low; high = omega arith; under = λ k h g. absurd (omega arith); over = λ k h g. absurd (omega arith) }
+  between-start = record {
+    start = omega arith;
+    low = sorted .low;
+    high = omega arith;
+    under = λ k h g. absurd (omega arith);
+    over = λ k h g. absurd
+        (omega arith);
+  }
 
   pub between-up : (lo hi m : ℕ) → Between t l a e x lo hi → lo ≤ m → m < hi → nameAt t (getD l m 0) < x → Between t l a e x (m + 1) hi
   between-up lo hi m b h g less = record {
@@ -68,7 +75,13 @@ module _ (t : Bytes) (l : List ℕ) (a e x : ℕ) (sorted : Sorted t l a e) wher
       here k u w = let same : k ≡ m = omega arith in rw same more
 
   pub between-end : (lo hi : ℕ) → Between t l a e x lo hi → hi ≤ lo → Lower t l a e x lo
-  between-end lo hi b h = record { low = b .start; high = omega (arith, b .low, b .high); under = b .under; over = λ k u v. b .over k (omega (arith, b .low)) v }
+  between-end lo hi b h = record {
+    low = b .start;
+    high = omega (arith, b .low, b .high);
+    under = b .under;
+    over = λ k u v. b .over k
+        (omega (arith, b .low)) v;
+  }
 
   -- finding
   module _ (r : ℕ) (w : Lower t l a e x r) where

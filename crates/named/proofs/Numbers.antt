@@ -50,7 +50,8 @@ module _ (f s : Bytes) (end : ℕ) where
     number-at p h e q g = rw e (number-there p q g)
 
 -- a row beside the one that was written
-row-beside : (g : Bytes) (rows new : List ℕ) (p q : ℕ) → (q ≡ p → ⊥) → length new ≡ length rows → Beside rows new (mostClasses * p) → RowTrue g rows (mostClasses * q) → RowTrue g new (mostClasses * q)
+row-beside : (g : Bytes) (rows new : List ℕ) (p q : ℕ) → (q ≡ p → ⊥) → length new ≡ length rows → Beside rows new (mostClasses * p) → RowTrue g rows
+    (mostClasses * q) → RowTrue g new (mostClasses * q)
 row-beside g rows new p q n len b t = record { room = rw len (t .room); told = told }
   where
     same : (c : ℕ) → c < mostClasses → getD new (mostClasses * q + c) 0 ≡ getD rows (mostClasses * q + c) 0
@@ -77,11 +78,17 @@ rows-written f s end t rows new p len r one b = record { size = len ∙ r .size;
 
 -- rows of zeros tell nothing
 pub rows-empty : (f s : Bytes) (end : ℕ) (t rows : List ℕ) → length rows ≡ rowsLength → ((i : ℕ) → getD rows i 0 ≡ 0) → RowsTrue f s end t rows
-rows-empty f s end t rows len z = record { size = len; row = λ p h. record { room = omega (arith, len, h); told = λ c k n. absurd (omega (arith, n, z (mostClasses * p + c))) } }
+rows-empty f s end t rows len z = record {
+  size = len;
+  row = λ p h. record
+      { room = omega (arith, len, h); told = λ c k n. absurd (omega (arith, n, z (mostClasses * p + c))) };
+}
 
 -- the row of a package number
-pub row-of : (f s : Bytes) (end : ℕ) (t rows : List ℕ) (p : ℕ) (h : Home) (g : Bytes) → h ≡ homeOf end t p → g ≡ fileOf f s h → p ≤ mostImports → RowsTrue f s end t rows → RowTrue g rows (mostClasses * p)
+pub row-of : (f s : Bytes) (end : ℕ) (t rows : List ℕ) (p : ℕ) (h : Home) (g : Bytes) → h ≡ homeOf end t p → g ≡ fileOf f s h → p ≤ mostImports → RowsTrue
+    f s end t rows → RowTrue g rows (mostClasses * p)
 row-of f s end t rows p h g e q few r = rw (q, e) (r .row p few)
 
-pub row-back : (f s : Bytes) (end : ℕ) (t rows : List ℕ) (p : ℕ) (h : Home) (g : Bytes) → h ≡ homeOf end t p → g ≡ fileOf f s h → RowTrue g rows (mostClasses * p) → RowTrue (fileOf f s (homeOf end t p)) rows (mostClasses * p)
+pub row-back : (f s : Bytes) (end : ℕ) (t rows : List ℕ) (p : ℕ) (h : Home) (g : Bytes) → h ≡ homeOf end t p → g ≡ fileOf f s h → RowTrue g rows
+    (mostClasses * p) → RowTrue (fileOf f s (homeOf end t p)) rows (mostClasses * p)
 row-back f s end t rows p h g e q r = rw (q, e) at r

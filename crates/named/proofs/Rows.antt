@@ -52,7 +52,11 @@ from-start g i h = record { stands = first h; left = left }
     left l p e =
         let c = reads-counted mostClasses u1 (class l (p .domains)) steady-u1 g i (p .classes) (length g) (classes-read h l p e) in
         let u = reads-u1 g i (c .number) (c .place) (c .count) in
-        let n : length (p .classes) - 0 ≡ c .number = omega (arith, many-length (class l (p .domains)) (steady-class l (p .domains)) (c .number) g (c .place) (p .classes) (length g) (c .list)) in
+        let n : length (p .classes) - 0 ≡ c .number = omega (
+          arith,
+          many-length (class l (p .domains)) (steady-class l (p .domains)) (c .number) g
+              (c .place) (p .classes) (length g) (c .list),
+        ) in
         rw (n, u .next) (c .list)
 
 -- the class at hand
@@ -85,14 +89,16 @@ module _ (g : Bytes) (c i : ℕ) where
   pub from-next : (d : ℕ) → Readable g → ClassFrom g c i → AfterClass g i d → ClassesFrom g (c + 1) d
   from-next d r h a = record { stands = next (h .rest .stands) (from-there h r) a; left = left }
     where
-      left : (l : Limits) (p : Package) → readFile l g ≡ some p → Reads (many (length (p .classes) - (c + 1)) (class l (p .domains))) g d (drop (c + 1) (p .classes)) (length g)
+      left : (l : Limits) (p : Package) → readFile l g ≡ some p → Reads (many (length (p .classes) - (c + 1)) (class l (p .domains))) g d
+          (drop (c + 1) (p .classes)) (length g)
       left l p e = let z = from-front h l p e in let q = a l (p .domains) (z .one) (z .end) (z .reads) in rw q (z .rest)
 
   -- at the file's end there is no class more
   pub from-end : ClassesFrom g c i → length g ≤ i → (k : ℕ) → c ≤ k → ClassPlaced g k Nothing
   from-end h le k ck l p e = go (length (p .classes) - c) refl (h .left l p e)
     where
-      go : (n : ℕ) → n ≡ length (p .classes) - c → Reads (many n (class l (p .domains))) g i (drop c (p .classes)) (length g) → Placed (class l (p .domains)) g (at (p .classes) k) none
+      go : (n : ℕ) → n ≡ length (p .classes) - c → Reads (many n (class l (p .domains))) g i (drop c (p .classes)) (length g) → Placed
+          (class l (p .domains)) g (at (p .classes) k) none
       go zero q r = put-none (at-none (p .classes) k (omega (arith, q)))
       go (suc n) q r =
           let z = reads-left (class l (p .domains)) (steady-class l (p .domains)) (suc n) g i (drop c (p .classes)) (length g) (omega arith) r in
@@ -116,7 +122,8 @@ pub from-inside : (g : Bytes) (c i size : ℕ) → Readable g → size ≡ u2At 
 from-inside g c i size r e h q = record { inside = omega (arith, (file-size g r) .1, e, h); rest = q }
 
 -- the place that the row tells
-pub told-stands : (g : Bytes) (rows : List ℕ) (base c k : ℕ) → RowTrue g rows base → c < mostClasses → k ≡ getD rows (base + c) 0 → (k ≡ 0 → ⊥) → ClassFrom g c k
+pub told-stands : (g : Bytes) (rows : List ℕ) (base c k : ℕ) → RowTrue g rows base → c < mostClasses → k ≡ getD rows (base + c) 0 → (k ≡ 0 → ⊥) →
+    ClassFrom g c k
 told-stands g rows base c k t h e n = let z : 0 < getD rows (base + c) 0 = omega (arith, e, n) in rw e (t .told c h z)
 
 -- a place as it is read
@@ -130,9 +137,12 @@ module _ (g : Bytes) (r : Readable g) where
   parts-one t u =
       let p = r .1 in
       let a = (reads-same aid g 7 (p .aid) (p .aid) (t .domainsAt) (u .domainsAt) (t .named) (u .named)) .1 in
-      let b = (reads-same (counted mostDomains u1 aid) g (t .domainsAt) (p .domains) (p .domains) (t .importsAt) (u .importsAt) (t .domains) (rw a (u .domains))) .1 in
-      let c = (reads-same (counted mostImports u1 aid) g (t .importsAt) (p .imports) (p .imports) (t .referencesAt) (u .referencesAt) (t .imports) (rw b (u .imports))) .1 in
-      (reads-same (counted mostReferences u2 reference) g (t .referencesAt) (p .references) (p .references) (t .classesAt) (u .classesAt) (t .references) (rw c (u .references))) .1
+      let b = (reads-same (counted mostDomains u1 aid) g (t .domainsAt) (p .domains) (p .domains) (t .importsAt) (u .importsAt) (t .domains)
+      (rw a (u .domains))) .1 in
+      let c = (reads-same (counted mostImports u1 aid) g (t .importsAt) (p .imports) (p .imports) (t .referencesAt) (u .referencesAt) (t .imports)
+      (rw b (u .imports))) .1 in
+      (reads-same (counted mostReferences u2 reference) g (t .referencesAt) (p .references) (p .references) (t .classesAt) (u .classesAt) (t .references)
+      (rw c (u .references))) .1
 
   first-one : (i j : ℕ) → ClassesAt g i → ClassesAt g j → i ≡ j
   first-one i j a b = let t = a (r .0) (r .1) (r .2) in let u = b (r .0) (r .1) (r .2) in sym (t .1) ∙ parts-one (t .0) (u .0) ∙ u .1
@@ -158,8 +168,10 @@ walk-start g rows base c zero place t hc hj k a b = go (getD rows (base + 0) 0) 
   where
     go : (n : ℕ) → getD rows (base + 0) 0 ≡ n → ClassesFrom g 0 place
     go zero e = a e
-    go (suc n) e = let h : 0 < getD rows (base + 0) 0 = omega (arith, e) in let r : ClassesFrom g 0 (getD rows (base + 0) 0) = (t .told 0 (omega arith) h) .rest in rw (b h) r
-walk-start g rows base c (suc j) place t hc hj k a b = let h = k (omega arith) in let r : ClassesFrom g (suc j) (getD rows (base + suc j) 0) = (t .told (suc j) (omega arith) h) .rest in rw (b h) r
+    go (suc n) e = let h : 0 < getD rows (base + 0) 0 = omega (arith, e) in let r : ClassesFrom g 0 (getD rows (base + 0) 0) =
+        (t .told 0 (omega arith) h) .rest in rw (b h) r
+walk-start g rows base c (suc j) place t hc hj k a b = let h = k (omega arith) in let r : ClassesFrom g (suc j) (getD rows (base + suc j) 0) =
+    (t .told (suc j) (omega arith) h) .rest in rw (b h) r
 
 pub beside-same : (rows : List ℕ) (base : ℕ) → Beside rows rows base
 beside-same rows base = record { below = λ i h. refl; above = λ i h. refl }

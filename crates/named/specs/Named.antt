@@ -53,7 +53,8 @@ pub data Stands (g : Bytes) : ℕ → ℕ → Type 0 where
 -- the classes from number c on, read from a place to the end of the file
 pub record ClassesFrom (g : Bytes) (c i : ℕ) : Type 0 where
   pub stands : Stands g c i
-  pub left : (l : Limits) (p : Package) → readFile l g ≡ some p → Reads (many (length (p .classes) - c) (class l (p .domains))) g i (drop c (p .classes)) (length g)
+  pub left : (l : Limits) (p : Package) → readFile l g ≡ some p → Reads (many (length (p .classes) - c) (class l (p .domains))) g i (drop c (p .classes))
+      (length g)
 
 -- class c is there
 pub record ClassFrom (g : Bytes) (c i : ℕ) : Type 0 where

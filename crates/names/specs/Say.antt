@@ -1,19 +1,20 @@
 -- What the functions of question 15 require and ensure. Assumes nothing.
 --
 -- form i s m       == whether a method has its form, by the three bits, as `methodForm` asks
--- differsFrom n m  == the method's name is not n
+-- among t n x      == x is one of the first n names of the table t
+-- Below t n top    == t has n names, and they are below top
 -- classOk k        == question 15 of one class
 -- NamesIs f r      == r is question 15 of the package that the file reads as
-use Prim.Native.Nat.{ℕ}
+use Prim.Native.Nat.{ℕ, zero, suc, _≤_, _<_}
 use mathlib.Core.Path.{_≡_}
-use mathlib.Core.Bool.{Bool, _&&_, _||_, not}
+use mathlib.Core.Bool.{Bool, false, _&&_, _||_, not}
 use mathlib.Core.List.{List}
 use mathlib.Core.Option.{some}
 use lib.Dec.{eqb}
-use Rattle.rules.specs.Bytes.{Bytes, Aid, pick, all, many}
-use Rattle.rules.specs.Package.{Limits, Method, Class, Package, method, readFile}
+use lib.ListN.{length, getD}
+use Rattle.rules.specs.Bytes.{Bytes, pick, all}
+use Rattle.rules.specs.Package.{Limits, Class, Package, readFile}
 use Rattle.rules.specs.Questions.{namesDiffer, methodForm, q15-names}
-use Rattle.places.specs.Reads.{Reads, Ends}
 use Rattle.files.specs.Say.{OfMethod, OfClass}
 
 -- whether a method that is static or not and implemented or not has the form that its class's kind asks for
@@ -23,15 +24,14 @@ form interface static implemented = pick interface (not static && not implemente
 abbrev pub FormIs : Bytes → ℕ → Bool → Bool → Type 0
 FormIs s i b r = OfMethod s i λ l ds m. r ≡ form b (m .static) (m .implemented)
 
-abbrev pub differsFrom : ℕ → Method → Bool
-differsFrom n m = not (eqb n (m .name))
+-- is x one of the first n names of the table?
+abbrev pub among : List ℕ → ℕ → ℕ → Bool
+among names zero x = false
+among names (suc n) x = among names n x || eqb (getD names n 0) x
 
--- n methods stand from place i on
-abbrev pub MethodsFrom : Bytes → ℕ → ℕ → Type 0
-MethodsFrom s i n = (l : Limits) × (ds : List Aid) × Ends (many n (method l ds)) s i
-
-abbrev pub DifferIs : Bytes → ℕ → ℕ → ℕ → Bool → Type 0
-DifferIs s i n name r = (l : Limits) (ds : List Aid) (ms : List Method) (j : ℕ) → Reads (many n (method l ds)) s i ms j → r ≡ all (differsFrom name) ms
+-- the table has n names, and they are below a number
+abbrev pub Below : List ℕ → ℕ → ℕ → Type 0
+Below names n top = (n ≤ length names) × ((i : ℕ) → i < n → getD names i 0 < top)
 
 -- question 15 of one class
 abbrev pub classOk : Class → Bool

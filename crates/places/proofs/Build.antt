@@ -35,7 +35,12 @@ pub span-reads : (n : ℕ) (s : Bytes) (i : ℕ) → i + n ≤ length s → Read
 span-reads n s i h =
     let k : n ≤ length (drop i s) = omega (arith, length-drop i s) in
     let t : leb n (length (drop i s)) ≡ true = is-true (leb n (length (drop i s))) (le→leb n (length (drop i s)) k) in
-    record { is = ap (λ (b : Bool). pick b (some (take n (drop i s), drop n (drop i s))) none) t ∙ ap (λ (z : Bytes). some (take n (drop i s), z)) (drop-drop n i s); from = omega arith; to = h }
+    record {
+      is = ap (λ (b : Bool). pick b (some (take n (drop i s), drop n (drop i s))) none) t ∙ ap (λ (z : Bytes). some (take n (drop i s), z))
+          (drop-drop n i s);
+      from = omega arith;
+      to = h;
+    }
 
 -- lists
 module _ {A : Type 0} (r : Reader A) (s : Bytes) where
@@ -47,7 +52,8 @@ module _ {A : Type 0} (r : Reader A) (s : Bytes) where
       bind-reads r (λ x. many n r >>= λ xs. ret (x ∷ xs)) s i x m (x ∷ xs) j p
       (bind-reads (many n r) (λ xs. ret (x ∷ xs)) s m xs j (x ∷ xs) j q (ret-reads (x ∷ xs) s j (q .to)))
 
-  pub counted-reads : (most : ℕ) (c : Reader ℕ) (i n m : ℕ) (xs : List A) (j : ℕ) → Reads c s i n m → n ≤ most → Reads (many n r) s m xs j → Reads (counted most c r) s i xs j
+  pub counted-reads : (most : ℕ) (c : Reader ℕ) (i n m : ℕ) (xs : List A) (j : ℕ) → Reads c s i n m → n ≤ most → Reads (many n r) s m xs j → Reads
+      (counted most c r) s i xs j
   counted-reads most c i n m xs j p h q =
       bind-reads c (λ n. when (leb n most) (many n r)) s i n m xs j p (when-reads (leb n most) (many n r) s m xs j (le→leb n most h) q)
 

@@ -14,7 +14,7 @@ use Rattle.rules.proofs.Tests.{none-some, and-then-is}
 use Rattle.rules.proofs.Lists.{pick-some}
 use Rattle.rules.specs.Code.{u2At}
 use Rattle.places.specs.Reads.{Reads}
-use Rattle.places.proofs.Steady.{Steady, steady-u1, steady-many, u1-none, u1-some}
+use Rattle.places.proofs.Steady.{Steady, steady-u1, steady-u2, steady-many, u1-none, u1-some}
 
 -- a place is known by what is left there
 pub drop-same : (s : Bytes) (i j : ℕ) → i ≤ length s → j ≤ length s → drop i s ≡ drop j s → i ≡ j
@@ -25,6 +25,12 @@ pub reads-same : {A : Type 0} (r : Reader A) (s : Bytes) (i : ℕ) (a a′ : A) 
 reads-same {A} r s i a a′ j j′ p q =
     let e : _≡_ {A = A × Bytes} (a, drop j s) (a′, drop j′ s) = Option·some-injective _ _ (sym (p .is) ∙ q .is) in
     (ap (λ (x : A × Bytes). x .0) e, drop-same s j j′ (p .to) (q .to) (ap (λ (x : A × Bytes). x .1) e))
+
+-- a reader goes forward
+pub reads-forward : {A : Type 0} (r : Reader A) → Steady r → (s : Bytes) (i : ℕ) (a : A) (j : ℕ) → Reads r s i a j → i ≤ j
+reads-forward {A} r steady s i a j p =
+    let l = steady (drop i s) (a, drop j s) (p .is) in
+    omega (arith, ap length (l .is), length-drop i s, length-drop j s, length-drop (l .taken) (drop i s), l .within, p .from, p .to)
 
 pub reads-ret : {A : Type 0} (a : A) (s : Bytes) (i : ℕ) (b : A) (j : ℕ) → Reads (ret a) s i b j → (a ≡ b) × (i ≡ j)
 reads-ret {A} a s i b j p =
@@ -128,8 +134,23 @@ pub record Counted {A : Type 0} (most : ℕ) (c : Reader ℕ) (r : Reader A) (s 
   pub small : number ≤ most
   pub list : Reads (many number r) s place xs j
 
-pub reads-counted : {A : Type 0} (most : ℕ) (c : Reader ℕ) (r : Reader A) → Steady c → (s : Bytes) (i : ℕ) (xs : List A) (j : ℕ) → Reads (counted most c r) s i xs j → Counted most c r s i xs j
+pub reads-counted : {A : Type 0} (most : ℕ) (c : Reader ℕ) (r : Reader A) → Steady c → (s : Bytes) (i : ℕ) (xs : List A) (j : ℕ) → Reads
+    (counted most c r) s i xs j → Counted most c r s i xs j
 reads-counted most c r steady s i xs j p =
     let x = reads-bind c (λ n. when (leb n most) (many n r)) steady s i xs j p in
     let y = reads-when (leb (x .0) most) (many (x .0) r) s (x .1) xs j (x .3) in
     record { number = x .0; place = x .1; count = x .2; small = leb→le (x .0) most (y .0); list = y .1 }
+
+-- a list with its count takes the count's bytes or more
+module _ {A : Type 0} (most : ℕ) (r : Reader A) (steady : Steady r) (s : Bytes) (i : ℕ) (xs : List A) (j : ℕ) where
+  pub counted-one : Reads (counted most u1 r) s i xs j → i + 1 ≤ j
+  counted-one p =
+      let c = reads-counted most u1 r steady-u1 s i xs j p in
+      let h = reads-forward (many (c .number) r) (steady-many (c .number) r steady) s (c .place) xs j (c .list) in
+      omega (arith, (reads-u1 s i (c .number) (c .place) (c .count)) .next)
+
+  pub counted-two : Reads (counted most u2 r) s i xs j → i + 2 ≤ j
+  counted-two p =
+      let c = reads-counted most u2 r steady-u2 s i xs j p in
+      let h = reads-forward (many (c .number) r) (steady-many (c .number) r steady) s (c .place) xs j (c .list) in
+      omega (arith, (reads-u2 s i (c .number) (c .place) (c .count)) .next)

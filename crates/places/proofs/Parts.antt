@@ -78,7 +78,8 @@ index-part ds s i a j p =
     record { inside = u .inside; below = rw b (ltb→lt (x .0) (length ds) (y .0)); stands = rw b (z .0); next = omega (arith, u .next, z .1) }
 
 -- FF, or a count
-policy-of : (ds : List Aid) (s : Bytes) (i : ℕ) (q : Policy) (j n m : ℕ) → One s i n m → (b : Bool) → eqb n 0xFF ≡ b → Reads {A = Policy} (pick b (ret every) (listed ds n)) s m q j → PolicyPart ds s i q j
+policy-of : (ds : List Aid) (s : Bytes) (i : ℕ) (q : Policy) (j n m : ℕ) → One s i n m → (b : Bool) → eqb n 0xFF ≡ b → Reads {A = Policy}
+    (pick b (ret every) (listed ds n)) s m q j → PolicyPart ds s i q j
 unfolding listed
 policy-of ds s i q j n m u true e r =
     let z = reads-ret every s m q j r in
@@ -87,7 +88,14 @@ policy-of ds s i q j n m u false e r =
     let y = reads-when (leb n mostAllowed) (many n (domainIndex ds) >>= λ aids. ret (only aids)) s m q j r in
     let w = reads-bind (many n (domainIndex ds)) (λ aids. ret (only aids)) (steady-many n (domainIndex ds) (steady-index ds)) s m q j (y .1) in
     let z = reads-ret (only (w .0)) s (w .1) q j (w .3) in
-    inr (record { inside = u .inside; few = rw (u .byte) (leb→le n mostAllowed (y .0)); aids = w .0; list = rw (u .byte) (moved (w .2) (sym (u .next)) refl (z .1)); is = z .0 })
+    inr (record {
+      inside = u .inside;
+      few = rw (u .byte) (leb→le n mostAllowed (y .0));
+      aids = w .0;
+      list = rw (u .byte)
+          (moved (w .2) (sym (u .next)) refl (z .1));
+      is = z .0;
+    })
 
 pub policy-part : (ds : List Aid) (s : Bytes) (i : ℕ) (q : Policy) (j : ℕ) → Reads (policy ds) s i q j → PolicyPart ds s i q j
 unfolding policy
@@ -127,7 +135,8 @@ method-part l ds s i m j p =
     let v = reads-ret (methodOf b (y .0) (z .0) (w .0)) s (w .1) m j (w .3) in
     go b (x .1) (reads-u1 s i b (x .1) (x .2)) (y .0) (y .1) (reads-u2 s (x .1) (y .0) (y .1) (y .2)) (z .0) (z .1) (z .2) (w .0) (w .1) (w .2) (v .0) (v .1)
   where
-    go : (b x : ℕ) → One s i b x → (n y : ℕ) → Two s x n y → (q : Policy) (z : ℕ) → Reads (policy ds) s y q z → (c : Bytes) (w : ℕ) → Reads (codeIf l (bit 0x40 b)) s z c w →
+    go : (b x : ℕ) → One s i b x → (n y : ℕ) → Two s x n y → (q : Policy) (z : ℕ) → Reads (policy ds) s y q z → (c : Bytes) (w : ℕ) → Reads
+        (codeIf l (bit 0x40 b)) s z c w →
         methodOf b n q c ≡ m → w ≡ j → MethodPart l ds s i m j
     go b x u n y v q z r c w t e g =
         let h = u .byte in record {
@@ -149,12 +158,15 @@ class-part l ds s i k j p =
     let x = reads-bind u1 (λ k. when (leb k 1) (parents >>= λ ps. methods >>= λ ms. ret (classOf k ps ms))) steady-u1 s i k j p in
     let b = x .0 in
     let t = reads-when (leb b 1) (parents >>= λ ps. methods >>= λ ms. ret (classOf b ps ms)) s (x .1) k j (x .3) in
-    let y = reads-bind parents (λ ps. methods >>= λ ms. ret (classOf b ps ms)) (steady-counted (l .parents) u1 classNumber steady-u1 steady-number) s (x .1) k j (t .1) in
-    let z = reads-bind methods (λ ms. ret (classOf b (y .0) ms)) (steady-counted mostMethods u1 (method l ds) steady-u1 (steady-method l ds)) s (y .1) k j (y .3) in
+    let y = reads-bind parents (λ ps. methods >>= λ ms. ret (classOf b ps ms)) (steady-counted (l .parents) u1 classNumber steady-u1 steady-number) s
+    (x .1) k j (t .1) in
+    let z = reads-bind methods (λ ms. ret (classOf b (y .0) ms)) (steady-counted mostMethods u1 (method l ds) steady-u1 (steady-method l ds)) s (y .1) k j
+    (y .3) in
     let v = reads-ret (classOf b (y .0) (z .0)) s (z .1) k j (z .3) in
     go b (x .1) (reads-u1 s i b (x .1) (x .2)) (t .0) (y .0) (y .1) (y .2) (z .0) (z .1) (z .2) (v .0) (v .1)
   where
-    go : (b x : ℕ) → One s i b x → T (leb b 1) → (ps : List ClassNumber) (y : ℕ) → Reads (counted (l .parents) u1 classNumber) s x ps y → (ms : List Method) (z : ℕ) → Reads (counted mostMethods u1 (method l ds)) s y ms z →
+    go : (b x : ℕ) → One s i b x → T (leb b 1) → (ps : List ClassNumber) (y : ℕ) → Reads (counted (l .parents) u1 classNumber) s x ps y →
+        (ms : List Method) (z : ℕ) → Reads (counted mostMethods u1 (method l ds)) s y ms z →
         classOf b ps ms ≡ k → z ≡ j → ClassPart l ds s i k j
     go b x u t ps y q ms z r e g =
         let h = u .byte in record {
@@ -189,14 +201,19 @@ contents-part l f p size r =
     let aids : ℕ → Reader (List Aid) = λ most. counted most u1 aid in
     let a = reads-bind aid (λ a. domainsOf l a) steady-aid f 7 p n r in
     let d = reads-bind (aids mostDomains) (λ ds. importsOf l (a .0) ds) (steady-counted mostDomains u1 aid steady-u1 steady-aid) f (a .1) p n (a .3) in
-    let i = reads-bind (aids mostImports) (λ is. referencesOf l (a .0) (d .0) is) (steady-counted mostImports u1 aid steady-u1 steady-aid) f (d .1) p n (d .3) in
-    let e = reads-bind (counted mostReferences u2 reference) (λ rs. classesOf l (a .0) (d .0) (i .0) rs) (steady-counted mostReferences u2 reference steady-u2 steady-reference) f (i .1) p n (i .3) in
-    let c = reads-bind (counted mostClasses u1 (class l (d .0))) (λ cs. ret (packageOf (a .0) (d .0) (i .0) (e .0) cs)) (steady-counted mostClasses u1 (class l (d .0)) steady-u1 (steady-class l (d .0))) f (e .1) p n (e .3) in
+    let i = reads-bind (aids mostImports) (λ is. referencesOf l (a .0) (d .0) is) (steady-counted mostImports u1 aid steady-u1 steady-aid) f (d .1) p n
+    (d .3) in
+    let e = reads-bind (counted mostReferences u2 reference) (λ rs. classesOf l (a .0) (d .0) (i .0) rs)
+    (steady-counted mostReferences u2 reference steady-u2 steady-reference) f (i .1) p n (i .3) in
+    let c = reads-bind (counted mostClasses u1 (class l (d .0))) (λ cs. ret (packageOf (a .0) (d .0) (i .0) (e .0) cs))
+    (steady-counted mostClasses u1 (class l (d .0)) steady-u1 (steady-class l (d .0))) f (e .1) p n (e .3) in
     let z = reads-ret (packageOf (a .0) (d .0) (i .0) (e .0) (c .0)) f (c .1) p n (c .3) in
     go (a .0) (a .1) (a .2) (d .0) (d .1) (d .2) (i .0) (i .1) (i .2) (e .0) (e .1) (e .2) (c .0) (c .1) (c .2) (z .0) (z .1)
   where
-    go : (a : Aid) (x : ℕ) → Reads aid f 7 a x → (ds : List Aid) (y : ℕ) → Reads (counted mostDomains u1 aid) f x ds y → (is : List Aid) (z : ℕ) → Reads (counted mostImports u1 aid) f y is z →
-        (rs : List Reference) (v : ℕ) → Reads (counted mostReferences u2 reference) f z rs v → (cs : List Class) (w : ℕ) → Reads (counted mostClasses u1 (class l ds)) f v cs w →
+    go : (a : Aid) (x : ℕ) → Reads aid f 7 a x → (ds : List Aid) (y : ℕ) → Reads (counted mostDomains u1 aid) f x ds y → (is : List Aid) (z : ℕ) → Reads
+        (counted mostImports u1 aid) f y is z →
+        (rs : List Reference) (v : ℕ) → Reads (counted mostReferences u2 reference) f z rs v → (cs : List Class) (w : ℕ) → Reads
+        (counted mostClasses u1 (class l ds)) f v cs w →
         packageOf a ds is rs cs ≡ p → w ≡ length f → FilePart l f p
     go a x q ds y d is z i rs v e cs w c g h = subst (λ (q : Package). FilePart l f q) g (record {
       size = size;

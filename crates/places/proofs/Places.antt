@@ -12,7 +12,8 @@ use Rattle.places.proofs.Inverse.{reads-counted}
 use Rattle.places.proofs.Parts.{class-part, file-parts}
 use Rattle.places.proofs.Track.{many-place}
 
-pub counted-place : {A : Type 0} (most : ℕ) (c : Reader ℕ) (r : Reader A) → Steady c → Steady r → (s : Bytes) (i : ℕ) (xs : List A) (j : ℕ) → Reads (counted most c r) s i xs j →
+pub counted-place : {A : Type 0} (most : ℕ) (c : Reader ℕ) (r : Reader A) → Steady c → Steady r → (s : Bytes) (i : ℕ) (xs : List A) (j : ℕ) → Reads
+    (counted most c r) s i xs j →
     (k : ℕ) (x : A) → at xs k ≡ some x → (a e : ℕ) × Reads r s a x e
 counted-place most c r sc sr s i xs j p k x h =
     let n = reads-counted most c r sc s i xs j p in

@@ -111,7 +111,8 @@ module _ {A : Type 0} (r : Reader A) (steady : Steady r) (s : Bytes) (whole : Re
         z .value ∙ numbered-hit p n (z .one) (z .others) (q (z .one) (z .place) (z .reads))
 
     pub number-miss : (d : ℕ) → 0 < left → Tests r s c (p n) true → EndsAt r s c d → Tracks r s whole i (allFrom p k) (allFrom p (n + 1)) (left - 1) d
-    number-miss d h q e = track-more r steady s whole i (allFrom p k) (allFrom p n) left c t (allFrom p (n + 1)) d h e (λ x m k ys. numbered-miss p n x ys (q x m k))
+    number-miss d h q e = track-more r steady s whole i (allFrom p k) (allFrom p n) left c t (allFrom p (n + 1)) d h e
+        (λ x m k ys. numbered-miss p n x ys (q x m k))
 
     pub number-none : left ≤ 0 → (xs : List A) (j : ℕ) → Reads whole s i xs j → allFrom p k xs ≡ true
     number-none h xs j e = (track-done r steady s whole i (allFrom p k) (allFrom p n) left c t h xs j e) .1

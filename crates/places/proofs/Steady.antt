@@ -57,7 +57,8 @@ module _ {A : Type 0} (r : Reader A) where
       let last : List A × Bytes → Option (List A × Bytes) = λ x. r (x .1) andThen behind (x .0) in
       andThen-cong (r bs) _ _ (λ x e.
       ap (λ (o : Option (List A × Bytes)). o andThen inFront (x .0)) (many-snoc n (x .1)) ∙ andThen-assoc (many n r (x .1)) last (inFront (x .0))
-      ∙ andThen-cong (many n r (x .1)) _ _ (λ y e′. andThen-assoc (r (y .1)) (behind (y .0)) (inFront (x .0))) ∙ sym (andThen-assoc (many n r (x .1)) (inFront (x .0)) last))
+      ∙ andThen-cong (many n r (x .1)) _ _ (λ y e′. andThen-assoc (r (y .1)) (behind (y .0)) (inFront (x .0))) ∙ sym
+      (andThen-assoc (many n r (x .1)) (inFront (x .0)) last))
       ∙ sym (andThen-assoc (r bs) (λ x. many n r (x .1) andThen inFront (x .0)) last)
 
 pub all-snoc : {A : Type 0} (p : A → Bool) (xs : List A) (x : A) → all p (xs ++ x ∷ []) ≡ (all p xs && p x)
@@ -85,7 +86,12 @@ Steady {A} r = (bs : Bytes) (x : A × Bytes) → r bs ≡ some x → Left bs (x 
 pub left-trans : {a b c : Bytes} → Left a b → Left b c → Left a c
 left-trans {a} {b} {c} p q =
     let l : length b ≡ length a - p .taken = ap length (p .is) ∙ length-drop (p .taken) a in
-    record { taken = p .taken + q .taken; within = omega (arith, l, p .within, q .within); is = q .is ∙ ap (drop (q .taken)) (p .is) ∙ drop-drop (q .taken) (p .taken) a }
+    record {
+      taken = p .taken + q .taken;
+      within = omega (arith, l, p .within, q .within);
+      is = q .is ∙ ap (drop (q .taken)) (p .is) ∙ drop-drop
+          (q .taken) (p .taken) a;
+    }
 
 pub steady-bind : {A B : Type 0} (r : Reader A) (k : A → Reader B) → Steady r → ((a : A) → Steady (k a)) → Steady (r >>= k)
 steady-bind r k s t bs x e = let y = and-then-is (r bs) _ x e in left-trans (s bs (y .0) (y .1)) (t (y .0 .0) (y .0 .1) x (y .2))
@@ -95,7 +101,8 @@ steady-ret a bs x e = let z : bs ≡ x .1 = ap (λ (t : _ × Bytes). t .1) (Opti
 
 pub steady-u1 : Steady u1
 steady-u1 [] x e = absurd (none-some e)
-steady-u1 (b ∷ bs) x e = let z : bs ≡ x .1 = ap (λ (t : ℕ × Bytes). t .1) (Option·some-injective _ _ e) in record { taken = 1; within = omega arith; is = sym z }
+steady-u1 (b ∷ bs) x e = let z : bs ≡ x .1 = ap (λ (t : ℕ × Bytes). t .1) (Option·some-injective _ _ e) in record
+    { taken = 1; within = omega arith; is = sym z }
 
 pub steady-span : (n : ℕ) → Steady (span n)
 steady-span n bs x e =
@@ -120,7 +127,8 @@ steady-counted most c r sc sr = steady-bind c (λ n. when (leb n most) (many n r
 
 -- the formats of the package file
 pub steady-u2 : Steady u2
-steady-u2 = steady-bind u1 (λ h. u1 >>= λ l. ret (h * 256 + l)) steady-u1 (λ h. steady-bind u1 (λ l. ret (h * 256 + l)) steady-u1 (λ l. steady-ret (h * 256 + l)))
+steady-u2 = steady-bind u1 (λ h. u1 >>= λ l. ret (h * 256 + l)) steady-u1
+    (λ h. steady-bind u1 (λ l. ret (h * 256 + l)) steady-u1 (λ l. steady-ret (h * 256 + l)))
 
 pub steady-aid : Steady aid
 steady-aid = steady-bind u1 (λ n. when (aidLength n) (span n)) steady-u1 (λ n. steady-when (aidLength n) (span n) (steady-span n))
@@ -139,11 +147,13 @@ steady-index ds = steady-bind u1 _ steady-u1 (λ i. steady-when (ltb i (length d
 
 steady-listed : (ds : List Aid) (n : ℕ) → Steady (listed ds n)
 unfolding listed
-steady-listed ds n = steady-when (leb n mostAllowed) (many n (domainIndex ds) >>= λ aids. ret (only aids)) (steady-bind (many n (domainIndex ds)) _ (steady-many n (domainIndex ds) (steady-index ds)) (λ aids. steady-ret _))
+steady-listed ds n = steady-when (leb n mostAllowed) (many n (domainIndex ds) >>= λ aids. ret (only aids))
+    (steady-bind (many n (domainIndex ds)) _ (steady-many n (domainIndex ds) (steady-index ds)) (λ aids. steady-ret _))
 
 pub steady-policy : (ds : List Aid) → Steady (policy ds)
 unfolding policy
-steady-policy ds = steady-bind u1 (λ n. pick (eqb n 0xFF) (ret every) (listed ds n)) steady-u1 (λ n. steady-pick (eqb n 0xFF) (ret every) (listed ds n) (steady-ret every) (steady-listed ds n))
+steady-policy ds = steady-bind u1 (λ n. pick (eqb n 0xFF) (ret every) (listed ds n)) steady-u1
+    (λ n. steady-pick (eqb n 0xFF) (ret every) (listed ds n) (steady-ret every) (steady-listed ds n))
 
 pub steady-code : (l : Limits) (b : Bool) → Steady (codeIf l b)
 unfolding codeIf
@@ -167,4 +177,5 @@ steady-class l ds =
     steady-bind u1 (λ k. when (leb k 1) (parents >>= λ ps. methods >>= λ ms. ret (classOf k ps ms))) steady-u1 (λ k.
     steady-when (leb k 1) (parents >>= λ ps. methods >>= λ ms. ret (classOf k ps ms))
     (steady-bind parents (λ ps. methods >>= λ ms. ret (classOf k ps ms)) (steady-counted (l .parents) u1 classNumber steady-u1 steady-number) (λ ps.
-    steady-bind methods (λ ms. ret (classOf k ps ms)) (steady-counted mostMethods u1 (method l ds) steady-u1 (steady-method l ds)) (λ ms. steady-ret (classOf k ps ms)))))
+    steady-bind methods (λ ms. ret (classOf k ps ms)) (steady-counted mostMethods u1 (method l ds) steady-u1 (steady-method l ds))
+    (λ ms. steady-ret (classOf k ps ms)))))

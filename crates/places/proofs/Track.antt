@@ -47,7 +47,8 @@ counted-inside r s most i xs j p =
     let c = reads-counted most u1 r steady-u1 s i xs j p in
     let u = reads-u1 s i (c .number) (c .place) (c .count) in u .inside
 
-module _ {A B : Type 0} (r : Reader A) (steady : Steady r) (s : Bytes) (whole : Reader (List A)) (i : ℕ) (f g : List A → B) (left c : ℕ) (t : Tracks r s whole i f g left c) where
+module _ {A B : Type 0} (r : Reader A) (steady : Steady r) (s : Bytes) (whole : Reader (List A)) (i : ℕ) (f g : List A → B) (left c : ℕ)
+    (t : Tracks r s whole i f g left c) where
   -- the element at hand
   pub record Front (xs : List A) (j : ℕ) : Type 0 where
     pub one : A
@@ -67,7 +68,8 @@ module _ {A B : Type 0} (r : Reader A) (steady : Steady r) (s : Bytes) (whole : 
   track-ends h e = let z = track-front h (e .0) (e .1) (e .2) in (z .one, z .place, z .reads)
 
   -- a turn
-  pub track-more : (g′ : List A → B) (d : ℕ) → 0 < left → EndsAt r s c d → ((x : A) (m : ℕ) → Reads r s c x m → (ys : List A) → g (x ∷ ys) ≡ g′ ys) → Tracks r s whole i f g′ (left - 1) d
+  pub track-more : (g′ : List A → B) (d : ℕ) → 0 < left → EndsAt r s c d → ((x : A) (m : ℕ) → Reads r s c x m → (ys : List A) → g (x ∷ ys) ≡ g′ ys) →
+      Tracks r s whole i f g′ (left - 1) d
   track-more g′ d h e q xs j p =
       let z = track-front h xs j p in
       let n : d ≡ z .place = e (z .one) (z .place) (z .reads) in
@@ -104,22 +106,27 @@ many-nth r steady w s q zero i xs j p k h = absurd (omega arith)
 many-nth {A} r steady w s q (suc n) i xs j p k h =
     let z = reads-left r steady (suc n) s i xs j (omega arith) p in
     let e : suc n - 1 ≡ n = omega arith in
-    go k h (z .one) (z .others) (z .place) (z .reads) (z .are) (q i (z .one) (z .place) (z .reads)) (λ k h. many-nth r steady w s q n (z .place) (z .others) j (rw e at (z .rest)) k h)
+    go k h (z .one) (z .others) (z .place) (z .reads) (z .are) (q i (z .one) (z .place) (z .reads))
+    (λ k h. many-nth r steady w s q n (z .place) (z .others) j (rw e at (z .rest)) k h)
   where
-    go : (k : ℕ) → k < suc n → (y : A) (ys : List A) (m : ℕ) → Reads r s i y m → y ∷ ys ≡ xs → i + w ≡ m → ((k : ℕ) → k < n → Placed r s (at ys k) (some (m + w * k))) → Placed r s (at xs k) (some (i + w * k))
+    go : (k : ℕ) → k < suc n → (y : A) (ys : List A) (m : ℕ) → Reads r s i y m → y ∷ ys ≡ xs → i + w ≡ m →
+        ((k : ℕ) → k < n → Placed r s (at ys k) (some (m + w * k))) → Placed r s (at xs k) (some (i + w * k))
     go zero h y ys m u v t rec = let e : i ≡ i + w * 0 = rw (mul-zero w) (omega arith) in rw (← v, ← e) (there u)
     go (suc k) h y ys m u v t rec =
         let e : m + w * k ≡ i + w * suc k = omega (arith, mul-suc w k) in
         rw (← v, ← e) (rec k (omega arith))
 
 -- the element with a number has a place
-pub many-place : {A : Type 0} (r : Reader A) → Steady r → (n : ℕ) (s : Bytes) (i : ℕ) (xs : List A) (j : ℕ) → Reads (many n r) s i xs j → (k : ℕ) (x : A) → at xs k ≡ some x → (a e : ℕ) × Reads r s a x e
+pub many-place : {A : Type 0} (r : Reader A) → Steady r → (n : ℕ) (s : Bytes) (i : ℕ) (xs : List A) (j : ℕ) → Reads (many n r) s i xs j → (k : ℕ)
+    (x : A) → at xs k ≡ some x → (a e : ℕ) × Reads r s a x e
 many-place r steady zero s i xs j p k x q = let z = reads-done r 0 s i xs j (omega arith) p in absurd (none-some (rw (z .0) at q))
 many-place {A} r steady (suc n) s i xs j p k x q =
     let z = reads-left r steady (suc n) s i xs j (omega arith) p in
     let e : suc n - 1 ≡ n = omega arith in
     go k (z .one) (z .others) (z .place) (z .reads) (z .are) q (λ k x q. many-place r steady n s (z .place) (z .others) j (rw e at (z .rest)) k x q)
   where
-    go : (k : ℕ) (y : A) (ys : List A) (m : ℕ) → Reads r s i y m → y ∷ ys ≡ xs → at xs k ≡ some x → ((k : ℕ) (x : A) → at ys k ≡ some x → (a e : ℕ) × Reads r s a x e) → (a e : ℕ) × Reads r s a x e
-    go zero y ys m u v q rec = let q′ : some y ≡ some x = ap (λ (l : List A). at l 0) v ∙ q in let w : y ≡ x = Option·some-injective _ _ q′ in (i, m, rw (← w) u)
+    go : (k : ℕ) (y : A) (ys : List A) (m : ℕ) → Reads r s i y m → y ∷ ys ≡ xs → at xs k ≡ some x →
+        ((k : ℕ) (x : A) → at ys k ≡ some x → (a e : ℕ) × Reads r s a x e) → (a e : ℕ) × Reads r s a x e
+    go zero y ys m u v q rec = let q′ : some y ≡ some x = ap (λ (l : List A). at l 0) v ∙ q in let w : y ≡ x = Option·some-injective _ _ q′ in
+        (i, m, rw (← w) u)
     go (suc k) y ys m u v q rec = rec k x (ap (λ (l : List A). at l (suc k)) v ∙ q)

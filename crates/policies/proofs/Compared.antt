@@ -2,8 +2,8 @@
 use Prim.Native.Nat.{ℕ, zero, suc, _+_, _-_, _≤_, _<_}
 use native.Mathlib.Omega.{arith}
 use native.Mathlib.Decide.{ℕ-discrete}
-use mathlib.Core.Path.{_≡_, refl, _∙_, ap, ap₂}
-use mathlib.Core.Bool.{Bool, _&&_, _||_}
+use mathlib.Core.Path.{_≡_, refl, sym, _∙_, ap, ap₂}
+use mathlib.Core.Bool.{Bool, true, false, _&&_, _||_, or-true}
 use mathlib.Core.List.{List, [], _∷_}
 use lib.ListN.{length, take, drop, getD}
 use Rattle.rules.specs.Bytes.{Bytes, Aid, any, all, many}
@@ -21,7 +21,8 @@ Indexed ds [] (a ∷ xs) = ⊥
 Indexed ds (k ∷ ks) [] = ⊥
 Indexed ds (k ∷ ks) (a ∷ xs) = (k < length ds) × (getD ds k [] ≡ a) × Indexed ds ks xs
 
-pub reads-indexed : (ds : List Aid) (s : Bytes) (n i : ℕ) (aids : List Aid) (j : ℕ) → Reads (many n (domainIndex ds)) s i aids j → Indexed ds (take n (drop i s)) aids
+pub reads-indexed : (ds : List Aid) (s : Bytes) (n i : ℕ) (aids : List Aid) (j : ℕ) → Reads (many n (domainIndex ds)) s i aids j →
+    Indexed ds (take n (drop i s)) aids
 reads-indexed ds s zero i aids j p = let z = reads-done (domainIndex ds) 0 s i aids j (omega arith) p in rw (z .0) tt
 reads-indexed ds s (suc n) i aids j p =
     let z = reads-left (domainIndex ds) (steady-index ds) (suc n) s i aids j (omega arith) p in
@@ -45,8 +46,21 @@ module _ (ds : List Aid) (p : ℕ → Bool) (q : Aid → Bool) (h : (k : ℕ) �
   all-by-index (k ∷ ks) [] x = absurd x
   all-by-index (k ∷ ks) (a ∷ xs) x = ap₂ _&&_ (h k (x .0) ∙ ap q (x .1)) (all-by-index ks xs (x .2))
 
+-- an index that passes, and its AID
+pub any-through : (ds : List Aid) (p : ℕ → Bool) (q : Aid → Bool) → ((k : ℕ) → k < length ds → p k ≡ true → q (getD ds k []) ≡ true) →
+    (ks : List ℕ) (xs : List Aid) → Indexed ds ks xs → any p ks ≡ true → any q xs ≡ true
+any-through ds p q h [] [] x e = e
+any-through ds p q h [] (a ∷ xs) x e = absurd x
+any-through ds p q h (k ∷ ks) [] x e = absurd x
+any-through ds p q h (k ∷ ks) (a ∷ xs) x e = go (p k) refl e (any-through ds p q h ks xs (x .2))
+  where
+    go : (b : Bool) → p k ≡ b → (b || any p ks) ≡ true → (any p ks ≡ true → any q xs ≡ true) → (q a || any q xs) ≡ true
+    go true u v rec = let s : q a ≡ true = ap q (sym (x .1)) ∙ h k (x .0) u in rw s
+    go false u v rec = rw (rec v) (or-true (q a))
+
 -- each index is below the domain count
-pub index-below : (ds : List Aid) (s : Bytes) (n i : ℕ) (aids : List Aid) (j : ℕ) → Reads (many n (domainIndex ds)) s i aids j → (k : ℕ) → i ≤ k → k < i + n → getD s k 0 < length ds
+pub index-below : (ds : List Aid) (s : Bytes) (n i : ℕ) (aids : List Aid) (j : ℕ) → Reads (many n (domainIndex ds)) s i aids j → (k : ℕ) → i ≤ k → k < i + n →
+    getD s k 0 < length ds
 index-below ds s zero i aids j p k a b = absurd (omega arith)
 index-below ds s (suc n) i aids j p k a b =
     let z = reads-left (domainIndex ds) (steady-index ds) (suc n) s i aids j (omega arith) p in

@@ -39,7 +39,8 @@ module _ (q : Aid → Bool) (r : ℕ → Bool) (b : ℕ) where
       rw (e, any-past ds (suc m) (omega arith))
 
   -- one number more: the element with that number passes, or one of the others does
-  any-split : (ds : List Aid) (m : ℕ) → m ≤ b → b < m + length ds → anyFrom (λ k d. q d && (eqb k b || r k)) m ds ≡ (q (getD ds (b - m) []) || anyFrom (λ k d. q d && r k) m ds)
+  any-split : (ds : List Aid) (m : ℕ) → m ≤ b → b < m + length ds →
+      anyFrom (λ k d. q d && (eqb k b || r k)) m ds ≡ (q (getD ds (b - m) []) || anyFrom (λ k d. q d && r k) m ds)
   any-split [] m h k = absurd (omega arith)
   any-split (d ∷ ds) m h k = elim (decLe b m) [
     | yes g ↦
@@ -88,7 +89,8 @@ module _ (s : Bytes) (p : ℕ → Bool) (left c : ℕ) where
   byte-all h = let z : left ≡ 0 = omega arith in rw z
 
 -- of the AIDs at the indexes one passes: of the domains one passes whose number is an index
-pub any-indexed : (q : Aid → Bool) (ds : List Aid) (s : Bytes) (n i : ℕ) (aids : List Aid) (j : ℕ) → Reads (many n (domainIndex ds)) s i aids j → any q aids ≡ anyFrom (λ k d. q d && any (eqb k) (take n (drop i s))) 0 ds
+pub any-indexed : (q : Aid → Bool) (ds : List Aid) (s : Bytes) (n i : ℕ) (aids : List Aid) (j : ℕ) → Reads (many n (domainIndex ds)) s i aids j →
+    any q aids ≡ anyFrom (λ k d. q d && any (eqb k) (take n (drop i s))) 0 ds
 any-indexed q ds s zero i aids j p = let z = reads-done (domainIndex ds) 0 s i aids j (omega arith) p in ap (any q) (z .0) ∙ sym (any-without q ds 0)
 any-indexed q ds s (suc n) i aids j p =
     let z = reads-left (domainIndex ds) (steady-index ds) (suc n) s i aids j (omega arith) p in

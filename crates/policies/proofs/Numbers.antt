@@ -1,27 +1,25 @@
--- The number of an AID in a list: two AIDs, one of them of the list, have one number exactly where they are the same. The loop that looks for a number. Assumes nothing.
+-- The number of an AID in a list: two AIDs, one of them of the list, have one number exactly where they are the same. Assumes nothing.
 use Prim.Native.Nat.{ℕ, zero, suc, _+_, _-_, _≤_, _<_}
 use native.Mathlib.Omega.{arith}
-use native.Mathlib.Decide.{ℕ-discrete}
 use mathlib.Core.Path.{_≡_, refl, sym, _∙_, ap, subst}
 use mathlib.Core.Bool.{Bool, true, false}
 use mathlib.Core.List.{List, [], _∷_, _++_, List·Memᴰ, List·Memᴰ·head, List·Memᴰ·tail, Memᴰ·append-left, Memᴰ·append-right}
 use lib.Dec.{T, eqb}
-use lib.ListN.{length, drop, getD, set, length-drop, drop-of-length-le}
-use lib.Seq.{getD-set-same, getD-set-other}
+use lib.ListN.{length, getD}
 use borrow.Author.Tests.{eq-eqb, ne-eqb}
-use Rattle.rules.specs.Bytes.{Bytes, Aid, pick, same, u1, many, aid, counted}
+use Rattle.rules.specs.Bytes.{Bytes, Aid, pick, same, u1, aid, counted}
 use Rattle.rules.specs.Package.{mostDomains}
 use Rattle.rules.proofs.Tests.{is-true, of-true, same-eq, same-refl}
-use Rattle.places.specs.Reads.{Reads, Ends, EndsAt}
-use Rattle.places.proofs.Inverse.{reads-left, reads-done, reads-counted, reads-u1}
+use Rattle.places.specs.Reads.{Reads, EndsAt}
+use Rattle.places.proofs.Inverse.{reads-counted, reads-u1}
 use Rattle.places.proofs.Steady.{steady-u1, steady-aid}
-use Rattle.places.proofs.Track.{track-start, track-front, track-more, track-done, many-length}
-use Rattle.files.specs.Say.{Aids, AidBytes, AidIs}
+use Rattle.places.proofs.Track.{track-front, track-more, track-done, many-length}
+use Rattle.files.specs.Say.{Aids, AidIs}
 use Rattle.files.proofs.Loops.{AidLoop, aids-start}
 use Rattle.policies.specs.Numbers.{numberIn, DomainsThere, NumberIs}
 
 -- the number of an element is below the length
-number-in : (xs : List Aid) (a : Aid) → List·Memᴰ a xs → numberIn xs a < length xs
+pub number-in : (xs : List Aid) (a : Aid) → List·Memᴰ a xs → numberIn xs a < length xs
 number-in xs a (List·Memᴰ·head {x = y} {xs = ys} e) = let t : same a y ≡ true = is-true (same a y) (rw e (same-refl y)) in rw t (omega arith)
 number-in xs a (List·Memᴰ·tail {x = y} {xs = ys} m) = go (same a y) (number-in ys a m)
   where
@@ -34,12 +32,14 @@ number-found : (xs : List Aid) (a : Aid) → numberIn xs a < length xs → a ≡
 number-found [] a h = absurd (omega arith)
 number-found (x ∷ xs) a h = go (same a x) refl h (number-found xs a)
   where
-    go : (b : Bool) → same a x ≡ b → pick b 0 (suc (numberIn xs a)) < suc (length xs) → (numberIn xs a < length xs → a ≡ getD xs (numberIn xs a) []) → a ≡ getD (x ∷ xs) (pick b 0 (suc (numberIn xs a))) []
+    go : (b : Bool) → same a x ≡ b → pick b 0 (suc (numberIn xs a)) < suc (length xs) → (numberIn xs a < length xs → a ≡ getD xs (numberIn xs a) []) →
+        a ≡ getD (x ∷ xs) (pick b 0 (suc (numberIn xs a))) []
     go true e h r = same-eq a x (of-true e)
     go false e h r = r (omega arith)
 
 -- one number exactly where they are the same: one of them is of the list
-same-number : (xs : List Aid) (a b : Aid) → (numberIn xs b ≡ numberIn xs a → (numberIn xs a < length xs) × (numberIn xs b < length xs)) → eqb (numberIn xs b) (numberIn xs a) ≡ same a b
+same-number : (xs : List Aid) (a b : Aid) → (numberIn xs b ≡ numberIn xs a → (numberIn xs a < length xs) × (numberIn xs b < length xs)) →
+    eqb (numberIn xs b) (numberIn xs a) ≡ same a b
 same-number xs a b m = go (same a b) refl
   where
     go : (t : Bool) → same a b ≡ t → eqb (numberIn xs b) (numberIn xs a) ≡ t
@@ -101,19 +101,27 @@ number-start d x h most ds j p = let z = aids-start {f = λ ds. numberIn (ds ++ 
 module _ {f : Bytes} {u : ℕ} (d x : Aid) (k : ℕ) {left c : ℕ} (t : NumberLoop f u d x k left c) where
   pub number-hit : 0 < left → AidIs f c x true → NumberIs f u d x k
   number-hit h q ds j rd =
-      let z = track-front aid steady-aid f (counted mostDomains u1 aid) u (λ ds. numberIn (ds ++ d ∷ []) x) (λ ys. numberIn (ys ++ d ∷ []) x + k) left c (t mostDomains) h ds j rd in
+      let z =
+      track-front aid steady-aid f (counted mostDomains u1 aid) u (λ ds. numberIn (ds ++ d ∷ []) x) (λ ys. numberIn (ys ++ d ∷ []) x + k) left c
+      (t mostDomains) h ds j rd
+      in
       let a : same x (z .one) ≡ true = sym (q (z .one) (z .place) (z .reads)) in
       sym (z .value ∙ rw a (omega arith))
 
   pub number-miss : {e : ℕ} → 0 < left → AidIs f c x false → EndsAt aid f c e → NumberLoop f u d x (k + 1) (left - 1) e
-  number-miss {e} h q n most = track-more aid steady-aid f (counted most u1 aid) u (λ ds. numberIn (ds ++ d ∷ []) x) (λ ys. numberIn (ys ++ d ∷ []) x + k) left c (t most) (λ ys. numberIn (ys ++ d ∷ []) x + (k + 1)) e h n
+  number-miss {e} h q n most =
+      track-more aid steady-aid f (counted most u1 aid) u (λ ds. numberIn (ds ++ d ∷ []) x) (λ ys. numberIn (ys ++ d ∷ []) x + k) left c (t most)
+      (λ ys. numberIn (ys ++ d ∷ []) x + (k + 1)) e h n
       λ a m p ys. let b : same x a ≡ false = sym (q a m p) in rw b (omega arith)
 
   -- none of the domains is x: the loading domain, or none of all
   pub number-behind : left ≤ 0 → (b : Bool) → same x d ≡ b → NumberIs f u d x (pick b k (k + 1))
   number-behind h b e ds j rd =
-      let z = (track-done aid steady-aid f (counted mostDomains u1 aid) u (λ ds. numberIn (ds ++ d ∷ []) x) (λ ys. numberIn (ys ++ d ∷ []) x + k) left c (t mostDomains) h ds j rd) .1 in
-      sym (z ∙ rw e (go b))
+      let z =
+      track-done aid steady-aid f (counted mostDomains u1 aid) u (λ ds. numberIn (ds ++ d ∷ []) x) (λ ys. numberIn (ys ++ d ∷ []) x + k) left c
+      (t mostDomains) h ds j rd
+      in
+      sym (z .1 ∙ rw e (go b))
     where
       go : (b : Bool) → pick b 0 1 + k ≡ pick b k (k + 1)
       go true = omega arith

@@ -1,22 +1,21 @@
 -- The row of two files: what a comparison by numbers says of `admitsAllOf`. Assumes nothing.
-use Prim.Native.Nat.{ℕ, _+_, _-_, _≤_, _<_}
+use Prim.Native.Nat.{ℕ, _+_, _-_, _<_}
 use native.Mathlib.Omega.{arith}
 use native.Mathlib.Decide.{ℕ-discrete}
-use mathlib.Core.Path.{_≡_, refl, sym, _∙_, ap₂}
+use mathlib.Core.Path.{_≡_, _∙_, ap₂}
 use mathlib.Core.Bool.{Bool, true, false}
 use mathlib.Core.List.{List, [], _∷_, _++_}
 use lib.Dec.{eqb, ltb}
 use lib.ListN.{length, getD, set}
 use lib.Seq.{getD-set-same, getD-set-other}
 use borrow.Author.Tests.{lt-ltb, le-ltb}
-use Rattle.rules.specs.Bytes.{Bytes, Aid, any, all, same, u1, aid, counted}
+use Rattle.rules.specs.Bytes.{Bytes, Aid, same, u1, aid, counted}
 use Rattle.rules.specs.Package.{mostDomains, only, domainIndex}
 use Rattle.rules.specs.Classes.{admits}
 use Rattle.places.specs.Reads.{Reads}
 use Rattle.places.proofs.Inverse.{reads-same, reads-done}
 use Rattle.policies.specs.Say.{indexesAt, AdmitsAllOf}
-use Rattle.policies.specs.Numbers.{numberIn}
-use Rattle.policies.specs.Rows.{hasBit, unknown, Tells, MaskKept, WithinKept, ownLists, rowNumber, RowTrue, RowEmpty}
+use Rattle.policies.specs.Rows.{hasBit, unknown, Tells, NumberKept, MaskKept, WithinKept, ownLists, rowNumber, RowTrue, RowEmpty}
 use Rattle.policies.specs.declared.TwoLists.{TwoLists}
 use Rattle.policies.proofs.Numbers.{numbers-same-of, domain-in, domains-length}
 use Rattle.policies.proofs.Rules.{only-list}
@@ -31,14 +30,16 @@ pub row-empty : {a : Bytes} {u : ℕ} {b : Bytes} {v : ℕ} {row : List ℕ} →
 row-empty e = record { size = e .size; known = λ ds j rd gs k rg m h n. absurd (n (e .clear m (omega (arith, e .size)))) }
 
 -- one entry more is cleared
-pub clear-more : (row : List ℕ) (i : ℕ) → i < length row → ((k : ℕ) → k < i → getD row k 0 ≡ unknown) → (k : ℕ) → k < i + 1 → getD (set row i unknown) k 0 ≡ unknown
+pub clear-more : (row : List ℕ) (i : ℕ) → i < length row → ((k : ℕ) → k < i → getD row k 0 ≡ unknown) → (k : ℕ) → k < i + 1 →
+    getD (set row i unknown) k 0 ≡ unknown
 clear-more row i l h k m = elim (ℕ-discrete k i) [
   | yes q ↦ rw q (getD-set-same row i unknown 0 l)
   | no q ↦ getD-set-other row i k unknown 0 q ∙ h k (omega (arith, q))
 ]
 
 module _ {a : Bytes} {u : ℕ} {b : Bytes} {v : ℕ} where
-  module _ {ds : List Aid} {j : ℕ} (rd : Reads (counted mostDomains u1 aid) a u ds j) {gs : List Aid} {k : ℕ} (rg : Reads (counted mostDomains u1 aid) b v gs k) where
+  module _ {ds : List Aid} {j : ℕ} (rd : Reads (counted mostDomains u1 aid) a u ds j) {gs : List Aid} {k : ℕ}
+      (rg : Reads (counted mostDomains u1 aid) b v gs k) where
     tells-own : Tells (rowNumber ds gs) a [] a (ownLists u)
     tells-own = record {
       number = λ i es n re os o ro h.
@@ -63,6 +64,9 @@ module _ {a : Bytes} {u : ℕ} {b : Bytes} {v : ℕ} where
     pub row-mask : (p m : ℕ) → MaskKept a [] a (ownLists u) p x y m → RowTrue a u b v y
     row-mask p m q = record { size = z ∙ t .size; known = λ ds j rd gs k rg. q .known (rowNumber ds gs) (tells-own rd rg) (t .known ds j rd gs k rg) }
 
+    pub row-number : (i r : ℕ) → NumberKept a [] b (otherLists u v) i x y r → RowTrue a u b v y
+    row-number i r q = record { size = z ∙ t .size; known = λ ds j rd gs k rg. q .known (rowNumber ds gs) (tells-other rd rg) (t .known ds j rd gs k rg) }
+
     pub row-within : (p m : ℕ) (r : Bool) → WithinKept a [] b (otherLists u v) p x y m r → RowTrue a u b v y
     row-within p m r q = record { size = z ∙ t .size; known = λ ds j rd gs k rg. q .known (rowNumber ds gs) (tells-other rd rg) (t .known ds j rd gs k rg) }
 
@@ -86,12 +90,18 @@ module _ {a : Bytes} {u : ℕ} {b : Bytes} {v : ℕ} where
       let told = e .holds w (tells-other rd rg) (c .known w (tells-own rd rg) known) in
       let small : (k′ : ℕ) → k′ < length gs → w (32 + k′) < 64 = λ k′ l. told-small k′ (ds, j, rd) (gs, k, rg, l) w (tells-other rd rg) in
       let each : (k′ : ℕ) → k′ < length gs → hasBit m (w (32 + k′)) ≡ admits (only (f .aids)) (getD gs k′ []) = λ k′ l.
-      bits (w (32 + k′)) (small k′ l) ∙ any-by-index ds (λ i′. eqb (w (0 + i′)) (w (32 + k′))) (same (getD gs k′ [])) (λ i′ h. one rd rg i′ h k′ l) (indexesAt a p) (f .aids) (reads-indexed ds a (getD a p 0) (p + 1) (f .aids) n (f .list))
+      bits (w (32 + k′)) (small k′ l) ∙ any-by-index ds (λ i′. eqb (w (0 + i′)) (w (32 + k′))) (same (getD gs k′ [])) (λ i′ h. one rd rg i′ h k′ l)
+      (indexesAt a p) (f .aids) (reads-indexed ds a (getD a p 0) (p + 1) (f .aids) n (f .list))
       in
-      let others = told ∙ all-by-index gs (λ k′. hasBit m (w (32 + k′))) (admits (only (f .aids))) each (indexesAt b q) (g .aids) (reads-indexed gs b (getD b q 0) (q + 1) (g .aids) i (g .list)) in
+      let others =
+      told ∙ all-by-index gs (λ k′. hasBit m (w (32 + k′))) (admits (only (f .aids))) each (indexesAt b q) (g .aids)
+      (reads-indexed gs b (getD b q 0) (q + 1) (g .aids) i (g .list))
+      in
       rw (← f .is, ← g .is) others
     where
-      one : {ds : List Aid} {j : ℕ} (rd : Reads (counted mostDomains u1 aid) a u ds j) {gs : List Aid} {k : ℕ} (rg : Reads (counted mostDomains u1 aid) b v gs k) (i : ℕ) → i < length ds → (n : ℕ) → n < length gs →
+      one : {ds : List Aid} {j : ℕ} (rd : Reads (counted mostDomains u1 aid) a u ds j) {gs : List Aid} {k : ℕ} →
+          (rg : Reads (counted mostDomains u1 aid) b v gs k) (i : ℕ) → i < length ds → (n : ℕ) → n < length gs →
           eqb (rowNumber ds gs (0 + i)) (rowNumber ds gs (32 + n)) ≡ same (getD gs n []) (getD ds i [])
       one {ds} {j} rd {gs} {k} rg i h n l =
-          ap₂ eqb (tells-own rd rg .number i ds j rd ds j rd h) (tells-other rd rg .number n ds j rd gs k rg l) ∙ numbers-same-of (ds ++ [] ∷ []) (getD gs n []) (getD ds i []) (domain-in ds [] i h)
+          ap₂ eqb (tells-own rd rg .number i ds j rd ds j rd h) (tells-other rd rg .number n ds j rd gs k rg l) ∙ numbers-same-of (ds ++ [] ∷ [])
+          (getD gs n []) (getD ds i []) (domain-in ds [] i h)

@@ -1,31 +1,27 @@
--- The loops over the domains and over the indexes of a policy, and what they say of `admits` and `admitsAllOf`. Assumes nothing.
+-- The loop over the indexes of a policy, and what it says of `admitsAllOf`; the AID with a number. Assumes nothing.
 use Prim.Native.Nat.{ℕ, zero, suc, _+_, _-_, _≤_, _<_}
 use native.Mathlib.Omega.{arith}
-use native.Mathlib.Numerals.{add-one}
 use mathlib.Core.Path.{_≡_, refl, sym, _∙_, ap, subst}
-use mathlib.Core.Bool.{Bool, true, false, _&&_}
+use mathlib.Core.Bool.{Bool, true, false}
 use mathlib.Core.List.{List, [], _∷_}
 use mathlib.Core.Option.{none, some, Option·some-injective}
 use mathlib.Core.Logic.{inl, inr}
-use lib.Dec.{eqb}
 use lib.ListN.{length, getD}
-use Rattle.rules.specs.Bytes.{Bytes, Aid, any, all, at, same, u1, many, aid, counted}
+use Rattle.rules.specs.Bytes.{Bytes, Aid, all, at, u1, many, aid, counted}
 use Rattle.rules.specs.Package.{mostDomains, Policy, every, only, domainIndex, policy}
 use Rattle.rules.specs.Classes.{admits, admitsAllOf}
 use Rattle.rules.proofs.Tests.{none-some}
-use Rattle.places.specs.Reads.{Reads, Ends, EndsAt, Tracks}
+use Rattle.places.specs.Reads.{Reads, Ends, Tracks}
 use Rattle.places.specs.Parts.{OnlyPart}
-use Rattle.places.proofs.Steady.{steady-aid, steady-index}
+use Rattle.places.proofs.Steady.{steady-index}
 use Rattle.places.proofs.Parts.{index-part, policy-part}
-use Rattle.places.proofs.Track.{placed-at, placed-none, track-front, track-more, track-done}
+use Rattle.places.proofs.Track.{placed-at, placed-none, track-front}
 use Rattle.places.proofs.Search.{Tests, each-hit, each-miss, each-none}
-use Rattle.files.specs.Say.{Aids, AidBytes, AidIs, AidNth}
+use Rattle.files.specs.Say.{Aids, AidBytes, AidNth}
 use Rattle.files.specs.declared.Spot.{Spot}
 use Rattle.files.specs.declared.Spot.the-variants.{At, Nothing}
 use Rattle.files.proofs.Steps as steps
-use Rattle.files.proofs.Loops.{AidLoop}
-use Rattle.policies.specs.Say.{indexesAt, IndexesThere, ListsIs, ListedIs, PolicyOver, OfPolicy, Admits, HasAid, AdmitsNth, AdmitsAllOf}
-use Rattle.policies.proofs.Indexes.{anyFrom, any-indexed}
+use Rattle.policies.specs.Say.{IndexesThere, PolicyOver, OfPolicy, Admits, HasAid, AdmitsNth, AdmitsAllOf}
 
 -- a policy that is FF, and one that is not
 pub every-is : (ds : List Aid) (s : Bytes) (i : ℕ) (q : Policy) (e : ℕ) → Reads (policy ds) s i q e → getD s i 0 ≡ 255 → every ≡ q
@@ -47,48 +43,8 @@ module _ {s : Bytes} {d i : ℕ} (e : PolicyOver s d i) where
 pub has-aids : {s : Bytes} {d k : ℕ} → HasAid s d k → Aids s d
 has-aids e = (mostDomains, (e .0, e .1, e .2))
 
--- a domain and its number
-module _ {s : Bytes} {c : ℕ} (x : Aid) (i k : ℕ) where
-  pub listed-other : AidIs s c x false → ListedIs s c x i k false
-  listed-other h a j p = let e : same x a ≡ false = sym (h a j p) in rw e
-
-  pub listed-this : {r : Bool} → AidIs s c x true → ListsIs s i k r → ListedIs s c x i k r
-  listed-this h l a j p = let e : same x a ≡ true = sym (h a j p) in l ∙ rw e
-
--- the domain d with number k is x, and k an index of the policy at i
-abbrev pub allowed : Bytes → Aid → ℕ → ℕ → Aid → Bool
-allowed s x i k d = same x d && any (eqb k) (indexesAt s i)
-
--- the loop over the domains: of the list at d, those from number k on are left
-abbrev pub DomainLoop : Bytes → ℕ → ℕ → Aid → ℕ → ℕ → ℕ → Type 0
-DomainLoop s d i x k left c = AidLoop (anyFrom (allowed s x i) 0) (anyFrom (allowed s x i) k) s d left c
-
-pub admits-every : {s : Bytes} {d i : ℕ} (x : Aid) → getD s i 0 ≡ 255 → Admits s d i x true
-admits-every {s} {d} {i} x h ds j rd q e p = rw (← every-is ds s i q e p h)
-
-admits-is : (s : Bytes) (d i : ℕ) (x : Aid) → (getD s i 0 ≡ 255 → ⊥) → (b : Bool) → ((ds : List Aid) (j : ℕ) → Reads (counted mostDomains u1 aid) s d ds j → anyFrom (allowed s x i) 0 ds ≡ b) → Admits s d i x b
-admits-is s d i x n b h ds j rd q e p =
-    let o = only-list ds s i q e p n in
-    let w : any (same x) (o .aids) ≡ b = any-indexed (same x) ds s (getD s i 0) (i + 1) (o .aids) e (o .list) ∙ h ds j rd in
-    rw (← o .is) (sym w)
-
-module _ {s : Bytes} {d : ℕ} (i : ℕ) (x : Aid) {k left c : ℕ} (t : DomainLoop s d i x k left c) where
-  pub admits-hit : (getD s i 0 ≡ 255 → ⊥) → 0 < left → ListedIs s c x i k true → Admits s d i x true
-  admits-hit n h q = admits-is s d i x n true λ ds j rd.
-      let z = track-front aid steady-aid s (counted mostDomains u1 aid) d (anyFrom (allowed s x i) 0) (anyFrom (allowed s x i) k) left c (t mostDomains) h ds j rd in
-      let a : allowed s x i k (z .one) ≡ true = sym (q (z .one) (z .place) (z .reads)) in
-      z .value ∙ rw a
-
-  pub admits-miss : {e : ℕ} → 0 < left → ListedIs s c x i k false → EndsAt aid s c e → DomainLoop s d i x (k + 1) (left - 1) e
-  admits-miss {e} h q n most = track-more aid steady-aid s (counted most u1 aid) d (anyFrom (allowed s x i) 0) (anyFrom (allowed s x i) k) left c (t most) (anyFrom (allowed s x i) (k + 1)) e h n
-      λ a m p ys. let b : allowed s x i k a ≡ false = sym (q a m p) in rw (b, add-one)
-
-  pub admits-none : (getD s i 0 ≡ 255 → ⊥) → left ≤ 0 → Admits s d i x false
-  admits-none n h = admits-is s d i x n false λ ds j rd.
-      (track-done aid steady-aid s (counted mostDomains u1 aid) d (anyFrom (allowed s x i) 0) (anyFrom (allowed s x i) k) left c (t mostDomains) h ds j rd) .1
-
 -- the AID with a number
-at-get : {A : Type 0} (xs : List A) (k : ℕ) (x y : A) → at xs k ≡ some x → getD xs k y ≡ x
+pub at-get : {A : Type 0} (xs : List A) (k : ℕ) (x y : A) → at xs k ≡ some x → getD xs k y ≡ x
 at-get [] k x y e = absurd (none-some e)
 at-get (z ∷ zs) zero x y e = Option·some-injective _ _ e
 at-get (z ∷ zs) (suc k) x y e = at-get zs k x y e
@@ -137,14 +93,17 @@ all-within {s} {d} {i} {t} {u} {v} n h ds j rd p e rp es k re o m ro = let x = o
 -- what is told of the AID with that number is told of the one read there
 index-tests : (s : Bytes) (d i : ℕ) (t : Bytes) (u c : ℕ) (b : Bool) → AdmitsNth s d i t u (getD t c 0) b →
     OfPolicy s d i λ p. (es : List Aid) (j : ℕ) → Reads (counted mostDomains u1 aid) t u es j → Tests (domainIndex es) t c (admits p) b
-index-tests s d i t u c b h ds j rd p e rp es k re a m q = let x = index-part es t c a m q in sym (h es k re (x .below) ds j rd p e rp ∙ ap (admits p) (x .stands))
+index-tests s d i t u c b h ds j rd p e rp es k re a m q =
+    let x = index-part es t c a m q in
+    sym (h es k re (x .below) ds j rd p e rp ∙ ap (admits p) (x .stands))
 
 -- two policies that are not FF
 all-only : (p o : Policy) (ds es : List Aid) → only ds ≡ p → only es ≡ o → admitsAllOf p o ≡ all (admits p) es
 all-only p o ds es e f = rw (← e, ← f)
 
 all-is : (s : Bytes) (d i : ℕ) (t : Bytes) (u v : ℕ) → (getD s i 0 ≡ 255 → ⊥) → (getD t v 0 ≡ 255 → ⊥) → (b : Bool) →
-    (OfPolicy s d i λ p. (es : List Aid) (j : ℕ) → Reads (counted mostDomains u1 aid) t u es j → (xs : List Aid) (m : ℕ) → Reads (many (getD t v 0) (domainIndex es)) t (v + 1) xs m → all (admits p) xs ≡ b) →
+    (OfPolicy s d i λ p. (es : List Aid) (j : ℕ) → Reads (counted mostDomains u1 aid) t u es j → (xs : List Aid) (m : ℕ) →
+    Reads (many (getD t v 0) (domainIndex es)) t (v + 1) xs m → all (admits p) xs ≡ b) →
     AdmitsAllOf s d i t u v b
 all-is s d i t u v n f b h ds j rd p e rp es k re o m ro =
     let x = only-list ds s i p e rp n in
@@ -159,17 +118,22 @@ module _ {s : Bytes} {d i : ℕ} {t : Bytes} {u : ℕ} (v : ℕ) {left c : ℕ} 
       let es = b .0 in
       let p = a .3 .0 in
       let o = only-list es t v (b .3 .0) (b .3 .1) (b .3 .2) f in
-      let z = track-front (domainIndex es) (steady-index es) t (many (getD t v 0) (domainIndex es)) (v + 1) (all (admits p)) (all (admits p)) left c (w (a .0) (a .1) (a .2) p (a .3 .1) (a .3 .2) es (b .1) (b .2)) h (o .aids) (b .3 .1) (o .list) in
+      let z =
+      track-front (domainIndex es) (steady-index es) t (many (getD t v 0) (domainIndex es)) (v + 1) (all (admits p)) (all (admits p)) left c
+      (w (a .0) (a .1) (a .2) p (a .3 .1) (a .3 .2) es (b .1) (b .2)) h (o .aids) (b .3 .1) (o .list)
+      in
       let k = index-part es t c (z .one) (z .place) (z .reads) in
       (k .inside, (es, b .1, b .2, k .below))
 
   pub all-hit : (getD s i 0 ≡ 255 → ⊥) → 0 < left → AdmitsNth s d i t u (getD t c 0) false → AdmitsAllOf s d i t u v false
   all-hit n h q = all-is s d i t u v n f false λ ds j rd p e rp es k re xs m r.
-      each-hit (domainIndex es) (steady-index es) t (many (getD t v 0) (domainIndex es)) (v + 1) left c (admits p) (w ds j rd p e rp es k re) h (index-tests s d i t u c false q ds j rd p e rp es k re) xs m r
+      each-hit (domainIndex es) (steady-index es) t (many (getD t v 0) (domainIndex es)) (v + 1) left c (admits p) (w ds j rd p e rp es k re) h
+      (index-tests s d i t u c false q ds j rd p e rp es k re) xs m r
 
   pub all-miss : 0 < left → AdmitsNth s d i t u (getD t c 0) true → IndexLoop s d i t u v (left - 1) (c + 1)
   all-miss h q ds j rd p e rp es k re =
-      each-miss (domainIndex es) (steady-index es) t (many (getD t v 0) (domainIndex es)) (v + 1) left c (admits p) (w ds j rd p e rp es k re) (c + 1) h (index-tests s d i t u c true q ds j rd p e rp es k re) (λ a m x. (index-part es t c a m x) .next)
+      each-miss (domainIndex es) (steady-index es) t (many (getD t v 0) (domainIndex es)) (v + 1) left c (admits p) (w ds j rd p e rp es k re) (c + 1) h
+      (index-tests s d i t u c true q ds j rd p e rp es k re) (λ a m x. (index-part es t c a m x) .next)
 
   pub all-none : (getD s i 0 ≡ 255 → ⊥) → left ≤ 0 → AdmitsAllOf s d i t u v true
   all-none n h = all-is s d i t u v n f true λ ds j rd p e rp es k re xs m r.

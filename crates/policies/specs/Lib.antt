@@ -2,3 +2,4 @@
 pub mod Say
 pub mod Numbers
 pub mod Rows
+pub mod Covers

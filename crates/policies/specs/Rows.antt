@@ -12,24 +12,21 @@
 -- NumberKept, MaskKept, WithinKept == the answer is that number; the bits of the answer are the numbers that the policy at i lists; each
 --                         of these is a bit of the mask
 -- ownLists u           == a list numbered in itself, from entry 0 on
--- CoversKept           == the answer is that the policy called allows the loading domain and all that the caller's allows
 -- rowNumber ds gs k    == what entry k of the row of two files tells: 32 entries for each list
 -- RowTrue a u b v row  == each known entry tells the number of its domain among those of a at u: domains of a first, then those of b at v
 -- RowEmpty row         == no entry is known
 use Prim.Native.Nat.{ℕ, _+_, _-_, _/_, _%_, _^_, _≤_, _<_}
 use mathlib.Core.Path.{_≡_}
 use mathlib.Core.List.{List, [], _∷_, _++_}
-use mathlib.Core.Bool.{Bool, _&&_}
+use mathlib.Core.Bool.{Bool}
 use lib.Dec.{eqb, ltb}
 use lib.Bits.{bitOr}
 use lib.ListN.{length, getD}
 use Rattle.rules.specs.Bytes.{Bytes, Aid, pick, any, all}
 use Rattle.rules.specs.Package.{mostDomains}
-use Rattle.rules.specs.Classes.{admits, admitsAllOf}
-use Rattle.policies.specs.Say.{indexesAt, PolicyOver, OfPolicy}
-use Rattle.policies.specs.Numbers.{numberIn, OfDomains, NumberIs}
+use Rattle.policies.specs.Say.{indexesAt, PolicyOver}
+use Rattle.policies.specs.Numbers.{numberIn, OfDomains}
 use Rattle.policies.specs.declared.TwoLists.{TwoLists}
-use Rattle.policies.specs.declared.Asked.{Asked}
 
 unfoldable pub hasBit : ℕ → ℕ → Bool
 hasBit m n = eqb (m / 2 ^ (n % 64) % 2) 1
@@ -75,12 +72,6 @@ WithinKept f d g l i x y m r = Kept f d g l x y λ w. r ≡ all (λ k. hasBit m 
 -- a list numbered in itself
 abbrev pub ownLists : ℕ → TwoLists
 ownLists u = record { own = u; other = u; base = 0 }
-
--- the policy called allows the loading domain d and all that the caller's allows
-pub record CoversKept (f : Bytes) (d : Aid) (g : Bytes) (l : TwoLists) (p : Asked) (x y : List ℕ) (r : Bool) : Type 0 where
-  pub known : (w : ℕ → ℕ) → Tells w f d g l → Tells w f d f (ownLists (l .own)) → Known w x → Known w y
-  pub holds : (w : ℕ → ℕ) → Tells w f d g l → Tells w f d f (ownLists (l .own)) → Known w x → NumberIs f (l .own) d d (p .loading) →
-      OfPolicy g (l .other) (p .called) λ q. OfPolicy f (l .own) (p .caller) λ o. r ≡ (admits q d && admitsAllOf q o)
 
 -- what entry k of the row of two files tells
 abbrev pub rowNumber : List Aid → List Aid → ℕ → ℕ

@@ -46,7 +46,8 @@ HasAid s d k = (ds : List Aid) × (j : ℕ) × Reads (counted mostDomains u1 aid
 
 -- the policy at i allows the AID with number k of the list at u
 abbrev pub AdmitsNth : Bytes → ℕ → ℕ → Bytes → ℕ → ℕ → Bool → Type 0
-AdmitsNth s d i t u k r = (ds : List Aid) (j : ℕ) → Reads (counted mostDomains u1 aid) t u ds j → k < length ds → OfPolicy s d i λ p. r ≡ admits p (getD ds k [])
+AdmitsNth s d i t u k r =
+    (ds : List Aid) (j : ℕ) → Reads (counted mostDomains u1 aid) t u ds j → k < length ds → OfPolicy s d i λ p. r ≡ admits p (getD ds k [])
 
 -- the policy at i allows all that the one at v allows
 abbrev pub AdmitsAllOf : Bytes → ℕ → ℕ → Bytes → ℕ → ℕ → Bool → Type 0

@@ -1,4 +1,5 @@
 // What a policy allows, across files: a policy stands in a file at one place, the domains that its indexes count at another.
+pub mod covering;
 pub mod rows;
 
 use fields::same_bytes;
@@ -12,7 +13,8 @@ ghost use Prim.Native.Nat.{_≤_};
 ghost use Rattle.rules.specs.Bytes.{aid};
 ghost use Rattle.places.specs.Reads.{Ends};
 ghost use Rattle.policies.specs.Say.{IndexesThere, ListsIs, ListedIs, PolicyOver, HasAid, Admits, AdmitsNth, AdmitsAllOf};
-ghost use Rattle.policies.specs.Numbers.{DomainsThere, NumberIs};
+ghost use Rattle.policies.specs.Numbers.{DomainsThere, NumberIs, ListedNumber};
+ghost use Rattle.policies.specs.Rows.{ListOver};
 
 // Two lists of domains: the one that numbers are of, the one whose domains are numbered, and where the numbers stand in a row.
 pub struct TwoLists {
@@ -26,6 +28,13 @@ pub struct Asked {
     pub caller: usize,
     pub called: usize,
     pub loading: usize,
+}
+
+// A domain of the own list that a policy of the other file is asked for: its index, its number, and the policy.
+pub struct Wanted {
+    pub index: usize,
+    pub number: usize,
+    pub policy: usize,
 }
 
 // Is k one of the indexes of the policy at a place, which is not FF?
@@ -57,6 +66,25 @@ fn listed_as(s: &[u8], c: usize, x: &[u8], at: usize, k: usize) -> bool
     lists(s, at, k)
 }
 
+// The number of a domain that is x and that the policy at `at` lists, which is not FF; 32 where there is none.
+fn listed_number(s: &[u8], domains: usize, at: usize, x: &[u8]) -> usize
+    requires { ⌜ ListOver (now s) domains at ⌝ }
+    ensures { λ r. ⌜ ListedNumber (now (s .entry)) domains at (now (x .entry)) r ⌝ }
+{
+    let mut left = wide(s[domains]);
+    let mut c = domains + 1;
+    let mut k = 0;
+    while 0 < left {
+        if listed_as(s, c, x, at, k) {
+            return k;
+        }
+        c = after_aid(s, c);
+        k += 1;
+        left -= 1;
+    }
+    32
+}
+
 // Does the policy at `at`, over the domains listed at `domains`, allow x? Each domain is compared once.
 pub fn admits(s: &[u8], domains: usize, at: usize, x: &[u8]) -> bool
     requires { ⌜ PolicyOver (now s) domains at ⌝ }
@@ -65,18 +93,7 @@ pub fn admits(s: &[u8], domains: usize, at: usize, x: &[u8]) -> bool
     if wide(s[at]) == 255 {
         return true;
     }
-    let mut left = wide(s[domains]);
-    let mut c = domains + 1;
-    let mut k = 0;
-    while 0 < left {
-        if listed_as(s, c, x, at, k) {
-            return true;
-        }
-        c = after_aid(s, c);
-        k += 1;
-        left -= 1;
-    }
-    false
+    listed_number(s, domains, at, x) < 32
 }
 
 // Does it allow the AID with number k of the list at u?

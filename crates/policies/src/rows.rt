@@ -1,28 +1,27 @@
 // Policies compared by the numbers of their domains. A row keeps the numbers that were found.
-use super::Asked;
 use super::TwoLists;
+use super::admits_all_of;
 use super::number_of;
 use fields::wide;
 use files::Spot;
 use files::aid_bytes;
 use files::nth_aid;
-ghost use Prim.Native.Nat.{_≤_};
+ghost use Prim.Native.Nat.{_≤_, _<_};
 ghost use mathlib.Core.Path.{_≡_};
-ghost use lib.ListN.{length};
-ghost use Rattle.rules.specs.Package.{mostDomains};
+ghost use lib.ListN.{length, getD};
 ghost use Rattle.policies.specs.Say.{PolicyOver, HasAid, AdmitsAllOf};
 ghost use Rattle.policies.specs.Numbers.{DomainsThere};
-ghost use Rattle.policies.specs.Rows.{withBit, hasBit, HasPlaces, ListOver, NthNumber, NumberKept, MaskKept, WithinKept, RowTrue, RowEmpty, CoversKept};
+ghost use Rattle.policies.specs.Rows.{withBit, hasBit, HasPlaces, ListOver, NthNumber, NumberKept, MaskKept, WithinKept, RowTrue, RowEmpty};
 
 // The mask m with bit n.
-fn with_bit(m: u64, n: usize) -> u64
+pub fn with_bit(m: u64, n: usize) -> u64
     ensures { λ r. ⌜ r ≡ withBit m n ⌝ }
 {
     m | 1u64 << (n % 64)
 }
 
 // Has the mask m bit n?
-fn has_bit(m: u64, n: usize) -> bool
+pub fn has_bit(m: u64, n: usize) -> bool
     ensures { λ r. ⌜ r ≡ hasBit m n ⌝ }
 {
     (m >> (n % 64)) % 2 == 1
@@ -42,11 +41,12 @@ fn nth_number(f: &[u8], domain: &[u8], g: &[u8], l: TwoLists, i: usize) -> usize
 }
 
 // The same, from the row where it is known; found and kept there where it is not.
-fn number_at(f: &[u8], domain: &[u8], g: &[u8], l: TwoLists, i: usize, row: &mut [u8]) -> usize
+pub fn number_at(f: &[u8], domain: &[u8], g: &[u8], l: TwoLists, i: usize, row: &mut [u8]) -> usize
     requires { ⌜ DomainsThere (now f) (l .own) ⌝ }
     requires { ⌜ HasAid (now g) (l .other) i ⌝ }
     requires { ⌜ HasPlaces (now row) l ⌝ }
     ensures { λ r. ⌜ NumberKept (now (f .entry)) (now (domain .entry)) (now (g .entry)) l i (now (row .entry)) (now (row .exit)) r ⌝ }
+    ensures { λ r. ⌜ r < 256 ⌝ }
 {
     let known = wide(row[l.base + i]);
     if known != 255 {
@@ -103,15 +103,7 @@ fn within(
 }
 
 // Does the policy of a at p, over the domains listed at u, allow all that the one of b at q, over those at v, allows?
-pub fn admits_all_by(
-    a: &[u8],
-    u: usize,
-    p: usize,
-    b: &[u8],
-    v: usize,
-    q: usize,
-    row: &mut [u8],
-) -> bool
+fn admits_all_by(a: &[u8], u: usize, p: usize, b: &[u8], v: usize, q: usize, row: &mut [u8]) -> bool
     requires { ⌜ PolicyOver (now a) u p ⌝ }
     requires { ⌜ PolicyOver (now b) v q ⌝ }
     requires { ⌜ RowTrue (now a) u (now b) v (now row) ⌝ }
@@ -142,6 +134,52 @@ pub fn admits_all_by(
     within(a, &a[0..0], b, other, q, row, m)
 }
 
+// Is the number of the first domain that the policy of b at q lists in the row? It is there from now on.
+fn first_known(a: &[u8], u: usize, b: &[u8], v: usize, q: usize, row: &mut [u8]) -> bool
+    requires { ⌜ DomainsThere (now a) u × ListOver (now b) v q × (0 < getD (now b) q 0) ⌝ }
+    requires { ⌜ RowTrue (now a) u (now b) v (now row) ⌝ }
+    ensures { λ _. ⌜ RowTrue (now (a .entry)) u (now (b .entry)) v (now (row .exit)) ⌝ }
+{
+    let i = wide(b[q + 1]);
+    let known = wide(row[32 + i]) != 255;
+    let other = TwoLists {
+        own: u,
+        other: v,
+        base: 32,
+    };
+    number_at(a, &a[0..0], b, other, i, row);
+    known
+}
+
+// The same as `admits_all_by`; by the row only where it has been asked before, so that rows that are emptied at each turn cost little.
+pub fn admits_in_turn(
+    a: &[u8],
+    u: usize,
+    p: usize,
+    b: &[u8],
+    v: usize,
+    q: usize,
+    row: &mut [u8],
+) -> bool
+    requires { ⌜ PolicyOver (now a) u p ⌝ }
+    requires { ⌜ PolicyOver (now b) v q ⌝ }
+    requires { ⌜ RowTrue (now a) u (now b) v (now row) ⌝ }
+    ensures { λ r. ⌜ AdmitsAllOf (now (a .entry)) u p (now (b .entry)) v q r ⌝ }
+    ensures { λ _. ⌜ RowTrue (now (a .entry)) u (now (b .entry)) v (now (row .exit)) ⌝ }
+{
+    let count = wide(b[q]);
+    if count < 4 {
+        return admits_all_of(a, u, p, b, v, q);
+    }
+    if count == 255 {
+        return admits_all_of(a, u, p, b, v, q);
+    }
+    if !first_known(a, u, b, v, q, row) {
+        return admits_all_of(a, u, p, b, v, q);
+    }
+    admits_all_by(a, u, p, b, v, q, row)
+}
+
 // No number is known.
 pub fn empty_row(row: &mut [u8])
     requires { ⌜ length (now row) ≡ 64 ⌝ }
@@ -152,31 +190,4 @@ pub fn empty_row(row: &mut [u8])
         row[i] = 255;
         i += 1;
     }
-}
-
-// Does the policy of g that is called allow the loading domain, and all that the caller's of f allows?
-pub fn covers(f: &[u8], domain: &[u8], g: &[u8], l: TwoLists, p: Asked, map: &mut [u8]) -> bool
-    requires { ⌜ PolicyOver (now f) (l .own) (p .caller) ⌝ }
-    requires { ⌜ PolicyOver (now g) (l .other) (p .called) ⌝ }
-    requires { ⌜ HasPlaces (now map) l × (mostDomains ≤ length (now map)) ⌝ }
-    ensures { λ r. ⌜ CoversKept (now (f .entry)) (now (domain .entry)) (now (g .entry)) l p (now (map .entry)) (now (map .exit)) r ⌝ }
-{
-    let called = p.called;
-    let caller = p.caller;
-    if wide(g[called]) == 255 {
-        return true;
-    }
-    if wide(f[caller]) == 255 {
-        return false;
-    }
-    let m = mask(f, domain, g, l, called, map);
-    if !has_bit(m, p.loading) {
-        return false;
-    }
-    let own = TwoLists {
-        own: l.own,
-        other: l.own,
-        base: 0,
-    };
-    within(f, domain, f, own, caller, map, m)
 }

@@ -20,7 +20,8 @@ wide-number s = wide-then (λ p. u1 >>= λ c. ret (record { pack = p; class = c 
 
 pub wide-reference : (s : Bytes) → Wide reference s 4
 unfolding reference
-wide-reference s = wide-then (λ c. u2 >>= λ n. ret (record { class = c; name = n })) (wide-number s) (λ c. wide-made (λ n. record { class = c; name = n }) (wide-u2 s))
+wide-reference s = wide-then (λ c. u2 >>= λ n. ret (record { class = c; name = n })) (wide-number s)
+    (λ c. wide-made (λ n. record { class = c; name = n }) (wide-u2 s))
 
 -- an index below the domain count
 module _ (ds : List Aid) where
@@ -60,7 +61,8 @@ module _ (ds : List Aid) where
 
       pub policy-many : (n ≡ 0xFF → ⊥) → mostAllowed < n → Stops (policy ds) s i none
       unfolding policy listed
-      policy-many e k = then-leads counts h none (rw (ne-eqb n 0xFF e) (when-none (many n (domainIndex ds) >>= λ aids. ret (only aids)) (lt-leb n mostAllowed k)))
+      policy-many e k = then-leads counts h none (rw (ne-eqb n 0xFF e) (when-none (many n (domainIndex ds) >>= λ aids. ret (only aids))
+          (lt-leb n mostAllowed k)))
 
       pub policy-leads : (n ≡ 0xFF → ⊥) → n ≤ mostAllowed → Leads (policy ds) (many n (domainIndex ds)) s i j
       unfolding policy listed
@@ -130,7 +132,8 @@ module _ (l : Limits) (ds : List Aid) where
         method-policy-none p = bits-lead z none (then-leads (afterName b) name none (then-none (afterPolicy b n) p))
 
         pub method-leads : {e : ℕ} → Stops (policy ds) s m (some e) → Leads (method l ds) (codeIf l (bit 0x40 b)) s i e
-        method-leads p o q = bits-lead z o (then-leads (afterName b) name o (then-any (afterPolicy b n) p o (λ x. made-leads (codeIf l (bit 0x40 b)) (methodOf b n x) o q)))
+        method-leads p o q = bits-lead z o (then-leads (afterName b) name o
+            (then-any (afterPolicy b n) p o (λ x. made-leads (codeIf l (bit 0x40 b)) (methodOf b n x) o q)))
 
 -- a class
 module _ (l : Limits) (ds : List Aid) where
@@ -161,9 +164,11 @@ module _ (l : Limits) (ds : List Aid) where
       pub class-parents-none : k ≤ 1 → Stops (counted (l .parents) u1 classNumber) s j none → Stops (class l ds) s i none
       class-parents-none z p = kind-leads z none (then-none (afterParents k) p)
 
-      pub class-leads : {m : ℕ} → k ≤ 1 → Stops (counted (l .parents) u1 classNumber) s j (some m) → Leads (class l ds) (counted mostMethods u1 (method l ds)) s i m
+      pub class-leads : {m : ℕ} → k ≤ 1 → Stops (counted (l .parents) u1 classNumber) s j (some m) → Leads (class l ds)
+          (counted mostMethods u1 (method l ds)) s i m
       class-leads z p o q = kind-leads z o (then-any (afterParents k) p o (λ ps. made-leads (counted mostMethods u1 (method l ds)) (classOf k ps) o q))
 
 -- what is told for every list of so many domains is inside the file
-pub inside-any : {A : Type 0} {r : List Aid → Reader A} {s : Bytes} {i j : ℕ} (n : ℕ) → ((ds : List Aid) → length ds ≡ n → Stops (r ds) s i (some j)) → j ≤ length s
+pub inside-any : {A : Type 0} {r : List Aid → Reader A} {s : Bytes} {i j : ℕ} (n : ℕ) → ((ds : List Aid) → length ds ≡ n → Stops (r ds) s i (some j)) →
+    j ≤ length s
 inside-any n h = stopped-inside (h (replicate n []) (length-replicate n []))

@@ -84,7 +84,8 @@ before n ns = ltb (rank n) (rank 0) && all (λ m. ltb (rank n) (rank m)) ns
 before-more : (n m : ℕ) (ns : List ℕ) → T (before n (m ∷ ns)) → (rank n < rank m) × T (before n ns)
 before-more n m ns h = go (ltb (rank n) (rank 0)) (ltb (rank n) (rank m)) refl h
   where
-    go : (z b : Bool) → ltb (rank n) (rank m) ≡ b → T (z && (b && all (λ m. ltb (rank n) (rank m)) ns)) → (rank n < rank m) × T (z && all (λ m. ltb (rank n) (rank m)) ns)
+    go : (z b : Bool) → ltb (rank n) (rank m) ≡ b → T (z && (b && all (λ m. ltb (rank n) (rank m)) ns)) → (rank n < rank m) × T
+        (z && all (λ m. ltb (rank n) (rank m)) ns)
     go true true e h = (ltb-true (rank n) (rank m) e, h)
     go true false e h = absurd h
     go false b e h = absurd h
@@ -144,7 +145,8 @@ module _ {A : Type 0} where
       let m = rising-more (q .0) (numbers qs) h in
       go (all (q .1) xs) (before-zero (q .0) (numbers qs) (m .0)) (first-start qs (m .1) xs)
     where
-      go : (b : Bool) → rank (q .0) < rank 0 → firstOf 0 (noOfAll qs xs) ≡ noOfAll qs xs → firstOf 0 (pick b (noOfAll qs xs) (q .0)) ≡ pick b (noOfAll qs xs) (q .0)
+      go : (b : Bool) → rank (q .0) < rank 0 → firstOf 0 (noOfAll qs xs) ≡ noOfAll qs xs → firstOf 0 (pick b (noOfAll qs xs) (q .0)) ≡ pick b
+          (noOfAll qs xs) (q .0)
       go true k e = e
       go false k e = first-right 0 (q .0) k
 

@@ -19,7 +19,8 @@ after qs past xs = firstOf past (noOfAll qs xs)
 abbrev pub NumberLoop : {A W : Type 0} → (W → Reader A) → ℕ → (W → Asks A) → Bytes → ℕ → ℕ → ℕ → ℕ → Type 0
 NumberLoop {W = W} R most qs s i past left c = (w : W) → Tracks (R w) s (counted most u1 (R w)) i (noOfAll (qs w)) (after (qs w) past) left c
 
-module _ {A W : Type 0} (R : W → Reader A) (steady : (w : W) → Steady (R w)) (most : ℕ) (qs : W → Asks A) (order : (w : W) → T (rising (numbers (qs w)))) (s : Bytes) (i : ℕ) where
+module _ {A W : Type 0} (R : W → Reader A) (steady : (w : W) → Steady (R w)) (most : ℕ) (qs : W → Asks A) (order : (w : W) → T (rising (numbers (qs w))))
+    (s : Bytes) (i : ℕ) where
   pub numbers-start : (n : ℕ) → n ≡ getD s i 0 → NumberLoop R most qs s i 0 n (i + 1)
   numbers-start n h w xs j r =
       let t = track-start (R w) s (noOfAll (qs w)) most i xs j r in

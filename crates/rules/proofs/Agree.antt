@@ -73,7 +73,8 @@ module _ (is js : List Installed) (R : Installed → Type 0)
   first-agree : (k : ℕ) (c : ClassAt) (n : ℕ) → R (c .home) → firstInstance is k c n ≡ firstInstance js k c n
   first-agree zero c n r = refl
   first-agree (suc k) c n r =
-      let up = andThen-cong (kind0Parent is c) (λ d. firstInstance is k d n) (λ d. firstInstance js k d n) (λ d e. first-agree k d n (parent-reached c r d ((find-some isKind0 (parentsOf is c) d e) .0))) in
+      let up = andThen-cong (kind0Parent is c) (λ d. firstInstance is k d n) (λ d. firstInstance js k d n)
+      (λ d e. first-agree k d n (parent-reached c r d ((find-some isKind0 (parentsOf is c) d e) .0))) in
       let next = up ∙ ap (λ (o : Option ClassAt). o andThen λ d. firstInstance js k d n) (kind0Parent-agree c r) in
       ap (λ (t : Option MethodAt). recordOf c andThen λ x. orElse (methodIn c (declaredInstance x n)) t) next
 
@@ -106,11 +107,13 @@ module _ (is js : List Installed) (R : Installed → Type 0)
 
     pub q18-agree : q18-calls is self ≡ q18-calls js self
     unfolding q18-calls
-    q18-agree = allFrom-cong _ _ 0 (self .pack .classes) (λ i k m. all-cong _ _ (k .methods) (λ o m′. all-cong _ _ (callsOf (o .code)) (λ c m″. rw (callNames-agree c))))
+    q18-agree = allFrom-cong _ _ 0 (self .pack .classes) (λ i k m. all-cong _ _ (k .methods)
+        (λ o m′. all-cong _ _ (callsOf (o .code)) (λ c m″. rw (callNames-agree c))))
 
     pub q19-agree : q19-allowed is self ≡ q19-allowed js self
     unfolding q19-allowed
-    q19-agree = allFrom-cong _ _ 0 (self .pack .classes) (λ i k m. all-cong _ _ (k .methods) (λ o m′. all-cong _ _ (callsOf (o .code)) (λ c m″. rw (callNames-agree c))))
+    q19-agree = allFrom-cong _ _ 0 (self .pack .classes) (λ i k m. all-cong _ _ (k .methods)
+        (λ o m′. all-cong _ _ (callsOf (o .code)) (λ c m″. rw (callNames-agree c))))
 
     runs-allowing-agree : (b : ClassAt) (m : MethodAt) → R (b .home) → runsAllowing l is b m ≡ runsAllowing l js b m
     runs-allowing-agree b m s = rw (runs-agree (l .depth) b (m .method .name) s)

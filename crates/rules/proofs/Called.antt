@@ -46,7 +46,8 @@ module _ (l : Limits) (is : List Installed) (sane : Sane l is) (distinct : Disti
   class-installed : (self : Installed) → List·Memᴰ self is → (n : ClassNumber) (c : ClassAt) → classNamed is self n ≡ some c → List·Memᴰ (c .home) is
   class-installed self m n c e =
       let i = and-then-is (packageNumbered is self (n .pack)) _ c e in
-      subst (λ (y : Installed). List·Memᴰ y is) (ap (λ (y : ClassAt). y .home) (Option·some-injective _ _ (i .2))) (named-installed self m (n .pack) (i .0) (i .1))
+      subst (λ (y : Installed). List·Memᴰ y is) (ap (λ (y : ClassAt). y .home) (Option·some-injective _ _ (i .2)))
+      (named-installed self m (n .pack) (i .0) (i .1))
 
   parent-installed : (c d : ClassAt) → List·Memᴰ (c .home) is → List·Memᴰ d (parentsOf is c) → List·Memᴰ (d .home) is
   parent-installed c d h m =
@@ -131,7 +132,8 @@ module _ (l : Limits) (is : List Installed) (sane : Sane l is) (distinct : Disti
   unfolding called
   calls-called m o (direct c k d x e) = flat-mem (calledBy l is (m .class .home)) c o (callsOf (m .method .code)) k (rw e (as-direct (c .kind) x d))
   calls-called m o (dynamic c k d x e b i r _ u) =
-      flat-mem (calledBy l is (m .class .home)) c o (callsOf (m .method .code)) k (rw e (as-dynamic (c .kind) x o d (runs-below (x .class) b (x .method .name) o i r u)))
+      flat-mem (calledBy l is (m .class .home)) c o (callsOf (m .method .code)) k
+      (rw e (as-dynamic (c .kind) x o d (runs-below (x .class) b (x .method .name) o i r u)))
 
   -- what is computed is a call
   pub called-calls : (m o : MethodAt) → List·Memᴰ (m .class .home) is → List·Memᴰ o (called l is m) → Calls is m o
@@ -162,7 +164,8 @@ module _ (l : Limits) (is : List Installed) (sane : Sane l is) (distinct : Disti
   pub calls-yes : (m o : MethodAt) → Calls is m o → T (callsB l is m o)
   unfolding callsB
   calls-yes m o c =
-      any-mem (sameMethod o) (and-i (sameClass (o .class) (o .class)) (eqb (o .method .name) (o .method .name)) (class-refl l is sane distinct (o .class)) (eqb-refl (o .method .name))) (calls-called m o c)
+      any-mem (sameMethod o) (and-i (sameClass (o .class) (o .class)) (eqb (o .method .name) (o .method .name)) (class-refl l is sane distinct (o .class))
+      (eqb-refl (o .method .name))) (calls-called m o c)
 
   pub yes-calls : (m o : MethodAt) → List·Memᴰ (m .class .home) is → There is o → T (callsB l is m o) → Calls is m o
   unfolding callsB

@@ -68,7 +68,11 @@ names-differ (x ∷ ms) h m o p q e =
     λ y r z. T-not (eqb (x .name) (y .name)) (all-mem (λ (w : Method). not (eqb (x .name) (w .name))) a r) (rw z (eqb-refl (y .name))) in
     elim (List·Memᴰ·cases-cons p) [
       | inl u ↦ elim (List·Memᴰ·cases-cons q) [ inl v ↦ u ∙ sym v | inr v ↦ absurd (unlike o v (sym (ap (λ (w : Method). w .name) u) ∙ e)) ]
-      | inr u ↦ elim (List·Memᴰ·cases-cons q) [ inl v ↦ absurd (unlike m u (sym (ap (λ (w : Method). w .name) v) ∙ sym e)) | inr v ↦ names-differ ms b m o u v e ]
+      | inr u ↦ elim (List·Memᴰ·cases-cons q) [
+        | inl v ↦ absurd (unlike m u (sym (ap (λ (w : Method). w .name) v) ∙ sym e))
+        | inr v ↦ names-differ ms b m o
+            u v e
+      ]
     ]
 
 module _ (l : Limits) (is : List Installed) (sane : Sane l is) (distinct : Distinct is) where
@@ -94,7 +98,8 @@ module _ (l : Limits) (is : List Installed) (sane : Sane l is) (distinct : Disti
       let n = eqb→eq (m .method .name) (o .method .name) (and-r (sameClass (m .class) (o .class)) _ h) in
       let k : p .class ≡ q .class = Option·some-injective _ _ (sym (p .there) ∙ ap recordOf c ∙ q .there) in
       let t =
-      all-mem (λ (y : Class). namesDiffer (y .methods) && all (methodForm y) (y .methods)) ((sane .each (m .class .home) (p .home)) .q15) (at-mem (m .class .home .pack .classes) (m .class .number) (p .class) (p .there)) in
+      all-mem (λ (y : Class). namesDiffer (y .methods) && all (methodForm y) (y .methods)) ((sane .each (m .class .home) (p .home)) .q15)
+      (at-mem (m .class .home .pack .classes) (m .class .number) (p .class) (p .there)) in
       let d = and-l (namesDiffer (p .class .methods)) _ t in
       let e : m .method ≡ o .method = names-differ (p .class .methods) d (m .method) (o .method) (p .member) (rw (← k) at (q .member)) n in
       ap₂ (λ (y : ClassAt) (z : Method). record { class = y; method = z }) c e

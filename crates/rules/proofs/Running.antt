@@ -47,7 +47,8 @@ module _ (l : Limits) (is : List Installed) (b : ClassAt) where
   instances-allow a = go (recordOf a)
     where
       go : (o : Option Class) → all (runsAllowing l is b) (listOf o λ k. flat (λ m. pick (m .static) [] (record { class = a; method = m } ∷ [])) (k .methods)) ≡
-          noneOr o (λ k. all (λ m. m .static || noneOr (runsUpTo is (l .depth) b (m .name)) (λ r. allowsAllOf r (record { class = a; method = m }))) (k .methods))
+          noneOr o (λ k. all (λ m. m .static || noneOr (runsUpTo is (l .depth) b (m .name)) (λ r. allowsAllOf r (record { class = a; method = m })))
+          (k .methods))
       go none = refl
       go (some k) = of-methods a (k .methods)
 

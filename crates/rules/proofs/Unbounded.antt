@@ -25,7 +25,8 @@ allFrom-is : {A : Type 0} (p : ℕ → A → Bool) (k : ℕ) (xs : List A) → (
 allFrom-is p k [] h = tt
 allFrom-is p k (x ∷ xs) h =
     let q : k + 0 ≡ k = omega arith in
-    and-i (p k x) (allFrom p (suc k) xs) (rw q at (h 0 x refl)) (allFrom-is p (suc k) xs (λ i y e. let w : k + suc i ≡ suc k + i = omega arith in rw w at (h (suc i) y e)))
+    and-i (p k x) (allFrom p (suc k) xs) (rw q at (h 0 x refl)) (allFrom-is p (suc k) xs
+    (λ i y e. let w : k + suc i ≡ suc k + i = omega arith in rw w at (h (suc i) y e)))
 
 allFrom-zero-is : {A : Type 0} (p : ℕ → A → Bool) (xs : List A) → ((i : ℕ) (x : A) → at xs i ≡ some x → T (p i x)) → T (allFrom p 0 xs)
 allFrom-zero-is p xs h = allFrom-is p 0 xs (λ i x e. rw zero-add (h i x e))
@@ -73,19 +74,23 @@ module _ (l : Limits) (is : List Installed) (self : Installed) where
 
     pub unbounded-q20 : Q20 is self → T (q20-running l is self)
     unbounded-q20 h =
-        subst T (sym (q20-by-class l is self)) (allFrom-zero-is (λ i k. all (runningAllows l is (own self i)) (ancestorsUpTo is (l .depth) (own self i))) (self .pack .classes) (λ i k e.
-        all-is (runningAllows l is (own self i)) (ancestorsUpTo is (l .depth) (own self i)) (λ a x. of-class i k e a (ancestors-below is (l .depth) (own self i) a x) (recordOf a) refl)))
+        subst T (sym (q20-by-class l is self)) (allFrom-zero-is (λ i k. all (runningAllows l is (own self i)) (ancestorsUpTo is (l .depth) (own self i)))
+        (self .pack .classes) (λ i k e.
+        all-is (runningAllows l is (own self i)) (ancestorsUpTo is (l .depth) (own self i))
+        (λ a x. of-class i k e a (ancestors-below is (l .depth) (own self i) a x) (recordOf a) refl)))
       where
         of-method : (i : ℕ) (k : Class) → at (self .pack .classes) i ≡ some k → (a : ClassAt) → IsOrBelow is (own self i) a → (kₐ : Class) →
             recordOf a ≡ some kₐ → (m : Method) → List·Memᴰ m (kₐ .methods) →
-            (s : Bool) → m .static ≡ s → (o : Option MethodAt) → runsUpTo is (l .depth) (own self i) (m .name) ≡ o → T (s || noneOr o (λ r. allowsAllOf r (record { class = a; method = m })))
+            (s : Bool) → m .static ≡ s → (o : Option MethodAt) → runsUpTo is (l .depth) (own self i) (m .name) ≡ o → T
+            (s || noneOr o (λ r. allowsAllOf r (record { class = a; method = m })))
         of-method i k e a b kₐ z m x true st o q = tt
         of-method i k e a b kₐ z m x false st none q = tt
         of-method i k e a b kₐ z m x false st (some r) q = h i k e (m .name) r (runs-is is (l .depth) (own self i) (m .name) r q) a b kₐ z m x refl st
 
         of-class : (i : ℕ) (k : Class) → at (self .pack .classes) i ≡ some k → (a : ClassAt) → IsOrBelow is (own self i) a → (o : Option Class) →
             recordOf a ≡ o →
-            T (noneOr o λ kₐ. all (λ m. m .static || noneOr (runsUpTo is (l .depth) (own self i) (m .name)) (λ r. allowsAllOf r (record { class = a; method = m }))) (kₐ .methods))
+            T (noneOr o λ kₐ. all (λ m. m .static || noneOr (runsUpTo is (l .depth) (own self i) (m .name))
+            (λ r. allowsAllOf r (record { class = a; method = m }))) (kₐ .methods))
         of-class i k e a b none z = tt
         of-class i k e a b (some kₐ) z =
             all-is _ (kₐ .methods) (λ m x. of-method i k e a b kₐ z m x (m .static) refl (runsUpTo is (l .depth) (own self i) (m .name)) refl)

@@ -1,13 +1,7 @@
 -- What demands 1 and 2 speak of: the numbers of each operation in document 01's order, and its questions. Assumes nothing.
---
 -- refusalsOf o                   == the numbers that document 01 lists for an operation, in its order; withDone ns == these and 0
 -- freshRefusals, queryRefusals   == those of fresh and of a query
 -- asked, askedFresh, askedQuery  == all questions of an operation, of fresh or of a query on a buffer, in order
--- numbersIn qs                   == the numbers of questions, in order
--- HasFile o                      == the operation is no load, or its file reads: of a file that does not, nothing behind 11 is asked
--- allYes qs                      == all are answered yes
--- FirstNo k qs                   == the questions before the one with number k are answered yes, and that one no
--- storedAllows s d a c n         == the method that the store has for the query allows the domain
 use Prim.Native.Nat.{ℕ}
 use mathlib.Core.Path.{_≡_}
 use mathlib.Core.Bool.{Bool, false}

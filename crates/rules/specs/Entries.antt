@@ -1,10 +1,7 @@
 -- The store: its entries and its layout (document 01, "The store"). Assumes nothing.
---
 -- Entry             == a domain's AID (kind 1); a loading domain's AID and a package file (kind 2)
 -- entryBytes e      == kind u1, body length u2, body
 -- opening, used es  == mark and version; bytes from the start, the seven opening ones included
--- write n es        == the buffer of n bytes that the layout gives for the entries
--- WrittenFrom s es  == the buffer s is laid out so from these entries
 use Prim.Native.Nat.{ℕ, _+_, _-_}
 use mathlib.Core.List.{List, [], _∷_, _++_}
 use mathlib.Core.Path.{_≡_}

@@ -23,11 +23,14 @@ use Rattle.homes.specs.Homes.{Imports, fileOf}
 use Rattle.homes.specs.declared.Home.{Home}
 use Rattle.homes.proofs.Homes.{home-reads, home-bounds}
 use Rattle.chains.specs.Say.{MethodIn, RunningThere, RunsIs}
+use Rattle.running.specs.Rows.{BesideIs}
 use Rattle.running.specs.Say.{BothThere, AllowsAllOf, methodPasses, MethodThere, MethodPasses}
+use Rattle.chains.specs.declared.RunsFound.{RunsFound}
 use Rattle.chains.specs.declared.RunsFound.the-variants.{At, Nothing}
 
 -- a method in its file g
-module _ (f s : Bytes) (h : Home) (i : ℕ) (g : Bytes) (z : g ≡ fileOf f s h) (end : ℕ) (es : List Entry) (self : Installed) (o : MethodAt) (m : MethodIn f s end es self h i o) where
+module _ (f s : Bytes) (h : Home) (i : ℕ) (g : Bytes) (z : g ≡ fileOf f s h) (end : ℕ) (es : List Entry) (self : Installed) (o : MethodAt) (m : MethodIn f
+    s end es self h i o) where
   file-method : Reads (method (storeLimits s) (o .class .home .pack .domains)) g i (o .method) (m .ends)
   file-method = subst (λ (b : Bytes). Reads (method (storeLimits s) (o .class .home .pack .domains)) b i (o .method) (m .ends)) (sym z) (m .reads)
 
@@ -35,7 +38,7 @@ module _ (f s : Bytes) (h : Home) (i : ℕ) (g : Bytes) (z : g ≡ fileOf f s h)
   method-there = (storeLimits s, o .class .home .pack .domains, (o .method, m .ends, file-method))
 
   module _ (a : Imports f s end es self) where
-    file-reads : readFile (storeLimits s) g ≡ some (o .class .home .pack)
+    pub file-reads : readFile (storeLimits s) g ≡ some (o .class .home .pack)
     file-reads = ap (readFile (storeLimits s)) z ∙ home-reads f s end es self (a .setting) h (o .class .home) (m .home)
 
     pub method-file : Readable g
@@ -49,25 +52,33 @@ module _ (f s : Bytes) (h : Home) (i : ℕ) (g : Bytes) (z : g ≡ fileOf f s h)
 
 module _ (f s : Bytes) (g : Home) (i : ℕ) (h : Home) (j : ℕ) where
   pub both-bounds : BothThere f s g i h j → ((g .from ≤ g .to) × (g .to ≤ length s)) × ((h .from ≤ h .to) × (h .to ≤ length s))
-  both-bounds t = (home-bounds f s (t .0) (t .1) (t .2) g (t .4 .class .home) (t .5 .home), home-bounds f s (t .0) (t .1) (t .2) h (t .6 .class .home) (t .7 .home))
+  both-bounds t = (
+    home-bounds f s (t .0) (t .1) (t .2) g (t .4 .class .home) (t .5 .home),
+    home-bounds f s (t .0) (t .1) (t .2) h (t .6 .class .home) (t
+        .7 .home),
+  )
 
-  module _ (a b : Bytes) (za : a ≡ fileOf f s g) (zb : b ≡ fileOf f s h) (da pa db pb : ℕ) (ra : DomainsAt a da) (qa : PolicyAt a i pa) (rb : DomainsAt b db) (qb : PolicyAt b j pb) where
+  module _ (a b : Bytes) (za : a ≡ fileOf f s g) (zb : b ≡ fileOf f s h) (da pa db pb : ℕ) (ra : DomainsAt a da) (qa : PolicyAt a i pa) (rb : DomainsAt b
+      db) (qb : PolicyAt b j pb) where
     pub allows-is : (r : Bool) → AdmitsAllOf a da pa b db pb r → AllowsAllOf f s g i h j r
     allows-is r q end es self u m x o y =
         let ma = domains-read ra (storeLimits s) (m .class .home .pack) (file-reads f s g i a za end es self m x u) in
         let mb = domains-read rb (storeLimits s) (o .class .home .pack) (file-reads f s h j b zb end es self o y u) in
         let wa = qa (storeLimits s) (m .class .home .pack .domains) (m .method) (x .ends) (file-method f s g i a za end es self m x) in
         let wb = qb (storeLimits s) (o .class .home .pack .domains) (o .method) (y .ends) (file-method f s h j b zb end es self o y) in
-        q (m .class .home .pack .domains) (ma .0) (ma .1) (m .method .policy) (wa .0) (wa .1) (o .class .home .pack .domains) (mb .0) (mb .1) (o .method .policy) (wb .0) (wb .1)
+        q (m .class .home .pack .domains) (ma .0) (ma .1) (m .method .policy) (wa .0) (wa .1) (o .class .home .pack .domains) (mb .0) (mb .1) (o .method
+        .policy) (wb .0) (wb .1)
 
 -- a method beside the one that runs for own class b and its name
 passes-static : (l : Limits) (is : List Installed) (b : _) (o : MethodAt) → o .method .static ≡ true → true ≡ methodPasses l is b o
 passes-static l is b o e = rw e
 
-passes-none : (l : Limits) (is : List Installed) (b : _) (o : MethodAt) → o .method .static ≡ false → runsUpTo is (l .depth) b (o .method .name) ≡ none → true ≡ methodPasses l is b o
+passes-none : (l : Limits) (is : List Installed) (b : _) (o : MethodAt) → o .method .static ≡ false → runsUpTo is (l .depth) b (o .method .name) ≡ none →
+    true ≡ methodPasses l is b o
 passes-none l is b o e n = rw (e, n)
 
-passes-runs : (l : Limits) (is : List Installed) (b : _) (o r : MethodAt) → o .method .static ≡ false → runsUpTo is (l .depth) b (o .method .name) ≡ some r → allowsAllOf r o ≡ methodPasses l is b o
+passes-runs : (l : Limits) (is : List Installed) (b : _) (o r : MethodAt) → o .method .static ≡ false → runsUpTo is (l .depth) b (o .method .name) ≡ some r →
+    allowsAllOf r o ≡ methodPasses l is b o
 passes-runs l is b o r e n = rw (e, n)
 
 -- a method that allows nothing
@@ -103,7 +114,8 @@ module _ (f s : Bytes) (end b : ℕ) (h : Home) (i : ℕ) where
 
     pub method-static : StaticIs g i true → MethodPasses f s end b h i true
     method-static q es self r o m =
-        passes-static (storeLimits s) (installed (storeLimits s) es) (own self b) o (sym (q (storeLimits s) (o .class .home .pack .domains) (o .method) (m .ends) (file-method f s h i g z end es self o m)))
+        passes-static (storeLimits s) (installed (storeLimits s) es) (own self b) o (sym (q (storeLimits s) (o .class .home .pack .domains) (o .method) (m
+        .ends) (file-method f s h i g z end es self o m)))
 
     -- it allows nothing
     pub policy-inside : MethodThere f s end b h i → (p : ℕ) → PolicyAt g i p → p < length g
@@ -115,7 +127,8 @@ module _ (f s : Bytes) (end b : ℕ) (h : Home) (i : ℕ) where
     pub method-nothing : (p : ℕ) → PolicyAt g i p → (w : ℕ) → w ≡ getD g p 0 → w ≡ 0 → MethodPasses f s end b h i true
     method-nothing p q w v u es self r o m =
         let y = q (storeLimits s) (o .class .home .pack .domains) (o .method) (m .ends) (file-method f s h i g z end es self o m) in
-        passes-nothing (storeLimits s) (installed (storeLimits s) es) (own self b) o (list-empty (o .class .home .pack .domains) g p (o .method .policy) (y .0) (y .1) (sym v ∙ u))
+        passes-nothing (storeLimits s) (installed (storeLimits s) es) (own self b) o (list-empty (o .class .home .pack .domains) g p (o .method .policy) (y
+        .0) (y .1) (sym v ∙ u))
 
     module _ (q : StaticIs g i false) (name : ℕ) (n : NameIs g i name) where
       static-not : (es : List Entry) (self : Installed) (o : MethodAt) → MethodIn f s end es self h i o → o .method .static ≡ false
@@ -139,3 +152,8 @@ module _ (f s : Bytes) (end b : ℕ) (h : Home) (i : ℕ) where
             y end es self (r .judged .parents .imported) (u .0) (u .2) o m
             ∙ passes-runs (storeLimits s) (installed (storeLimits s) es) (own self b) o (u .0) (static-not es self o m)
             (subst (λ (v : ℕ). runsUpTo (installed (storeLimits s) es) (storeLimits s .depth) (own self b) v ≡ some (u .0)) (name-is es self o m) (u .1))
+
+      -- what is asked beside what runs
+      pub beside-is : MethodThere f s end b h i → (r : RunsFound) → RunsIs f s end b name r → BesideIs f s end b h i r
+      beside-is t (At x k) w = (method-both x k w t, method-beside x k w)
+      beside-is t Nothing w = method-alone w

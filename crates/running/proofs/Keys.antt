@@ -14,30 +14,18 @@ use Rattle.rules.specs.Classes.{Installed}
 use Rattle.rules.proofs.Lists.{at-below}
 use Rattle.places.specs.Reads.{Reads}
 use Rattle.places.proofs.Steady.{Steady, steady-u1, steady-many, steady-u2, steady-aid, steady-counted, steady-number, steady-reference, steady-method, steady-class}
-use Rattle.places.proofs.Inverse.{reads-u1, reads-left, reads-done, reads-counted}
+use Rattle.places.proofs.Inverse.{reads-forward, reads-left, reads-done, reads-counted, counted-one}
 use Rattle.places.proofs.Parts.{aid-part, class-part, file-parts}
 use Rattle.places.proofs.Track.{many-length}
 use Rattle.store.specs.Entries.{part, EntryAt, Entries}
 use Rattle.store.specs.Entries as entries
 use Rattle.store.proofs.Parts.{part-length}
-use Rattle.store.proofs.Stand.{entries-to, entry-one, entries-front, entries-split}
-use Rattle.homes.specs.Homes.{Setting, Stored, HomeIs}
+use Rattle.store.proofs.Stand.{entries-to, entry-one, entry-apart}
+use Rattle.homes.specs.Homes.{homeOf, Setting, Stored, HomeIs}
 use Rattle.homes.specs.Homes as homes
 use Rattle.homes.specs.declared.Home.{Home}
+use Rattle.homes.proofs.Places.{stored-home}
 use Rattle.running.specs.Walk.{key}
-
--- a reader goes forward
-pub reads-forward : {A : Type 0} (r : Reader A) → Steady r → (s : Bytes) (i : ℕ) (a : A) (j : ℕ) → Reads r s i a j → i ≤ j
-reads-forward {A} r steady s i a j p =
-    let l = steady (drop i s) (a, drop j s) (p .is) in
-    omega (arith, ap length (l .is), length-drop i s, length-drop j s, length-drop (l .taken) (drop i s), l .within, p .from, p .to)
-
--- a list with its count takes a byte or more
-counted-forward : {A : Type 0} (most : ℕ) (r : Reader A) → Steady r → (s : Bytes) (i : ℕ) (xs : List A) (j : ℕ) → Reads (counted most u1 r) s i xs j → i < j
-counted-forward most r steady s i xs j p =
-    let c = reads-counted most u1 r steady-u1 s i xs j p in
-    let h = reads-forward (many (c .number) r) (steady-many (c .number) r steady) s (c .place) xs j (c .list) in
-    omega (arith, (reads-u1 s i (c .number) (c .place) (c .count)) .next)
 
 -- a list of elements of at least three bytes each has three bytes for each of them
 many-grows : {A : Type 0} (r : Reader A) → Steady r → (s : Bytes) → ((i : ℕ) (a : A) (j : ℕ) → Reads r s i a j → i + 3 ≤ j) →
@@ -54,8 +42,8 @@ many-grows r steady s q (suc n) i xs j p =
 class-forward : (l : Limits) (ds : List Aid) (s : Bytes) (i : ℕ) (k : Class) (j : ℕ) → Reads (class l ds) s i k j → i + 3 ≤ j
 class-forward l ds s i k j p =
     let t = class-part l ds s i k j p in
-    let a = counted-forward (l .parents) classNumber steady-number s (i + 1) (k .parents) (t .middle) (t .parents) in
-    let b = counted-forward mostMethods (method l ds) (steady-method l ds) s (t .middle) (k .methods) j (t .methods) in
+    let a = counted-one (l .parents) classNumber steady-number s (i + 1) (k .parents) (t .middle) (t .parents) in
+    let b = counted-one mostMethods (method l ds) (steady-method l ds) s (t .middle) (k .methods) j (t .methods) in
     omega arith
 
 module _ (l : Limits) (f : Bytes) (p : Package) (r : readFile l f ≡ some p) where
@@ -64,59 +52,33 @@ module _ (l : Limits) (f : Bytes) (p : Package) (r : readFile l f ≡ some p) wh
   classes-room =
       let t = file-parts l f p r in
       let a = aid-part f 7 (p .aid) (t .domainsAt) (t .named) in
-      let d = counted-forward mostDomains aid steady-aid f (t .domainsAt) (p .domains) (t .importsAt) (t .domains) in
-      let i = counted-forward mostImports aid steady-aid f (t .importsAt) (p .imports) (t .referencesAt) (t .imports) in
-      let e = reads-forward (counted mostReferences u2 reference) (steady-counted mostReferences u2 reference steady-u2 steady-reference) f (t .referencesAt) (p .references) (t .classesAt) (t .references) in
+      let d = counted-one mostDomains aid steady-aid f (t .domainsAt) (p .domains) (t .importsAt) (t .domains) in
+      let i = counted-one mostImports aid steady-aid f (t .importsAt) (p .imports) (t .referencesAt) (t .imports) in
+      let e = reads-forward (counted mostReferences u2 reference) (steady-counted mostReferences u2 reference steady-u2 steady-reference) f (t
+      .referencesAt) (p .references) (t .classesAt) (t .references) in
       let c = reads-counted mostClasses u1 (class l (p .domains)) steady-u1 f (t .classesAt) (p .classes) (length f) (t .classes) in
       let u = reads-forward u1 steady-u1 f (t .classesAt) (c .number) (c .place) (c .count) in
       let m = many-length (class l (p .domains)) (steady-class l (p .domains)) (c .number) f (c .place) (p .classes) (length f) (c .list) in
-      let g = many-grows (class l (p .domains)) (steady-class l (p .domains)) f (class-forward l (p .domains) f) (c .number) (c .place) (p .classes) (length f) (c .list) in
+      let g = many-grows (class l (p .domains)) (steady-class l (p .domains)) f (class-forward l (p .domains) f) (c .number) (c .place) (p .classes)
+      (length f) (c .list) in
       (omega (arith, a .next, a .low, m), omega (arith, m, c .small))
 
-  pub file-classes : 12 + 3 * length (p .classes) ≤ length f
-  file-classes = classes-room .0
-
-  -- a class's number is below the file's length and below the greatest count
-  pub class-below : (n : ℕ) (k : Class) → at (p .classes) n ≡ some k → (n < length f) × (n < mostClasses)
-  class-below n k e =
-      let b = at-below (p .classes) n k e in
-      (omega (arith, classes-room .0), omega (arith, classes-room .1))
-
--- the file of a loaded entry
-loaded-file : (d e : Aid) (f g : Bytes) → loaded d f ≡ loaded e g → f ≡ g
-loaded-file d e f g q = cc
-
--- a home is its three places
-homeOf : ℕ → ℕ → ℕ → Home
-homeOf a b c = record { from = a; to = b; before = c }
-
-home-is : (h g : Home) → h .from ≡ g .from → h .to ≡ g .to → h .before ≡ g .before → h ≡ g
-unfolding homeOf
-home-is h g a b c = ap (λ (n : ℕ). homeOf n (h .to) (h .before)) a ∙ ap (λ (n : ℕ). homeOf (g .from) n (h .before)) b ∙ ap (λ (n : ℕ). homeOf (g .from) (g .to) n) c
-
 -- the place of an entry in the middle of the others
-entry-before : (s : Bytes) (i : ℕ) (pre : List Entry) (e : Entry) (post : List Entry) (j k end : ℕ) → Entries s i pre j → EntryAt s j e k → Entries s i (pre ++ e ∷ post) end → k ≤ end
+entry-before : (s : Bytes) (i : ℕ) (pre : List Entry) (e : Entry) (post : List Entry) (j k end : ℕ) → Entries s i pre j → EntryAt s j e k →
+    Entries s i (pre ++ e ∷ post) end → k ≤ end
 entry-before s i _ e post _ k end (entries.over h) t (entries.more {j = m} {es = es} u r) =
     let o = entry-one s i e e k m t u in omega (arith, o .1, (entries-to s m es end r) .0)
 entry-before s i _ e post j k end (entries.more {j = m} {e = x} {es = ps} v q) t (entries.more {j = m′} u r) =
     let o = entry-one s i x x m m′ v u in
     entry-before s m ps e post j k end q t (subst (λ (n : ℕ). Entries s n (ps ++ e ∷ post) end) (sym (o .1)) r)
 
--- an entry that starts before another ends before it
-entry-apart : (s : Bytes) (ps qs : List Entry) (i j k : ℕ) (e : Entry) → Entries s openingLength ps i → EntryAt s i e k → Entries s openingLength qs j → i < j → k ≤ j
-entry-apart s ps qs i j k e p t q h =
-    let r = entries-split s openingLength qs ps i j (omega arith) p q in
-    let f = entries-front s i (r .rest) j h (r .stand) in
-    let o = entry-one s i e (f .one) k (f .place) t (f .stands) in
-    omega (arith, o .1, (entries-to s (f .place) (f .others) j (f .rest)) .0)
-
 -- a stored class has its place before that of a package whose entry follows
 module _ (s : Bytes) (es : List Entry) (h : Home) (x : Installed) (t : Stored s es h x) where
   stored-key : (n : ℕ) (k : Class) → at (x .pack .classes) n ≡ some k → key h n < h .to / 3
   stored-key n k e =
       let b = at-below (x .pack .classes) n k e in
-      let c = file-classes (storeLimits s) (part s (h .from) (h .to)) (x .pack) (t .reads) in
-      omega (arith, part-length s (h .from) (h .to) (t .entry .to), t .inside, t .order)
+      let c = classes-room (storeLimits s) (part s (h .from) (h .to)) (x .pack) (t .reads) in
+      omega (arith, c .0, part-length s (h .from) (h .to) (t .entry .to), t .inside, t .order)
 
   -- and its entry ends where the entries end, or before
   stored-end : (end : ℕ) → Entries s openingLength es end → h .to ≤ end
@@ -126,16 +88,17 @@ module _ (s : Bytes) (es : List Entry) (h : Home) (x : Installed) (t : Stored s 
 
   -- two stored files whose entries start at one place lie at one home
   stored-same : (fs : List Entry) (g : Home) (y : Installed) → Stored s fs g y → h .before ≡ g .before → h ≡ g
-  stored-same fs g y u e =
-      let o = entry-one s (h .before) _ _ (h .to) (g .to) (t .entry) (subst (λ (n : ℕ). EntryAt s n (loaded (y .domain) (part s (g .from) (g .to))) (g .to)) (sym e) (u .entry)) in
-      let l = ap length (loaded-file (x .domain) (y .domain) (part s (h .from) (h .to)) (part s (g .from) (g .to)) (o .0)) in
-      let z : h .from ≡ g .from = omega (arith, l, o .1, part-length s (h .from) (h .to) (t .entry .to), part-length s (g .from) (g .to) (u .entry .to), t .order, u .order) in
-      home-is h g z (o .1) e
+  stored-same fs g y u e = stored-home t ∙ ap (homeOf s) e ∙ sym (stored-home u)
 
 -- there is room for a class's bit
 pub key-small : (f s : Bytes) (end : ℕ) (es : List Entry) (self : Installed) → Setting f s end es self →
     (h : Home) (x : Installed) → HomeIs f s end es self h x → (n : ℕ) (k : Class) → at (x .pack .classes) n ≡ some k → key h n ≤ end / 3 + 31
-key-small f s end es self g _ _ homes.own n k e = omega (arith, (class-below (storeLimits s) f (self .pack) (g .reads) n k e) .1)
+key-small f s end es self g _ _ homes.own n k e = omega (
+  arith,
+  at-below (self .pack .classes) n k e,
+  (classes-room (storeLimits s) f (self .pack) (g
+      .reads)) .1,
+)
 key-small f s end es self g h x (homes.stored t) n k e = omega (arith, stored-key s es h x t n k e, stored-end s es h x t end (g .stand))
 
 -- two classes have two places, whatever the domain of the package being judged
@@ -148,11 +111,11 @@ module _ (f s : Bytes) (end : ℕ) (es fs : List Entry) (self self′ : Installe
   key-one h g x y (homes.stored t) (homes.stored u) n m k l p q e =
       elim (decLe (g .before) (h .before)) [
         | no o ↦
-            let z = entry-apart s (t .pre) (u .pre) (h .before) (g .before) (h .to) _ (t .stand) (t .entry) (u .stand) (omega arith) in
+            let z = entry-apart s openingLength (t .pre) (u .pre) (h .before) (g .before) (h .to) _ (t .stand) (t .entry) (u .stand) (omega arith) in
             absurd (omega (arith, stored-key s es h x t n k p))
         | yes o ↦ elim (decLe (h .before) (g .before)) [
           | no i ↦
-              let z = entry-apart s (u .pre) (t .pre) (g .before) (h .before) (g .to) _ (u .stand) (u .entry) (t .stand) (omega arith) in
+              let z = entry-apart s openingLength (u .pre) (t .pre) (g .before) (h .before) (g .to) _ (u .stand) (u .entry) (t .stand) (omega arith) in
               absurd (omega (arith, stored-key s fs g y u m l q))
           | yes i ↦
               let z : h .before ≡ g .before = omega arith in

@@ -1,5 +1,6 @@
 -- Laws of question 20.
 pub mod Allows
+pub mod Turns
 pub mod Loops
 pub mod Visits
 pub mod Keys

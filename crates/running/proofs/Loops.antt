@@ -33,6 +33,10 @@ MethodsLeft f s end b h n start left c = OfWalk f s end b h n λ es self x k.
     Tracks (method (storeLimits s) (x .pack .domains)) (fileOf f s h) (counted mostMethods u1 (method (storeLimits s) (x .pack .domains))) start
     (all (passesIn s es self b (record { home = x; number = n }))) (all (passesIn s es self b (record { home = x; number = n }))) left c
 
+-- so it is of each class whose methods are listed there
+abbrev pub MethodsOn : Bytes → Bytes → ℕ → ℕ → Home → ℕ → ℕ → ℕ → Type 0
+MethodsOn f s end b h start left c = (n : ℕ) → MethodsIn f s h n start → MethodsLeft f s end b h n start left c
+
 module _ (f s : Bytes) (end b : ℕ) (h : Home) (n : ℕ) where
   unfoldable pub walk-class : WalkThere f s end b h n → ClassThere f s h n
   walk-class t = (end, record { entries = t .entries; self = t .self; asked = t .asked .judged; pack = t .pack; home = t .home; class = t .class; is = t .is })
@@ -41,7 +45,8 @@ module _ (f s : Bytes) (end b : ℕ) (h : Home) (n : ℕ) where
   walk-bounds t = home-bounds f s end (t .entries) (t .self) h (t .pack) (t .home)
 
   module _ (start : ℕ) (q : MethodsIn f s h n start) where
-    methods-of : (es : List Entry) (self : Installed) → Running f s end b es self → (x : Installed) → HomeIs f s end es self h x → (k : Class) → at (x .pack .classes) n ≡ some k →
+    methods-of : (es : List Entry) (self : Installed) → Running f s end b es self → (x : Installed) → HomeIs f s end es self h x → (k : Class) →
+        at (x .pack .classes) n ≡ some k →
         (j : ℕ) × Reads (counted mostMethods u1 (method (storeLimits s) (x .pack .domains))) (fileOf f s h) start (k .methods) j
     methods-of es self r x o k e = q end es self (r .judged) x o k e
 
@@ -49,12 +54,14 @@ module _ (f s : Bytes) (end b : ℕ) (h : Home) (n : ℕ) where
     pub methods-inside : (g : Bytes) → g ≡ fileOf f s h → WalkThere f s end b h n → start < length g
     methods-inside g z t =
         let y = methods-of (t .entries) (t .self) (t .asked) (t .pack) (t .home) (t .class) (t .is) in
-        subst (λ (v : Bytes). start < length v) (sym z) (counted-inside (method (storeLimits s) (t .pack .pack .domains)) (fileOf f s h) mostMethods start (t .class .methods) (y .0) (y .1))
+        subst (λ (v : Bytes). start < length v) (sym z) (counted-inside (method (storeLimits s) (t .pack .pack .domains)) (fileOf f s h) mostMethods start
+        (t .class .methods) (y .0) (y .1))
 
     pub methods-start : (g : Bytes) (m : ℕ) → g ≡ fileOf f s h → m ≡ getD g start 0 → MethodsLeft f s end b h n start m (start + 1)
     methods-start g m z y es self r x o k e =
         let e′ : m ≡ getD (fileOf f s h) start 0 = y ∙ ap (λ (v : Bytes). getD v start 0) z in
-        rw e′ (track-start (method (storeLimits s) (x .pack .domains)) (fileOf f s h) (all (passesIn s es self b (record { home = x; number = n }))) mostMethods start)
+        rw e′ (track-start (method (storeLimits s) (x .pack .domains)) (fileOf f s h) (all (passesIn s es self b (record { home = x; number = n })))
+        mostMethods start)
 
     module _ (left c : ℕ) (inv : MethodsLeft f s end b h n start left c) where
       module _ (more : 0 < left) where
@@ -62,28 +69,50 @@ module _ (f s : Bytes) (end b : ℕ) (h : Home) (n : ℕ) where
         pub method-here : WalkThere f s end b h n → MethodThere f s end b h c
         method-here t =
             let y = methods-of (t .entries) (t .self) (t .asked) (t .pack) (t .home) (t .class) (t .is) in
-            let m = track-ends (method (storeLimits s) (t .pack .pack .domains)) (steady-method (storeLimits s) (t .pack .pack .domains)) (fileOf f s h) (counted mostMethods u1 (method (storeLimits s) (t .pack .pack .domains))) start
-            _ _ left c (inv (t .entries) (t .self) (t .asked) (t .pack) (t .home) (t .class) (t .is)) more (t .class .methods, y .0, y .1) in
-            (t .entries, t .self, t .asked, record { class = record { home = t .pack; number = n }; method = m .0 }, record { home = t .home; ends = m .1; reads = m .2 })
+            let m = track-ends (method (storeLimits s) (t .pack .pack .domains)) (steady-method (storeLimits s) (t .pack .pack .domains)) (fileOf f s h)
+            (counted mostMethods u1 (method (storeLimits s) (t .pack .pack .domains))) start
+            _ _ left c (inv (t .entries) (t .self) (t .asked) (t .pack) (t .home) (t .class) (t .is)) more (t .class .methods, y .0, y .1) in (
+              t .entries,
+              t .self,
+              t .asked,
+              record { class = record { home = t .pack; number = n }; method = m .0 },
+              record {
+                home = t .home;
+                ends = m .1;
+                reads = m .2;
+              },
+            )
 
         pub file-here : (g : Bytes) → g ≡ fileOf f s h → WalkThere f s end b h n → say.MethodThere g c
         unfolding method-here
         file-here g z t =
             let m = method-here t in
-            let d : List Aid = t .pack .pack .domains in
-            (storeLimits s, d, (m .3 .method, m .4 .ends, subst (λ (v : Bytes). Reads (method (storeLimits s) d) v c (m .3 .method) (m .4 .ends)) (sym z) (m .4 .reads)))
+            let d : List Aid = t .pack .pack .domains in (
+              storeLimits s,
+              d,
+              (
+                m .3 .method,
+                m .4 .ends,
+                subst (λ (v : Bytes). Reads (method (storeLimits s) d) v c (m .3 .method) (m .4 .ends)) (sym z)
+                    (m .4 .reads),
+              ),
+            )
 
         pub methods-hit : MethodPasses f s end b h c false → MethodsPass f s end b h n false
         methods-hit q es self r x o k e =
             let y = methods-of es self r x o k e in
-            let w = each-hit (method (storeLimits s) (x .pack .domains)) (steady-method (storeLimits s) (x .pack .domains)) (fileOf f s h) (counted mostMethods u1 (method (storeLimits s) (x .pack .domains))) start left c
+            let w = each-hit (method (storeLimits s) (x .pack .domains)) (steady-method (storeLimits s) (x .pack .domains)) (fileOf f s h) (counted
+            mostMethods u1 (method (storeLimits s) (x .pack .domains))) start left c
             (passesIn s es self b (record { home = x; number = n })) (inv es self r x o k e) more
-            (λ m a p. sym (q es self r (record { class = record { home = x; number = n }; method = m }) (record { home = o; ends = a; reads = p }))) (k .methods) (y .0) (y .1) in
+            (λ m a p. sym (q es self r (record { class = record { home = x; number = n }; method = m }) (record { home = o; ends = a; reads = p }))) (k
+            .methods) (y .0) (y .1) in
             sym (rw e w)
 
-        pub methods-miss : (g : Bytes) (d : ℕ) → g ≡ fileOf f s h → MethodPasses f s end b h c true → AfterMethod g c d → MethodsLeft f s end b h n start (left - 1) d
+        pub methods-miss : (g : Bytes) (d : ℕ) → g ≡ fileOf f s h → MethodPasses f s end b h c true → AfterMethod g c d →
+            MethodsLeft f s end b h n start (left - 1) d
         methods-miss g d z q a es self r x o k e =
-            each-miss (method (storeLimits s) (x .pack .domains)) (steady-method (storeLimits s) (x .pack .domains)) (fileOf f s h) (counted mostMethods u1 (method (storeLimits s) (x .pack .domains))) start left c
+            each-miss (method (storeLimits s) (x .pack .domains)) (steady-method (storeLimits s) (x .pack .domains)) (fileOf f s h) (counted mostMethods u1
+            (method (storeLimits s) (x .pack .domains))) start left c
             (passesIn s es self b (record { home = x; number = n })) (inv es self r x o k e) d more
             (λ m i p. sym (q es self r (record { class = record { home = x; number = n }; method = m }) (record { home = o; ends = i; reads = p })))
             (λ m i p. a (storeLimits s) (x .pack .domains) m i (subst (λ (v : Bytes). Reads (method (storeLimits s) (x .pack .domains)) v c m i) (sym z) p))
@@ -91,6 +120,7 @@ module _ (f s : Bytes) (end b : ℕ) (h : Home) (n : ℕ) where
       pub methods-done : left ≤ 0 → MethodsPass f s end b h n true
       methods-done z es self r x o k e =
           let y = methods-of es self r x o k e in
-          let w = each-none (method (storeLimits s) (x .pack .domains)) (steady-method (storeLimits s) (x .pack .domains)) (fileOf f s h) (counted mostMethods u1 (method (storeLimits s) (x .pack .domains))) start left c
+          let w = each-none (method (storeLimits s) (x .pack .domains)) (steady-method (storeLimits s) (x .pack .domains)) (fileOf f s h) (counted
+          mostMethods u1 (method (storeLimits s) (x .pack .domains))) start left c
           (passesIn s es self b (record { home = x; number = n })) (inv es self r x o k e) z (k .methods) (y .0) (y .1) in
           sym (rw e w)

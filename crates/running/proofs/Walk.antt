@@ -39,11 +39,13 @@ mem-at xs x (List·Memᴰ·head e) = (0, ap some (sym e))
 mem-at xs x (List·Memᴰ·tail {xs = ys} m) = let r = mem-at ys x m in (suc (r .0), r .1)
 
 -- a class that a file names as a parent is a parent, and the other way
-named-parent : (is : List Installed) (c : ClassAt) (k : Class) → recordOf c ≡ some k → (p : ClassNumber) → List·Memᴰ p (k .parents) → (d : ClassAt) → classNamed is (c .home) p ≡ some d →
+named-parent : (is : List Installed) (c : ClassAt) (k : Class) → recordOf c ≡ some k → (p : ClassNumber) → List·Memᴰ p (k .parents) → (d : ClassAt) →
+    classNamed is (c .home) p ≡ some d →
     List·Memᴰ d (parentsOf is c)
 named-parent is c k e p m d q = rw e (flat-mem (λ x. listOf (classNamed is (c .home) x) (λ c. c ∷ [])) p d (k .parents) m (rw q (List·Memᴰ·head refl)))
 
-parent-named-is : (is : List Installed) (c : ClassAt) (k : Class) → recordOf c ≡ some k → (d : ClassAt) → List·Memᴰ d (parentsOf is c) → (p : ClassNumber) × List·Memᴰ p (k .parents) × (classNamed is (c .home) p ≡ some d)
+parent-named-is : (is : List Installed) (c : ClassAt) (k : Class) → recordOf c ≡ some k → (d : ClassAt) → List·Memᴰ d (parentsOf is c) →
+    (p : ClassNumber) × List·Memᴰ p (k .parents) × (classNamed is (c .home) p ≡ some d)
 parent-named-is is c k e d m =
     let a = listOf-mem (recordOf c) _ d m in
     let z : a .0 ≡ k = Option·some-injective _ _ (sym (a .1) ∙ e) in
@@ -66,14 +68,19 @@ module _ (f s : Bytes) (end b : ℕ) (h : Home) (n : ℕ) where
   pub class-parent-no : ParentsPass f s end b h n false → ClassPasses f s end b h n false
   class-parent-no q es self r x o k e =
       let t = q es self r x o k e in
-      let u = t .5 in
-      (u .0, below (named-parent (installed (storeLimits s) es) (record { home = x; number = n }) k e (t .1) (at-mem (k .parents) (t .0) (t .1) (t .2)) (t .3) (t .4)) (u .1), u .2)
+      let u = t .5 in (
+        u .0,
+        below (named-parent (installed (storeLimits s) es) (record { home = x; number = n }) k e (t .1) (at-mem (k .parents) (t .0) (t .1) (t .2))
+            (t .3) (t .4)) (u .1),
+        u .2,
+      )
 
   -- all pass
   pub class-yes : MethodsPass f s end b h n true → ParentsPass f s end b h n true → ClassPasses f s end b h n true
   class-yes m p es self r x o k e a w = go (below-cases (installed (storeLimits s) es) (record { home = x; number = n }) a w)
     where
-      go : (record { home = x; number = n } ≡ a) ⊎ ((d : ClassAt) × List·Memᴰ d (parentsOf (installed (storeLimits s) es) (record { home = x; number = n })) × IsOrBelow (installed (storeLimits s) es) d a) →
+      go : (record { home = x; number = n } ≡ a) ⊎ ((d : ClassAt) × List·Memᴰ d
+          (parentsOf (installed (storeLimits s) es) (record { home = x; number = n })) × IsOrBelow (installed (storeLimits s) es) d a) →
           runningAllows (storeLimits s) (installed (storeLimits s) es) (own self b) a ≡ true
       go (inl z) = subst (λ (c : ClassAt). runningAllows (storeLimits s) (installed (storeLimits s) es) (own self b) c ≡ true) z (sym (m es self r x o k e))
       go (inr u) =
@@ -105,7 +112,8 @@ module _ (f s : Bytes) (end b : ℕ) (h : Home) (n : ℕ) where
     class-seen e = m .hold h n e
 
     -- one more
-    pub seen-more : WalkThere f s end b h n → ClassPasses f s end b h n true → (new : Bytes) → length new ≡ length seen → ((j : ℕ) → bitAt new j ≡ withBit (bitAt seen) (key h n) j) →
+    pub seen-more : WalkThere f s end b h n → ClassPasses f s end b h n true → (new : Bytes) → length new ≡ length seen →
+        ((j : ℕ) → bitAt new j ≡ withBit (bitAt seen) (key h n) j) →
         SeenPass f s end b new
     unfolding withBit
     seen-more t p new z w = record {
@@ -113,14 +121,16 @@ module _ (f s : Bytes) (end b : ℕ) (h : Home) (n : ℕ) where
       hold = λ g l e es self r x o k q. hold g l (sym (w (key g l)) ∙ e) es self r x o k q (same-or-not (key g l) (key h n));
     }
       where
-        hold : (g : Home) (l : ℕ) → (eqb (key g l) (key h n) || bitAt seen (key g l)) ≡ true → (es : List Entry) (self : Installed) → Running f s end b es self →
+        hold : (g : Home) (l : ℕ) → (eqb (key g l) (key h n) || bitAt seen (key g l)) ≡ true → (es : List Entry) (self : Installed) → Running f s end b es
+            self →
             (x : Installed) → HomeIs f s end es self g x → (k : Class) → at (x .pack .classes) l ≡ some k →
             (key g l ≡ key h n) ⊎ (key g l ≡ key h n → ⊥) → Passes (storeLimits s) (installed (storeLimits s) es) self b (record { home = x; number = l })
         hold g l e es self r x o k q (inr d) =
             let u : eqb (key g l) (key h n) ≡ false = ne-eqb (key g l) (key h n) d in
             m .hold g l (rw u at e) es self r x o k q
         hold g l e es self r x o k q (inl d) =
-            let y = key-one f s end es (t .entries) self (t .self) (r .judged .parents .imported .setting) (t .asked .judged .parents .imported .setting) g h x (t .pack) o (t .home) l n k (t .class) q (t .is) d in
+            let y = key-one f s end es (t .entries) self (t .self) (r .judged .parents .imported .setting) (t .asked .judged .parents .imported .setting)
+            g h x (t .pack) o (t .home) l n k (t .class) q (t .is) d in
             subst (λ (i : ℕ). Passes (storeLimits s) (installed (storeLimits s) es) self b (record { home = x; number = i })) (sym (y .1))
             (p es self r x (subst (λ (a : Home). HomeIs f s end es self a x) (y .0) o) k (subst (λ (i : ℕ). at (x .pack .classes) i ≡ some k) (y .1) q))
 
@@ -130,12 +140,14 @@ module _ (f s : Bytes) (end b : ℕ) (h : Home) (n : ℕ) where
 
   -- all were
   pub first-all : (count i : ℕ) → CountIs f s h n count → count ≤ i → FirstPass f s end b h n i → ParentsPass f s end b h n true
-  first-all count i q z w es self r x o k e j p at-j = w es self r x o k e j (omega (arith, q end es self (r .judged) x o k e, at-below (k .parents) j p at-j)) p at-j
+  first-all count i q z w es self r x o k e j p at-j = w es self r x o k e j
+      (omega (arith, q end es self (r .judged) x o k e, at-below (k .parents) j p at-j)) p at-j
 
   -- parent i
   module _ (count i : ℕ) (q : CountIs f s h n count) (z : i < count) (c : ClassSpot) (p : ParentIs f s h n i c) where
     -- where it stands
-    named-of : (t : WalkThere f s end b h n) → (p : ClassNumber) × NamedAt f s end (t .entries) (t .self) (t .pack) p c × (rank (c .home) (c .number) < rank h n)
+    named-of : (t : WalkThere f s end b h n) → (p : ClassNumber) × NamedAt f s end (t .entries) (t .self) (t .pack) p c ×
+        (rank (c .home) (c .number) < rank h n)
     named-of t =
         let m = at-split (t .class .parents) i (omega (arith, q end (t .entries) (t .self) (t .asked .judged) (t .pack) (t .home) (t .class) (t .is))) in
         let w = p end (t .entries) (t .self) (t .asked .judged) (t .pack) (t .home) (t .class) (t .is) (m .0) (m .1) in

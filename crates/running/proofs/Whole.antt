@@ -24,16 +24,20 @@ use Rattle.files.specs.Say.{Readable, ClassesAt}
 use Rattle.files.proofs.Walks.{classes-read}
 use Rattle.homes.specs.Homes.{ownHome}
 use Rattle.homes.specs.Homes as homes
+use Rattle.homes.specs.Found.{Indexed}
 use Rattle.bits.specs.Bits.{bitAt}
 use Rattle.store.proofs.Stand.{entries-to}
 use Rattle.classes.specs.Say.{Judged, Kind0Is, OwnThere}
 use Rattle.named.proofs.Rows.{file-size}
 use Rattle.chains.specs.Say.{Running, RunningThere, RunsIs}
-use Rattle.chains.specs.Names.{Room}
+use Rattle.chains.specs.Names.{NamesIs, Room}
+use Rattle.chains.specs.declared.Names.{Names}
 use Rattle.chains.specs.declared.RunsFound.the-variants.{Nothing}
 use Rattle.running.specs.Say.{WalkThere, Passes, Fails, Answers, ClassPasses, OwnPasses, JudgedThere, RunningIs}
-use Rattle.running.specs.Walk.{key, seenLength, SeenPass}
+use Rattle.running.specs.Walk.{visitFor, SmallNames, WalkFrom, key, seenLength, SeenPass}
+use Rattle.running.specs.declared.visited.Visit.{Visit}
 use Rattle.running.proofs.Keys.{key-small}
+use Rattle.slots.specs.Slots.{SmallHome}
 use Rattle.classes.proofs.Records.{at-split}
 use Rattle.classes.proofs.Places.{own-depth}
 
@@ -72,7 +76,8 @@ interface-allows l is b a z = nothing-runs l is b a (λ n. rw z)
 module _ (f s : Bytes) (end b : ℕ) where
   pub own-interface : Kind0Is f s (ownHome end) b false → OwnPasses f s end b true
   own-interface q es self j k e =
-      sym (all-true (runningAllows (storeLimits s) (installed (storeLimits s) es) (own self b)) (ancestorsUpTo (installed (storeLimits s) es) (storeLimits s .depth) (own self b))
+      sym (all-true (runningAllows (storeLimits s) (installed (storeLimits s) es) (own self b)) (ancestorsUpTo (installed (storeLimits s) es) (storeLimits
+      s .depth) (own self b))
       (λ a m. interface-allows (storeLimits s) (installed (storeLimits s) es) (own self b) a (sym (q end es self j self homes.own k e))))
 
   module _ (q : Kind0Is f s (ownHome end) b true) where
@@ -82,22 +87,34 @@ module _ (f s : Bytes) (end b : ℕ) where
     -- the chain has no method
     pub own-nothing : ((x : ℕ) → RunsIs f s end b x Nothing) → OwnPasses f s end b true
     own-nothing w es self j k e =
-        sym (all-true (runningAllows (storeLimits s) (installed (storeLimits s) es) (own self b)) (ancestorsUpTo (installed (storeLimits s) es) (storeLimits s .depth) (own self b))
+        sym (all-true (runningAllows (storeLimits s) (installed (storeLimits s) es) (own self b)) (ancestorsUpTo (installed (storeLimits s) es)
+        (storeLimits s .depth) (own self b))
         (λ a m. nothing-runs (storeLimits s) (installed (storeLimits s) es) (own self b) a (λ n. w n es self (own-running es self j k e))))
 
     pub own-runs : OwnThere f s end b → RunningThere f s end b
     own-runs t = (t .0, t .1, own-running (t .0) (t .1) (t .2) (t .3) (t .4))
 
     pub own-walk : OwnThere f s end b → WalkThere f s end b (ownHome end) b
-    own-walk t = record { entries = t .0; self = t .1; asked = own-running (t .0) (t .1) (t .2) (t .3) (t .4); pack = t .1; home = homes.own; class = t .3; is = t .4 }
+    own-walk t = record {
+      entries = t .0;
+      self = t .1;
+      asked = own-running (t .0) (t .1) (t .2) (t .3) (t .4);
+      pack = t .1;
+      home = homes.own;
+      class = t .3;
+      is = t .4;
+    }
 
     -- the walk's answer
     pub own-answer : (r : Bool) → ClassPasses f s end b (ownHome end) b r → OwnPasses f s end b r
     own-answer r p es self j k e = go r (p es self (own-running es self j k e) self homes.own k e)
       where
-        go : (r : Bool) → Answers (Passes (storeLimits s) (installed (storeLimits s) es) self b (own self b)) (Fails (storeLimits s) (installed (storeLimits s) es) self b (own self b)) r →
-            r ≡ all (runningAllows (storeLimits s) (installed (storeLimits s) es) (own self b)) (ancestorsUpTo (installed (storeLimits s) es) (storeLimits s .depth) (own self b))
-        go true w = sym (all-true _ (ancestorsUpTo (installed (storeLimits s) es) (storeLimits s .depth) (own self b)) (λ a m. w a (ancestors-below (installed (storeLimits s) es) (storeLimits s .depth) (own self b) a m)))
+        go : (r : Bool) → Answers (Passes (storeLimits s) (installed (storeLimits s) es) self b (own self b)) (Fails (storeLimits s) (installed
+            (storeLimits s) es) self b (own self b)) r →
+            r ≡ all (runningAllows (storeLimits s) (installed (storeLimits s) es) (own self b)) (ancestorsUpTo (installed (storeLimits s) es) (storeLimits
+            s .depth) (own self b))
+        go true w = sym (all-true _ (ancestorsUpTo (installed (storeLimits s) es) (storeLimits s .depth) (own self b)) (λ a m. w a (ancestors-below
+            (installed (storeLimits s) es) (storeLimits s .depth) (own self b) a m)))
         go false w = sym (all-false _ (ancestorsUpTo (installed (storeLimits s) es) (storeLimits s .depth) (own self b)) (w .0)
             (below-ancestors (installed (storeLimits s) es) (storeLimits s .depth) (own self b) (w .0) (own-depth f s end b es self j k e) (w .1)) (w .2))
 
@@ -117,6 +134,40 @@ module _ (f s : Bytes) (end b : ℕ) where
       true-false : true ≡ false → ⊥
       true-false e = let y : _≡_ {A = ℕ} 0 1 = cc in omega arith
 
+-- the numbers of its names fit two bytes
+pub names-small : (f s : Bytes) (names : List ℕ) (w : Names) → NamesIs f s names w → length names ≡ 640 → length s ≤ 65535 → OwnThere f s (w .end) (w .own) →
+    SmallNames w
+names-small f s names w n z l t =
+    let a = n .own .sorted in
+    let i = key-small f s (w .end) (t .0) (t .1) (t .2 .parents .imported .setting) (ownHome (w .end)) (t .1) homes.own (w .own) (t .3) (t .4) in
+    record {
+      end = omega (arith, own-end f s (w .end) (w .own) t);
+      own = omega (arith, i, own-end f s (w .end) (w .own) t);
+      stored = omega (arith, a .low, a .size);
+      all = omega (arith, a .size);
+    }
+
+-- its home fits too
+pub own-small : (end : ℕ) → end ≤ 65535 → SmallHome (ownHome end)
+own-small end z = record { from = omega arith; to = omega arith; before = z }
+
+-- the visit of an own class
+abbrev pub ownVisit : Names → Visit
+ownVisit w = visitFor w (ownHome (w .end)) (w .own)
+
+pub own-from : (f s : Bytes) (index names : List ℕ) (w : Names) → Kind0Is f s (ownHome (w .end)) (w .own) true → OwnThere f s (w .end) (w .own) →
+    NamesIs f s names w → length names ≡ 640 → Indexed s (w .end) index → length s ≤ 65535 → WalkFrom f s index names (ownVisit w)
+own-from f s index names w q t n z i l = record {
+  there = own-walk f s (w .end) (w .own) q t;
+  chain = record { stop = n .stop; leaves = n .leaves; own = n .own; stored = n .stored };
+  size = z;
+  indexed = i;
+  small = l;
+}
+
+pub own-seen : (f s : Bytes) (w : Names) (v : Visit) (seen : Bytes) → v ≡ ownVisit w → SeenPass f s (w .end) (w .own) seen → SeenPass f s (v .end) (v .own) seen
+own-seen f s w v seen e m = subst (λ (u : Visit). SeenPass f s (u .end) (u .own) seen) (sym e) m
+
 -- a fact of an own class by its numbers
 pub at-own : (q : ℕ → ℕ → Type 0) (x y end b : ℕ) → x ≡ end → y ≡ b → q end b → q x y
 at-own q x y end b e o p = subst (λ (n : ℕ). q n y) (sym e) (subst (q end) (sym o) p)
@@ -133,12 +184,14 @@ names-room f s names r a b z l =
 
 -- the test of own class i
 abbrev pub ownTest : Bytes → List Entry → Installed → ℕ → Class → Bool
-ownTest s es self i k = all (runningAllows (storeLimits s) (installed (storeLimits s) es) (own self i)) (ancestorsUpTo (installed (storeLimits s) es) (storeLimits s .depth) (own self i))
+ownTest s es self i k = all (runningAllows (storeLimits s) (installed (storeLimits s) es) (own self i)) (ancestorsUpTo (installed (storeLimits s) es)
+    (storeLimits s .depth) (own self i))
 
 -- question 20 is that of the own classes from b on, and so many there are
 pub record OwnLeft (f s : Bytes) (end count b : ℕ) : Type 0 where
   pub few : b ≤ count
-  pub left : (es : List Entry) (self : Installed) → Judged f s end es self → q20-running (storeLimits s) (installed (storeLimits s) es) self ≡ allFrom (ownTest s es self) b (drop b (self .pack .classes))
+  pub left : (es : List Entry) (self : Installed) → Judged f s end es self → q20-running (storeLimits s) (installed (storeLimits s) es) self ≡ allFrom
+      (ownTest s es self) b (drop b (self .pack .classes))
   pub count-is : (l : Limits) (p : Package) → readFile l f ≡ some p → count ≡ length (p .classes)
 
 module _ (f s : Bytes) (end : ℕ) where
@@ -152,7 +205,8 @@ module _ (f s : Bytes) (end : ℕ) where
     pub classes-inside : JudgedThere f s end → at-classes < length f
     classes-inside t =
         let p = t .1 .pack in
-        counted-inside (class (storeLimits s) (p .domains)) f mostClasses at-classes (p .classes) (length f) (classes-read q (storeLimits s) p (t .2 .imported .setting .reads))
+        counted-inside (class (storeLimits s) (p .domains)) f mostClasses at-classes (p .classes) (length f) (classes-read q (storeLimits s) p (t .2
+        .imported .setting .reads))
 
     pub own-start : (count : ℕ) → count ≡ getD f at-classes 0 → OwnLeft f s end count 0
     own-start count z = record {
@@ -181,10 +235,12 @@ module _ (f s : Bytes) (end : ℕ) where
           let m = at-split (t .1 .pack .classes) b (omega (arith, own-count (t .0) (t .1) j)) in
           (t .0, t .1, j, m .0, m .1)
 
-      own-next : (es : List Entry) (self : Installed) (j : Judged f s end es self) (r : Bool) → OwnPasses f s end b r → q20-running (storeLimits s) (installed (storeLimits s) es) self ≡ (r && allFrom (ownTest s es self) (suc b) (drop (suc b) (self .pack .classes)))
+      own-next : (es : List Entry) (self : Installed) (j : Judged f s end es self) (r : Bool) → OwnPasses f s end b r →
+          q20-running (storeLimits s) (installed (storeLimits s) es) self ≡ (r && allFrom (ownTest s es self) (suc b) (drop (suc b) (self .pack .classes)))
       own-next es self j r q =
           let m = at-split (self .pack .classes) b (omega (arith, own-count es self j)) in
-          inv .left es self j ∙ ap (allFrom (ownTest s es self) b) (m .2) ∙ ap (λ (v : Bool). v && allFrom (ownTest s es self) (suc b) (drop (suc b) (self .pack .classes))) (sym (q es self j (m .0) (m .1)))
+          inv .left es self j ∙ ap (allFrom (ownTest s es self) b) (m .2) ∙ ap (λ (v : Bool). v && allFrom (ownTest s es self) (suc b) (drop (suc b) (self
+          .pack .classes))) (sym (q es self j (m .0) (m .1)))
 
       pub own-no : OwnPasses f s end b false → RunningIs f s end false
       own-no q es self p w = sym (own-next es self (record { parents = p; q14 = w }) false q)

@@ -49,7 +49,8 @@ abbrev pub OfWalk : Bytes → Bytes → ℕ → ℕ → Home → ℕ → (List E
 OfWalk f s end b h n q = OfClass (Running f s end b) f s end h n q
 
 abbrev pub MethodsPass : Bytes → Bytes → ℕ → ℕ → Home → ℕ → Bool → Type 0
-MethodsPass f s end b h n r = OfWalk f s end b h n λ es self x k. r ≡ runningAllows (storeLimits s) (installed (storeLimits s) es) (own self b) (record { home = x; number = n })
+MethodsPass f s end b h n r = OfWalk f s end b h n λ es self x k. r ≡ runningAllows (storeLimits s) (installed (storeLimits s) es) (own self b)
+    (record { home = x; number = n })
 
 -- a class and its ancestors pass for own class b
 abbrev pub Passes : Limits → List Installed → Installed → ℕ → ClassAt → Type 0
@@ -66,12 +67,14 @@ Answers p q false = q
 
 abbrev pub ClassPasses : Bytes → Bytes → ℕ → ℕ → Home → ℕ → Bool → Type 0
 ClassPasses f s end b h n r = OfWalk f s end b h n λ es self x k.
-    Answers (Passes (storeLimits s) (installed (storeLimits s) es) self b (record { home = x; number = n })) (Fails (storeLimits s) (installed (storeLimits s) es) self b (record { home = x; number = n })) r
+    Answers (Passes (storeLimits s) (installed (storeLimits s) es) self b (record { home = x; number = n }))
+    (Fails (storeLimits s) (installed (storeLimits s) es) self b (record { home = x; number = n })) r
 
 -- own class b
 abbrev pub OwnPasses : Bytes → Bytes → ℕ → ℕ → Bool → Type 0
 OwnPasses f s end b r = (es : List Entry) (self : Installed) → Judged f s end es self → (k : Class) → at (self .pack .classes) b ≡ some k →
-    r ≡ all (runningAllows (storeLimits s) (installed (storeLimits s) es) (own self b)) (ancestorsUpTo (installed (storeLimits s) es) (storeLimits s .depth) (own self b))
+    r ≡ all (runningAllows (storeLimits s) (installed (storeLimits s) es) (own self b))
+    (ancestorsUpTo (installed (storeLimits s) es) (storeLimits s .depth) (own self b))
 
 -- question 20
 abbrev pub JudgedThere : Bytes → Bytes → ℕ → Type 0

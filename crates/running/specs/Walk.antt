@@ -1,5 +1,7 @@
 -- The walk of question 20 over a class and its ancestors, each visited once. Assumes nothing.
 --
+-- visitHome, visitNames v == the home of the class that is visited, the names of the own class; visitFor w h n == the visit of class n at home h
+-- SmallNames w           == the numbers of names fit two bytes
 -- VisitThere f s v       == the class that is visited is there, for the own class; VisitPlaced f s v == its record stands at the place told
 -- PlacedIs f s v w       == w is the visit v with that place
 -- ParentVisit f s v i w  == w is the visit of its parent with number i, which stands before it
@@ -17,31 +19,57 @@ use Rattle.rules.specs.Bytes.{Bytes, at}
 use Rattle.rules.specs.Package.{storeLimits, ClassNumber}
 use Rattle.rules.specs.Classes.{installed, ClassAt, classNamed}
 use Rattle.bits.specs.Bits.{bitAt}
+use Rattle.homes.specs.Homes.{ownHome}
 use Rattle.homes.specs.Found.{Indexed}
 use Rattle.homes.specs.declared.Home.{Home}
 use Rattle.classes.specs.Say.{ParentIs, RecordAt}
 use Rattle.classes.specs.declared.ClassSpot.{ClassSpot}
 use Rattle.chains.specs.Names.{NamesIs}
-use Rattle.slots.specs.Slots.{slotCount}
+use Rattle.chains.specs.declared.Names.{Names}
 use Rattle.running.specs.Say.{WalkThere, OfWalk, Passes, Fails, Answers}
-use Rattle.running.specs.declared.Visit.{Visit}
+use Rattle.running.specs.declared.visited.Visit.{Visit}
+
+-- the home of the class that is visited, and the names of the own class
+abbrev pub visitHome : Visit → Home
+visitHome v = record { from = v .from; to = v .to; before = v .before }
+
+abbrev pub visitNames : Visit → Names
+visitNames v = record { end = v .end; own = v .own; stored = v .stored; all = v .all; home = ownHome (v .end); number = v .own }
+
+pub record SmallNames (w : Names) : Type 0 where
+  pub end : w .end ≤ 65535
+  pub own : w .own ≤ 65535
+  pub stored : w .stored ≤ 65535
+  pub all : w .all ≤ 65535
+
+abbrev pub visitFor : Names → Home → ℕ → Visit
+visitFor w h n = record { end = w .end; own = w .own; stored = w .stored; all = w .all; from = h .from; to = h .to; before = h .before; number = n; place = 0 }
 
 -- the class that is visited
 abbrev pub VisitThere : Bytes → Bytes → Visit → Type 0
-VisitThere f s v = WalkThere f s (v .names .end) (v .names .own) (v .home) (v .number)
+VisitThere f s v = WalkThere f s (v .end) (v .own) (visitHome v) (v .number)
 
 -- and its record
 pub record VisitPlaced (f s : Bytes) (v : Visit) : Type 0 where
   pub there : VisitThere f s v
-  pub place : RecordAt f s (v .home) (v .number) (v .place)
-  pub slot : v .slot < slotCount
+  pub place : RecordAt f s (visitHome v) (v .number) (v .place)
 
--- the visit with its slot and the record's place
-abbrev pub at-place : Visit → ℕ → ℕ → Visit
-at-place v k i = record { names = v .names; home = v .home; number = v .number; slot = k; place = i }
+-- the visit with the record's place
+abbrev pub at-place : Visit → ℕ → Visit
+at-place v i = record {
+  end = v .end;
+  own = v .own;
+  stored = v .stored;
+  all = v .all;
+  from = v .from;
+  to = v .to;
+  before = v .before;
+  number = v .number;
+  place = i;
+}
 
 abbrev pub PlacedIs : Bytes → Bytes → Visit → Visit → Type 0
-PlacedIs f s v w = (w ≡ at-place v (w .slot) (w .place)) × RecordAt f s (v .home) (v .number) (w .place) × (w .slot < slotCount)
+PlacedIs f s v w = (w ≡ at-place v (w .place)) × RecordAt f s (visitHome v) (v .number) (w .place)
 
 -- its parent with number i
 pub record ParentPlaced (f s : Bytes) (v : Visit) (i : ℕ) : Type 0 where
@@ -50,16 +78,17 @@ pub record ParentPlaced (f s : Bytes) (v : Visit) (i : ℕ) : Type 0 where
 
 -- the visit of another class for the same own class
 abbrev pub visitOf : Visit → ClassSpot → Visit
-visitOf v c = record { names = v .names; home = c .home; number = c .number; slot = 0; place = 0 }
+visitOf v c = visitFor (visitNames v) (c .home) (c .number)
 
 abbrev pub ParentVisit : Bytes → Bytes → Visit → ℕ → Visit → Type 0
-ParentVisit f s v i w = (c : ClassSpot) × (w ≡ visitOf v c) × ParentIs f s (v .home) (v .number) i c
+ParentVisit f s v i w = (c : ClassSpot) × (w ≡ visitOf v c) × ParentIs f s (visitHome v) (v .number) i c
 
 -- what the walk may use
 pub record WalkFrom (f s : Bytes) (index names : List ℕ) (v : Visit) : Type 0 where
   pub there : VisitThere f s v
-  pub chain : NamesIs f s names (v .names)
-  pub indexed : Indexed s (v .names .end) index
+  pub chain : NamesIs f s names (visitNames v)
+  pub size : length names ≡ 640
+  pub indexed : Indexed s (v .end) index
   pub small : length s ≤ 65535
 
 -- the bit of a class
@@ -73,7 +102,8 @@ seenLength s = length s / 24 + 5
 -- where a bit is set the class and all its ancestors pass for own class b
 pub record SeenPass (f s : Bytes) (end b : ℕ) (seen : Bytes) : Type 0 where
   pub room : seenLength s ≤ length seen
-  pub hold : (h : Home) (n : ℕ) → bitAt seen (key h n) ≡ true → OfWalk f s end b h n λ es self x k. Passes (storeLimits s) (installed (storeLimits s) es) self b (record { home = x; number = n })
+  pub hold : (h : Home) (n : ℕ) → bitAt seen (key h n) ≡ true → OfWalk f s end b h n λ es self x k. Passes (storeLimits s) (installed (storeLimits s) es)
+      self b (record { home = x; number = n })
 
 -- the first i parents of class n and their ancestors pass
 abbrev pub FirstPass : Bytes → Bytes → ℕ → ℕ → Home → ℕ → ℕ → Type 0
@@ -83,6 +113,8 @@ FirstPass f s end b h n i = OfWalk f s end b h n λ es self x k. (j : ℕ) → j
 -- all do, or one does not
 abbrev pub ParentsPass : Bytes → Bytes → ℕ → ℕ → Home → ℕ → Bool → Type 0
 ParentsPass f s end b h n r = OfWalk f s end b h n λ es self x k. Answers
-    ((j : ℕ) (p : ClassNumber) → at (k .parents) j ≡ some p → (c : ClassAt) → classNamed (installed (storeLimits s) es) x p ≡ some c → Passes (storeLimits s) (installed (storeLimits s) es) self b c)
-    ((j : ℕ) × (p : ClassNumber) × (at (k .parents) j ≡ some p) × (c : ClassAt) × (classNamed (installed (storeLimits s) es) x p ≡ some c) × Fails (storeLimits s) (installed (storeLimits s) es) self b c)
+    ((j : ℕ) (p : ClassNumber) → at (k .parents) j ≡ some p → (c : ClassAt) → classNamed (installed (storeLimits s) es) x p ≡ some c →
+    Passes (storeLimits s) (installed (storeLimits s) es) self b c)
+    ((j : ℕ) × (p : ClassNumber) × (at (k .parents) j ≡ some p) × (c : ClassAt) × (classNamed (installed (storeLimits s) es) x p ≡ some c) × Fails
+    (storeLimits s) (installed (storeLimits s) es) self b c)
     r

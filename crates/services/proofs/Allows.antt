@@ -27,7 +27,8 @@ class-there g c o = (o .0, o .1 .domains, o .3)
 module _ (g : Bytes) (c n : ℕ) (r : Spot) (m : ℕ) (q : DeclaredPlaced g c n r) (z : r ≡ spots.At m) where
   -- the method there
   placed : (o : ClassOf g c) → Placed (method (o .0) (o .1 .domains)) g (declared (o .3 .0) n) (some m)
-  placed o = subst (λ (x : Spot). Placed (method (o .0) (o .1 .domains)) g (declared (o .3 .0) n) (spot x)) z (q (o .0) (o .1 .domains) (o .3 .0) (o .3 .1) (o .3 .2))
+  placed o = subst (λ (x : Spot). Placed (method (o .0) (o .1 .domains)) g (declared (o .3 .0) n) (spot x)) z
+      (q (o .0) (o .1 .domains) (o .3 .0) (o .3 .1) (o .3 .2))
 
   pub method-there : ClassOf g c → MethodThere g m
   method-there o = let x = placed-at (placed o) in (o .0, o .1 .domains, (x .0, x .1, x .3))

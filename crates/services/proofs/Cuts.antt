@@ -67,13 +67,23 @@ module _ (s : Bytes) (u : ℕ) (a : Aid) where
     unfolding deleteQuestions
     delete-6 i j q z w = (
       λ e. omega arith,
-      delete-asked 6 (λ es o. rw (one-length a ∙ q, created-is true (ap (λ (x : Spot). isSome (spot x)) z) es o, turned true (q6-empty (installed (storeLimits s) es) a) (w es (o .stand) (over-reads s u es o)))),
+      delete-asked 6 (λ es o. rw (
+        one-length a ∙ q,
+        created-is true (ap (λ (x : Spot). isSome (spot x)) z) es o,
+        turned true
+            (q6-empty (installed (storeLimits s) es) a) (w es (o .stand) (over-reads s u es o)),
+      )),
     )
 
     pub delete-0 : (i j : ℕ) → aidLength (length a) ≡ true → r ≡ At i j → InUse s u a false → CutSays s u (delete a) (isDomain a) (cut.Entry i j)
     unfolding deleteQuestions
     delete-0 i j q z w = (
-      delete-asked 0 (λ es o. rw (one-length a ∙ q, created-is true (ap (λ (x : Spot). isSome (spot x)) z) es o, turned false (q6-empty (installed (storeLimits s) es) a) (w es (o .stand) (over-reads s u es o)))),
+      delete-asked 0 (λ es o. rw (
+        one-length a ∙ q,
+        created-is true (ap (λ (x : Spot). isSome (spot x)) z) es o,
+        turned false
+            (q6-empty (installed (storeLimits s) es) a) (w es (o .stand) (over-reads s u es o)),
+      )),
       λ es o. sym (p es (o .stand)) ∙ ap spot z,
     )
 
@@ -98,14 +108,25 @@ module _ (s : Bytes) (u : ℕ) (a : Aid) where
     unfolding removeQuestions
     remove-7 q z = (λ e. omega arith, remove-asked 7 (λ es o. rw (one-length a ∙ q, missing z es o)))
 
-    pub remove-8 : (i j k : ℕ) → aidLength (length a) ≡ true → r ≡ File i j k → ImportedSays s u a true → CutSays s u (remove a) (isPackage (storeLimits s) a) (cut.Refused 8)
+    pub remove-8 : (i j k : ℕ) → aidLength (length a) ≡ true → r ≡ File i j k → ImportedSays s u a true → CutSays s u (remove a)
+        (isPackage (storeLimits s) a) (cut.Refused 8)
     unfolding removeQuestions
-    remove-8 i j k q z w = (λ e. omega arith, remove-asked 8 (λ es o. rw (one-length a ∙ q, there i j k z es o, turned true (q8-unused (installed (storeLimits s) es) a) (w es (o .stand) (over-reads s u es o)))))
+    remove-8 i j k q z w = (
+      λ e. omega arith,
+      remove-asked 8 (λ es o. rw
+          (one-length a ∙ q, there i j k z es o, turned true (q8-unused (installed (storeLimits s) es) a) (w es (o .stand) (over-reads s u es o)))),
+    )
 
-    pub remove-0 : (i j k : ℕ) → aidLength (length a) ≡ true → r ≡ File i j k → ImportedSays s u a false → CutSays s u (remove a) (isPackage (storeLimits s) a) (cut.Entry i k)
+    pub remove-0 : (i j k : ℕ) → aidLength (length a) ≡ true → r ≡ File i j k → ImportedSays s u a false → CutSays s u (remove a)
+        (isPackage (storeLimits s) a) (cut.Entry i k)
     unfolding removeQuestions
     remove-0 i j k q z w = (
-      remove-asked 0 (λ es o. rw (one-length a ∙ q, there i j k z es o, turned false (q8-unused (installed (storeLimits s) es) a) (w es (o .stand) (over-reads s u es o)))),
+      remove-asked 0 (λ es o. rw (
+        one-length a ∙ q,
+        there i j k z es o,
+        turned false (q8-unused (installed (storeLimits s) es) a)
+            (w es (o .stand) (over-reads s u es o)),
+      )),
       λ es o. (found (File i j k) z es o) .place,
     )
 

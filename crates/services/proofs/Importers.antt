@@ -68,8 +68,10 @@ used-any l (loaded d f ∷ es) a h = rw (h .0 .1) (go (same a (h .0 .0 .aid)) (a
     go false false e = e
 
 module _ (a : Aid) (s : Bytes) (k i : ℕ) (w : Walks (importer (storeLimits s) a) s k i) where
-  pub imported-yes : (d m j : ℕ) → PartAt s i k (PackagePart d m j) → importer (storeLimits s) a (loaded (part s d m) (part s m j)) ≡ true → ImportedSays s k a true
-  imported-yes d m j p h es r reads = sym (used-any (storeLimits s) es a reads ∙ sym (place-any (importer (storeLimits s) a) 7 es) ∙ ap isSome (found-package w p h es r))
+  pub imported-yes : (d m j : ℕ) → PartAt s i k (PackagePart d m j) → importer (storeLimits s) a (loaded (part s d m) (part s m j)) ≡ true → ImportedSays
+      s k a true
+  imported-yes d m j p h es r reads = sym (used-any (storeLimits s) es a reads ∙ sym (place-any (importer (storeLimits s) a) 7 es) ∙ ap isSome
+      (found-package w p h es r))
 
   pub imported-no : PartAt s i k AtEnd → ImportedSays s k a false
   imported-no p es r reads = sym (used-any (storeLimits s) es a reads ∙ found-none w p es r)

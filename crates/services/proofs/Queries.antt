@@ -50,7 +50,8 @@ method-says i c n d = of-class (at (i .pack .classes) c)
     of-method none = (refl, refl)
     of-method (some m) = (refl, refl)
 
-    of-class : (o : Option Class) → Agree d (o andThen λ k. declared k n andThen λ m. some (standing i c m)) (o andThen λ k. declared k n andThen λ m. some (admits (m .policy) d))
+    of-class : (o : Option Class) → Agree d (o andThen λ k. declared k n andThen λ m. some (standing i c m))
+        (o andThen λ k. declared k n andThen λ m. some (admits (m .policy) d))
     of-class none = (refl, refl)
     of-class (some k) = of-method (declared k n)
 
@@ -75,7 +76,8 @@ module _ (s : Bytes) (d a : Aid) (c n : ℕ) where
     -- the number by the questions from 3 on
     query-number : queryNumber s d a c n ≡ firstNo (queryQuestions (storeLimits s) ((opening s u h) .es) d a c n)
     unfolding queryNumber
-    query-number = let x = opening s u h in rw (x .size, x .is, x .reads) (ap (λ (l : Limits). firstNo (queryQuestions l (x .es) d a c n)) (sym (store-limits s)))
+    query-number = let x = opening s u h in rw (x .size, x .is, x .reads)
+        (ap (λ (l : Limits). firstNo (queryQuestions l (x .es) d a c n)) (sym (store-limits s)))
 
     pub query-3-domain : aidLength (length d) ≡ false → ResultIs s d a c n 3
     unfolding queryQuestions q3-lengths
@@ -133,6 +135,8 @@ module _ (s : Bytes) (d a : Aid) (c n : ℕ) where
         let y = opening s u (x .sound) in
         let e : queryNumber s d a c n ≡ 0 = asked v w ∙ rw t in
         let m : someAnd (methodQueried (installed (storeLimits s) (y .es)) a c n) (λ m. allows m d) ≡ b =
-        ap (λ (o : Option MethodAt). someAnd o (λ m. allows m d)) queried ∙ (method-says home c n d) .1 ∙ sym (ap (λ (o : Option Bool). someAnd o (λ m. m)) (says v w)) ∙ rw t in
-        let l : queryYes s d a c n ≡ b = rw (e, y .reads) (ap (λ (v : Limits). someAnd (methodQueried (installed v (y .es)) a c n) (λ m. allows m d)) (sym (store-limits s)) ∙ m) in
+        ap (λ (o : Option MethodAt). someAnd o (λ m. allows m d)) queried ∙ (method-says home c n d) .1 ∙ sym
+        (ap (λ (o : Option Bool). someAnd o (λ m. m)) (says v w)) ∙ rw t in
+        let l : queryYes s d a c n ≡ b = rw (e, y .reads) (ap (λ (v : Limits). someAnd (methodQueried (installed v (y .es)) a c n) (λ m. allows m d))
+        (sym (store-limits s)) ∙ m) in
         rw l (omega (arith, e))

@@ -26,7 +26,8 @@ pub record Emptying (t u : List ℕ) (k i : ℕ) : Type 0 where
 pub empty-start : (t : List ℕ) (k : ℕ) → Emptying t t k 0
 empty-start t k = record { few = omega arith; size = refl; zeros = λ j p q. absurd (omega arith); others = λ j n. refl }
 
-pub empty-more : (t u : List ℕ) (k i : ℕ) → i < slotLength → k < slotCount → length t ≡ slotsLength → Emptying t u k i → Emptying t (set u (slotLength * k + i) 0) k (i + 1)
+pub empty-more : (t u : List ℕ) (k i : ℕ) → i < slotLength → k < slotCount → length t ≡ slotsLength → Emptying t u k i → Emptying t
+    (set u (slotLength * k + i) 0) k (i + 1)
 empty-more t u k i b c z e = record {
   few = omega arith;
   size = length-set u (slotLength * k + i) 0 ∙ e .size;
@@ -34,7 +35,8 @@ empty-more t u k i b c z e = record {
   others = λ j n. getD-set-other u (slotLength * k + i) j 0 0 (λ w. n (omega arith) (omega arith)) ∙ e .others j (λ p q. n p (omega arith));
 }
   where
-    zeros : (j : ℕ) → slotLength * k ≤ j → j < slotLength * k + (i + 1) → (j ≡ slotLength * k + i) ⊎ (j ≡ slotLength * k + i → ⊥) → getD (set u (slotLength * k + i) 0) j 0 ≡ 0
+    zeros : (j : ℕ) → slotLength * k ≤ j → j < slotLength * k + (i + 1) → (j ≡ slotLength * k + i) ⊎ (j ≡ slotLength * k + i → ⊥) → getD
+        (set u (slotLength * k + i) 0) j 0 ≡ 0
     zeros j p q (inl w) = rw w (getD-set-same u (slotLength * k + i) 0 0 (omega (arith, e .size)))
     zeros j p q (inr w) = getD-set-other u (slotLength * k + i) j 0 0 w ∙ e .zeros j p (omega (arith, w))
 
@@ -49,7 +51,8 @@ module _ (f s : Bytes) (t : List ℕ) (h : Home) (k : ℕ) (q : SlotsTrue f s t)
   pub slot-row : (g : Bytes) → g ≡ fileOf f s h → RowTrue g t (slotLength * k)
   slot-row g z = subst (λ (x : Bytes). RowTrue x t (slotLength * k)) (ap (fileOf f s) e ∙ sym z) (q .slot k b .places)
 
-  pub row-kept : (g : Bytes) → g ≡ fileOf f s h → (u : List ℕ) → length u ≡ length t → RowTrue g u (slotLength * k) → Beside t u (slotLength * k) → SlotsTrue f s u
+  pub row-kept : (g : Bytes) → g ≡ fileOf f s h → (u : List ℕ) → length u ≡ length t → RowTrue g u (slotLength * k) → Beside t u (slotLength * k) →
+      SlotsTrue f s u
   row-kept g z u y r w = slots-filled f s t u k b y w (subst (λ (x : Bytes). RowTrue x u (slotLength * k)) (z ∙ ap (fileOf f s) (sym e)) r) q
 
   -- the home of an import that is known
@@ -65,7 +68,8 @@ module _ (f s : Bytes) (t : List ℕ) (h : Home) (k : ℕ) (q : SlotsTrue f s t)
   import-put (suc p) n l g m = import-kept f s t k p b l q g (subst (λ (a : Home). NumberedIs f s a (suc p) (At g)) (sym e) m)
 
 -- its places fit two bytes
-pub import-small : (f s : Bytes) (h : Home) (p : ℕ) → (p ≡ 0 → ⊥) → HomeThere f s h → length s ≤ 65535 → SmallHome h → (g : Home) → NumberedIs f s h p (At g) → SmallHome g
+pub import-small : (f s : Bytes) (h : Home) (p : ℕ) → (p ≡ 0 → ⊥) → HomeThere f s h → length s ≤ 65535 → SmallHome h → (g : Home) → NumberedIs f s h p
+    (At g) → SmallHome g
 import-small f s h zero n t z y g m = absurd (n refl)
 import-small f s h (suc p) n t z y g m =
     let u = m (t .0) (t .1) (t .2) (t .3) (t .4) (t .5) in

@@ -21,7 +21,8 @@ homeOf a b c = record { from = a; to = b; before = c }
 
 pub home-is : (g h : Home) → g .from ≡ h .from → g .to ≡ h .to → g .before ≡ h .before → g ≡ h
 unfolding homeOf
-home-is g h p q r = ap (λ (n : ℕ). homeOf n (g .to) (g .before)) p ∙ ap (λ (n : ℕ). homeOf (h .from) n (g .before)) q ∙ ap (λ (n : ℕ). homeOf (h .from) (h .to) n) r
+home-is g h p q r = ap (λ (n : ℕ). homeOf n (g .to) (g .before)) p ∙ ap (λ (n : ℕ). homeOf (h .from) n (g .before)) q ∙ ap
+    (λ (n : ℕ). homeOf (h .from) (h .to) n) r
 
 -- a home that was written
 module _ (t : List ℕ) (i : ℕ) (h : Home) where
@@ -30,19 +31,24 @@ module _ (t : List ℕ) (i : ℕ) (h : Home) where
 
   pub home-other : (j : ℕ) → (j ≡ i → ⊥) → (j ≡ i + 1 → ⊥) → (j ≡ i + 2 → ⊥) → getD (withHome t i h) j 0 ≡ getD t j 0
   home-other j p q r =
-      getD-set-other (set (set t i (h .from)) (i + 1) (h .to)) (i + 2) j (h .before) 0 r ∙ getD-set-other (set t i (h .from)) (i + 1) j (h .to) 0 q ∙ getD-set-other t i j (h .from) 0 p
+      getD-set-other (set (set t i (h .from)) (i + 1) (h .to)) (i + 2) j (h .before) 0 r ∙ getD-set-other (set t i (h .from)) (i + 1) j (h .to) 0 q ∙
+      getD-set-other t i j (h .from) 0 p
 
   pub home-written : i + 2 < length t → homeIn (withHome t i h) i ≡ h
   home-written z = home-is (homeIn (withHome t i h) i) h
-      (getD-set-other (set (set t i (h .from)) (i + 1) (h .to)) (i + 2) i (h .before) 0 (λ e. omega arith) ∙ getD-set-other (set t i (h .from)) (i + 1) i (h .to) 0 (λ e. omega arith) ∙ getD-set-same t i (h .from) 0 (omega arith))
-      (getD-set-other (set (set t i (h .from)) (i + 1) (h .to)) (i + 2) (i + 1) (h .before) 0 (λ e. omega arith) ∙ getD-set-same (set t i (h .from)) (i + 1) (h .to) 0 (omega (arith, length-set t i (h .from))))
-      (getD-set-same (set (set t i (h .from)) (i + 1) (h .to)) (i + 2) (h .before) 0 (omega (arith, length-set (set t i (h .from)) (i + 1) (h .to), length-set t i (h .from))))
+      (getD-set-other (set (set t i (h .from)) (i + 1) (h .to)) (i + 2) i (h .before) 0 (λ e. omega arith) ∙ getD-set-other (set t i (h .from)) (i + 1) i
+      (h .to) 0 (λ e. omega arith) ∙ getD-set-same t i (h .from) 0 (omega arith))
+      (getD-set-other (set (set t i (h .from)) (i + 1) (h .to)) (i + 2) (i + 1) (h .before) 0 (λ e. omega arith) ∙ getD-set-same (set t i (h .from))
+      (i + 1) (h .to) 0 (omega (arith, length-set t i (h .from))))
+      (getD-set-same (set (set t i (h .from)) (i + 1) (h .to)) (i + 2) (h .before) 0
+      (omega (arith, length-set (set t i (h .from)) (i + 1) (h .to), length-set t i (h .from))))
 
 -- the same numbers tell the same
 module _ (f s : Bytes) (t u : List ℕ) (k : ℕ) (z : length u ≡ length t) where
   -- a home in a part where the tables are the same
   home-same : (i : ℕ) → ((j : ℕ) → i ≤ j → j < i + 3 → getD u j 0 ≡ getD t j 0) → homeIn u i ≡ homeIn t i
-  home-same i e = home-is (homeIn u i) (homeIn t i) (e i (omega arith) (omega arith)) (e (i + 1) (omega arith) (omega arith)) (e (i + 2) (omega arith) (omega arith))
+  home-same i e = home-is (homeIn u i) (homeIn t i) (e i (omega arith) (omega arith)) (e (i + 1) (omega arith) (omega arith))
+      (e (i + 2) (omega arith) (omega arith))
 
   -- the imports, where the homes behind the class places are the same
   imports-same : ((i : ℕ) → slotLength * k + 32 ≤ i → i < slotLength * k + slotLength → getD u i 0 ≡ getD t i 0) → SlotTrue f s t k →
@@ -51,7 +57,8 @@ module _ (f s : Bytes) (t u : List ℕ) (k : ℕ) (z : length u ≡ length t) wh
       let a : slotHome u k ≡ slotHome t k = home-same (slotLength * k + 32) (λ j x y. e j (omega arith) (omega arith)) in
       let b : importHome u k (suc p) ≡ importHome t k (suc p) = home-same (slotLength * k + 32 + 3 * suc p) (λ j x y. e j (omega arith) (omega arith)) in
       let c = q .imports p small (λ w. n (ap (λ (h : Home). h .to) b ∙ w)) in
-      subst (λ (h : Home). NumberedIs f s h (suc p) (At (importHome u k (suc p)))) (sym a) (subst (λ (h : Home). NumberedIs f s (slotHome t k) (suc p) (At h)) (sym b) c)
+      subst (λ (h : Home). NumberedIs f s h (suc p) (At (importHome u k (suc p)))) (sym a)
+      (subst (λ (h : Home). NumberedIs f s (slotHome t k) (suc p) (At h)) (sym b) c)
 
   pub slot-same : SlotSame t u k → SlotTrue f s t k → SlotTrue f s u k
   slot-same e q =
@@ -87,7 +94,8 @@ apart j k n = elim (decLe (j + 1) k) [
 ]
 
 -- a table whose slots are true but for slot k, which is true too
-pub slots-but : (f s : Bytes) (t u : List ℕ) (k : ℕ) → length u ≡ length t → ((j : ℕ) → (j ≡ k → ⊥) → SlotSame t u j) → SlotsTrue f s t → SlotTrue f s u k → SlotsTrue f s u
+pub slots-but : (f s : Bytes) (t u : List ℕ) (k : ℕ) → length u ≡ length t → ((j : ℕ) → (j ≡ k → ⊥) → SlotSame t u j) → SlotsTrue f s t → SlotTrue f s u
+    k → SlotsTrue f s u
 slots-but f s t u k z e q r = record { size = z ∙ q .size; slot = λ j b. go j b (same-or-not j k) }
   where
     go : (j : ℕ) → j < slotCount → (j ≡ k) ⊎ (j ≡ k → ⊥) → SlotTrue f s u j
@@ -95,7 +103,8 @@ slots-but f s t u k z e q r = record { size = z ∙ q .size; slot = λ j b. go j
     go j b (inr w) = slot-same f s t u j z (e j w) (q .slot j b)
 
 -- class places were filled in
-pub slots-filled : (f s : Bytes) (t u : List ℕ) (k : ℕ) → k < slotCount → length u ≡ length t → Beside t u (slotLength * k) → RowTrue (fileOf f s (slotHome t k)) u (slotLength * k) → SlotsTrue f s t → SlotsTrue f s u
+pub slots-filled : (f s : Bytes) (t u : List ℕ) (k : ℕ) → k < slotCount → length u ≡ length t → Beside t u (slotLength * k) → RowTrue
+    (fileOf f s (slotHome t k)) u (slotLength * k) → SlotsTrue f s t → SlotsTrue f s u
 slots-filled f s t u k b z e r q = slots-but f s t u k z (λ j n. others j (apart j k n)) q (row-filled f s t u k z e r (q .slot k b))
   where
     others : (j : ℕ) → (slotLength * j + slotLength ≤ slotLength * k) ⊎ (slotLength * k + slotLength ≤ slotLength * j) → SlotSame t u j
@@ -132,7 +141,8 @@ pub slot-kept : (t : List ℕ) (h : Home) (k : ℕ) → slotHome t k ≡ h → S
 slot-kept t h k e = record { home = e; true = λ f s q. q }
 
 -- the home of an import was written
-module _ (f s : Bytes) (t : List ℕ) (k p : ℕ) (b : k < slotCount) (small : suc p ≤ 15) (q : SlotsTrue f s t) (g : Home) (n : NumberedIs f s (slotHome t k) (suc p) (At g)) where
+module _ (f s : Bytes) (t : List ℕ) (k p : ℕ) (b : k < slotCount) (small : suc p ≤ 15) (q : SlotsTrue f s t) (g : Home)
+    (n : NumberedIs f s (slotHome t k) (suc p) (At g)) where
   abbrev kept : List ℕ
   kept = withHome t (slotLength * k + 32 + 3 * suc p) g
 
@@ -141,13 +151,16 @@ module _ (f s : Bytes) (t : List ℕ) (k p : ℕ) (b : k < slotCount) (small : s
   kept-other j (inr w) = home-other t (slotLength * k + 32 + 3 * suc p) g j (λ x. omega arith) (λ x. omega arith) (λ x. omega arith)
 
   kept-same : (i : ℕ) → (i + 3 ≤ slotLength * k + 32 + 3 * suc p) ⊎ (slotLength * k + 35 + 3 * suc p ≤ i) → homeIn kept i ≡ homeIn t i
-  kept-same i (inl w) = home-is (homeIn kept i) (homeIn t i) (kept-other i (inl (omega arith))) (kept-other (i + 1) (inl (omega arith))) (kept-other (i + 2) (inl (omega arith)))
-  kept-same i (inr w) = home-is (homeIn kept i) (homeIn t i) (kept-other i (inr (omega arith))) (kept-other (i + 1) (inr (omega arith))) (kept-other (i + 2) (inr (omega arith)))
+  kept-same i (inl w) = home-is (homeIn kept i) (homeIn t i) (kept-other i (inl (omega arith))) (kept-other (i + 1) (inl (omega arith)))
+      (kept-other (i + 2) (inl (omega arith)))
+  kept-same i (inr w) = home-is (homeIn kept i) (homeIn t i) (kept-other i (inr (omega arith))) (kept-other (i + 1) (inr (omega arith)))
+      (kept-other (i + 2) (inr (omega arith)))
 
   same-slot : slotHome kept k ≡ slotHome t k
   same-slot = kept-same (slotLength * k + 32) (inl (omega arith))
 
-  side : (r : ℕ) → (r ≡ p → ⊥) → (slotLength * k + 32 + 3 * suc r + 3 ≤ slotLength * k + 32 + 3 * suc p) ⊎ (slotLength * k + 35 + 3 * suc p ≤ slotLength * k + 32 + 3 * suc r)
+  side : (r : ℕ) → (r ≡ p → ⊥) → (slotLength * k + 32 + 3 * suc r + 3 ≤ slotLength * k + 32 + 3 * suc p) ⊎
+      (slotLength * k + 35 + 3 * suc p ≤ slotLength * k + 32 + 3 * suc r)
   side r n = elim (decLe (r + 1) p) [
     | yes v ↦ inl (omega arith)
     | no v ↦ elim (decLe (p + 1) r) [
@@ -172,10 +185,12 @@ module _ (f s : Bytes) (t : List ℕ) (k p : ℕ) (b : k < slotCount) (small : s
       others j (inl w) i x y = kept-other i (inl (omega arith))
       others j (inr w) i x y = kept-other i (inr (omega arith))
 
-      which : (r : ℕ) → suc r ≤ 15 → (importHome kept k (suc r) .to ≡ 0 → ⊥) → (r ≡ p) ⊎ (r ≡ p → ⊥) → NumberedIs f s (slotHome t k) (suc r) (At (importHome kept k (suc r)))
+      which : (r : ℕ) → suc r ≤ 15 → (importHome kept k (suc r) .to ≡ 0 → ⊥) → (r ≡ p) ⊎ (r ≡ p → ⊥) → NumberedIs f s (slotHome t k) (suc r)
+          (At (importHome kept k (suc r)))
       which r l m (inl w) =
           let a : importHome kept k (suc p) ≡ g = home-written t (slotLength * k + 32 + 3 * suc p) g (omega (arith, q .size)) in
-          subst (λ (i : ℕ). NumberedIs f s (slotHome t k) (suc i) (At (importHome kept k (suc i)))) (sym w) (subst (λ (h : Home). NumberedIs f s (slotHome t k) (suc p) (At h)) (sym a) n)
+          subst (λ (i : ℕ). NumberedIs f s (slotHome t k) (suc i) (At (importHome kept k (suc i)))) (sym w)
+          (subst (λ (h : Home). NumberedIs f s (slotHome t k) (suc p) (At h)) (sym a) n)
       which r l m (inr w) =
           let a : importHome kept k (suc r) ≡ importHome t k (suc r) = kept-same (slotLength * k + 32 + 3 * suc r) (side r w) in
           subst (λ (h : Home). NumberedIs f s (slotHome t k) (suc r) (At h)) (sym a) (q .slot k b .imports r l (λ v. m (ap (λ (h : Home). h .to) a ∙ v)))

@@ -116,7 +116,8 @@ module _ (s : Bytes) where
         pub unopened-domains : AllSay s u false → Unopened s 2
         unfolding sound soundEntries
         unopened-domains h =
-            let no : soundEntries (storeLimits s) (length s) es ≡ false = go (acceptedAll (storeLimits s) (length s) [] es) (λ t. all-domains (storeLimits s) (length s) [] es t) in
+            let no : soundEntries (storeLimits s) (length s) es ≡ false = go (acceptedAll (storeLimits s) (length s) [] es)
+            (λ t. all-domains (storeLimits s) (length s) [] es t) in
             unopened-2 (rw (size, reads) (ap (λ (l : Limits). soundEntries l (length s) es) (sym (store-limits s)) ∙ no))
           where
             go : (b : Bool) → (T b → T (domainsAccepted [] es)) → b ≡ false
@@ -175,7 +176,8 @@ module _ (s : Bytes) (u : ℕ) (a : LaidAt s u) where
         asked x =
             let h = sound-at (x .0) in
             let some = over-some s u h in
-            let is : Asked s u (load d f) n = λ es o. ap numberOf (sym e) ∙ (x .1 es o) .number ∙ ap (λ (l : Limits). firstNo (loadQuestions l (length s) es d f)) (store-limits s) in
+            let is : Asked s u (load d f) n = λ es o. ap numberOf (sym e) ∙ (x .1 es o) .number ∙ ap
+            (λ (l : Limits). firstNo (loadQuestions l (length s) es d f)) (store-limits s) in
             (λ z. omega (arith, (x .1 (some .0) (some .1)) .real n e, z), asked-number s u h (load d f) n is)
 
     pub loading-done : (depth : ℕ) → r ≡ answers.Accepted depth → SoundAt s u × LoadSays s u d f (answers.Accepted depth)

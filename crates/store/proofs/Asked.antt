@@ -47,7 +47,8 @@ in-use l [] a h = refl
 in-use l (domain b ∷ es) a h = in-use l es a (h .1)
 in-use l (loaded d f ∷ es) a h = rw (h .0 .1) (go (same a d) (in-use l es a (h .1)))
   where
-    go : (b : Bool) → not (all (λ (i : Installed). not (same a (i .domain))) (installed l es)) ≡ any (liesIn a) es → not (not b && all (λ (i : Installed). not (same a (i .domain))) (installed l es)) ≡ (b || any (liesIn a) es)
+    go : (b : Bool) → not (all (λ (i : Installed). not (same a (i .domain))) (installed l es)) ≡ any (liesIn a) es → not
+        (not b && all (λ (i : Installed). not (same a (i .domain))) (installed l es)) ≡ (b || any (liesIn a) es)
     go true e = refl
     go false e = e
 
@@ -58,18 +59,21 @@ module _ (l : Limits) (a : Aid) where
   by-aid-skip (domain b ∷ ps) rs h = by-aid-skip ps rs h
   by-aid-skip (loaded d f ∷ ps) rs h = go (readFile l f) refl (by-aid-skip ps rs)
     where
-      go : (o : Option Package) → readFile l f ≡ o → (any (isPackage l a) ps ≡ false → byAid (installed l (ps ++ rs)) a ≡ byAid (installed l rs) a) → byAid (installed l (loaded d f ∷ (ps ++ rs))) a ≡ byAid (installed l rs) a
+      go : (o : Option Package) → readFile l f ≡ o → (any (isPackage l a) ps ≡ false → byAid (installed l (ps ++ rs)) a ≡ byAid (installed l rs) a) →
+          byAid (installed l (loaded d f ∷ (ps ++ rs))) a ≡ byAid (installed l rs) a
       go none e rec = rw e (rec (rw e at h))
       go (some p) e rec = rw e (test (same a (p .aid)) (rw e at h))
         where
-          test : (b : Bool) → (b || any (isPackage l a) ps) ≡ false → pick b (some (record { domain = d; pack = p })) (byAid (installed l (ps ++ rs)) a) ≡ byAid (installed l rs) a
+          test : (b : Bool) → (b || any (isPackage l a) ps) ≡ false → pick b (some (record { domain = d; pack = p })) (byAid (installed l (ps ++ rs)) a) ≡
+              byAid (installed l rs) a
           test true k = let z : _≡_ {A = ℕ} 0 1 = cc in absurd (omega arith)
           test false k = rec k
 
   pub by-aid-none : (es : List Entry) → any (isPackage l a) es ≡ false → byAid (installed l es) a ≡ none
   by-aid-none es h = ap (λ (t : List Entry). byAid (installed l t) a) (sym (append-nil es)) ∙ by-aid-skip es [] h
 
-  pub by-aid-here : (d f : Bytes) (rs : List Entry) (p : Package) → readFile l f ≡ some p → same a (p .aid) ≡ true → byAid (installed l (loaded d f ∷ rs)) a ≡ some (record { domain = d; pack = p })
+  pub by-aid-here : (d f : Bytes) (rs : List Entry) (p : Package) → readFile l f ≡ some p → same a (p .aid) ≡ true → byAid (installed l (loaded d f ∷ rs))
+      a ≡ some (record { domain = d; pack = p })
   by-aid-here d f rs p e h = rw (e, h)
 
   -- the package of an entry that the test finds
@@ -77,7 +81,8 @@ module _ (l : Limits) (a : Aid) where
   package-is (domain b) h = let z : _≡_ {A = ℕ} 0 1 = cc in absurd (omega arith)
   package-is (loaded d f) h = go (readFile l f) refl h
     where
-      go : (o : Option Package) → readFile l f ≡ o → someAnd o (λ p. same a (p .aid)) ≡ true → (d₁ f₁ : Bytes) × (p : Package) × (loaded d f ≡ loaded d₁ f₁) × (readFile l f₁ ≡ some p) × (same a (p .aid) ≡ true)
+      go : (o : Option Package) → readFile l f ≡ o → someAnd o (λ p. same a (p .aid)) ≡ true → (d₁ f₁ : Bytes) × (p : Package) ×
+          (loaded d f ≡ loaded d₁ f₁) × (readFile l f₁ ≡ some p) × (same a (p .aid) ≡ true)
       go none e k = let z : _≡_ {A = ℕ} 0 1 = cc in absurd (omega arith)
       go (some p) e k = (d, f, p, refl, e, k)
 
@@ -87,7 +92,8 @@ module _ (l : Limits) (a : Aid) where
   installed-any (domain b ∷ es) = installed-any es
   installed-any (loaded d f ∷ es) = go (readFile l f) refl (installed-any es)
     where
-      go : (o : Option Package) → readFile l f ≡ o → isSome (byAid (installed l es) a) ≡ any (isPackage l a) es → isSome (byAid (installed l (loaded d f ∷ es)) a) ≡ any (isPackage l a) (loaded d f ∷ es)
+      go : (o : Option Package) → readFile l f ≡ o → isSome (byAid (installed l es) a) ≡ any (isPackage l a) es → isSome
+          (byAid (installed l (loaded d f ∷ es)) a) ≡ any (isPackage l a) (loaded d f ∷ es)
       go none e h = rw e h
       go (some p) e h = rw e (test (same a (p .aid)))
         where
@@ -111,7 +117,8 @@ named-place l a i (e ∷ es) h =
     ap₂ (λ (b : Bool) (o : Option (ℕ × ℕ)). pick b (some (i, n)) o) (named-is l a e (h .0)) (named-place l a n es (h .1))
 
 -- what the search for a package answers
-pub package-found : {s : Bytes} {es : List Entry} {k : ℕ} {a : Aid} {i j m : ℕ} {d : Bytes} → Entries s 7 es k → AllRead (storeLimits s) es → placeOf (namedBy a) 7 es ≡ some (i, m) → j ≤ m → m ≤ length s → ((e : Entry) → EntryAt s i e m → e ≡ loaded d (part s j m)) → FileSays s es a (File i j m)
+pub package-found : {s : Bytes} {es : List Entry} {k : ℕ} {a : Aid} {i j m : ℕ} {d : Bytes} → Entries s 7 es k → AllRead (storeLimits s) es → placeOf
+    (namedBy a) 7 es ≡ some (i, m) → j ≤ m → m ≤ length s → ((e : Entry) → EntryAt s i e m → e ≡ loaded d (part s j m)) → FileSays s es a (File i j m)
 package-found {s} {es} {k} {a} {i} {j} {m} {d} r h q from to file = go (found-at (isPackage (storeLimits s) a) s 7 es k i m r place)
   where
     place : placeOf (isPackage (storeLimits s) a) 7 es ≡ some (i, m)
@@ -123,7 +130,8 @@ package-found {s} {es} {k} {a} {i} {j} {m} {d} r h q from to file = go (found-at
         let p = package-is (storeLimits s) a (f .one) (f .found) in
         done f (p .0) (p .1) (p .2) (p .3) (p .4) (p .5) (cc)
       where
-        done : (f : FoundAt (isPackage (storeLimits s) a) s 7 es k i m) (d₁ f₁ : Bytes) (p : Package) → f .one ≡ loaded d₁ f₁ → readFile (storeLimits s) f₁ ≡ some p → same a (p .aid) ≡ true → f₁ ≡ part s j m → PackageAt s es a i j m
+        done : (f : FoundAt (isPackage (storeLimits s) a) s 7 es k i m) (d₁ f₁ : Bytes) (p : Package) → f .one ≡ loaded d₁ f₁ → readFile (storeLimits s)
+            f₁ ≡ some p → same a (p .aid) ≡ true → f₁ ≡ part s j m → PackageAt s es a i j m
         done f d₁ f₁ p o e t w =
             let stands : EntryAt s i (loaded d₁ (part s j m)) m = subst (λ (x : Entry). EntryAt s i x m) (o ∙ ap (loaded d₁) w) (f .stands) in
             record {

@@ -21,7 +21,8 @@ use Rattle.store.proofs.Parts.{drop-one}
 use Rattle.store.proofs.Stand.{entry-by, by-entry, entry-later, entries-to, entries-more, entries-split, entries-front}
 
 -- mark and version, byte by byte
-pub opening-is : (s : Bytes) → 5 ≤ length s → same (take 5 s) opening ≡ (eqb (getD s 0 0) 0x42 && (eqb (getD s 1 0) 0x43 && (eqb (getD s 2 0) 0x53 && (eqb (getD s 3 0) 0 && (eqb (getD s 4 0) 1 && true)))))
+pub opening-is : (s : Bytes) → 5 ≤ length s → same (take 5 s) opening ≡ (eqb (getD s 0 0) 0x42 &&
+    (eqb (getD s 1 0) 0x43 && (eqb (getD s 2 0) 0x53 && (eqb (getD s 3 0) 0 && (eqb (getD s 4 0) 1 && true)))))
 opening-is [] h = absurd (omega arith)
 opening-is (a ∷ []) h = absurd (omega arith)
 opening-is (a ∷ b ∷ []) h = absurd (omega arith)
@@ -71,7 +72,8 @@ loaded-reads m b = go (leb m (length b)) refl
     go true e = rw e
     go false e = rw e
 
-pub body-loaded : (s : Bytes) (at n m : ℕ) → at + 3 + n ≤ length s → getD s at 0 ≡ 2 → (n ≡ 0 → ⊥) → m ≡ getD s (at + 3) 0 → leb m (n - 1) ≡ isSome (entryOf (getD s at 0) (take n (drop (at + 3) s)))
+pub body-loaded : (s : Bytes) (at n m : ℕ) → at + 3 + n ≤ length s → getD s at 0 ≡ 2 → (n ≡ 0 → ⊥) → m ≡ getD s (at + 3) 0 → leb m (n - 1) ≡ isSome
+    (entryOf (getD s at 0) (take n (drop (at + 3) s)))
 body-loaded s at n m h k z e =
     let p : n ≡ suc (n - 1) = omega arith in
     let l : at + 3 < length s = omega arith in
@@ -92,8 +94,16 @@ module _ (s : Bytes) (i k n : ℕ) (h : n ≡ u2At s (i + 1)) (g : k ≤ length 
 
   pub next-body : i + 3 ≤ k → n ≤ k - i - 3 → isSome (entryOf (getD s i 0) (take n (drop (i + 3) s))) ≡ true → NextSays s i k (To (i + 3 + n))
   next-body l m b =
-      let x = some-is (entryOf (getD s i 0) (take n (drop (i + 3) s))) (of-true b) in
-      (x .0, by-entry s i (x .0) (i + 3 + n) (record { next = ap (λ (v : ℕ). i + 3 + v) (sym h); to = omega arith; is = ap (entryOf (getD s i 0)) (part-of s (i + 3) n) ∙ x .1 }), omega arith)
+      let x = some-is (entryOf (getD s i 0) (take n (drop (i + 3) s))) (of-true b) in (
+        x .0,
+        by-entry s i (x .0) (i + 3 + n) (record {
+          next = ap (λ (v : ℕ). i + 3 + v) (sym h);
+          to = omega arith;
+          is = ap (entryOf (getD s i 0))
+              (part-of s (i + 3) n) ∙ x .1;
+        }),
+        omega arith,
+      )
 
   pub next-other : isSome (entryOf (getD s i 0) (take n (drop (i + 3) s))) ≡ false → NextSays s i k Never
   next-other b e j t l =

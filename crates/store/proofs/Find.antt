@@ -104,23 +104,27 @@ module _ {q : Entry → Bool} {s : Bytes} {k i : ℕ} (w : Walks q s k i) where
   pub walks-package : {a m j : ℕ} → PartAt s i k (Package a m j) → q (loaded (part s a m) (part s m j)) ≡ false → Walks q s k j
   walks-package {a} {m} {j} p h es r = let v = w es r in walk-more v ((p (v .rest) (v .from)) .2) h
 
-  pub found-domain : {a j : ℕ} → PartAt s i k (Domain a j) → q (domain (part s a j)) ≡ true → (es : List Entry) → Entries s 7 es k → placeOf q 7 es ≡ some (i, j)
+  pub found-domain : {a j : ℕ} → PartAt s i k (Domain a j) → q (domain (part s a j)) ≡ true → (es : List Entry) → Entries s 7 es k → placeOf q 7 es ≡ some
+      (i, j)
   found-domain {a} {j} p h es r = let v = w es r in walk-found v ((p (v .rest) (v .from)) .1) h
 
-  pub found-package : {a m j : ℕ} → PartAt s i k (Package a m j) → q (loaded (part s a m) (part s m j)) ≡ true → (es : List Entry) → Entries s 7 es k → placeOf q 7 es ≡ some (i, j)
+  pub found-package : {a m j : ℕ} → PartAt s i k (Package a m j) → q (loaded (part s a m) (part s m j)) ≡ true → (es : List Entry) → Entries s 7 es k →
+      placeOf q 7 es ≡ some (i, j)
   found-package {a} {m} {j} p h es r = let v = w es r in walk-found v ((p (v .rest) (v .from)) .2) h
 
   pub found-none : PartAt s i k AtEnd → (es : List Entry) → Entries s 7 es k → any q es ≡ false
   found-none p es r = let v = w es r in walk-none v ((p (v .rest) (v .from)) .0)
 
   -- the file of the package at hand reads where all do
-  pub package-reads : {a m j : ℕ} → PartAt s i k (Package a m j) → (es : List Entry) → Entries s 7 es k → AllRead (storeLimits s) es → FileReads (storeLimits s) (loaded (part s a m) (part s m j))
+  pub package-reads : {a m j : ℕ} → PartAt s i k (Package a m j) → (es : List Entry) → Entries s 7 es k → AllRead (storeLimits s) es → FileReads
+      (storeLimits s) (loaded (part s a m) (part s m j))
   package-reads {a} {m} {j} p es r h =
       let v = w es r in
       let x = (p (v .rest) (v .from)) .2 in
       (subst (AllRead (storeLimits s)) (x .are) (walk-reads v (storeLimits s) h)) .0
 
-  pub package-entry : {a m j : ℕ} → PartAt s i k (Package a m j) → (es : List Entry) → Entries s 7 es k → (e : Entry) → EntryAt s i e j → e ≡ loaded (part s a m) (part s m j)
+  pub package-entry : {a m j : ℕ} → PartAt s i k (Package a m j) → (es : List Entry) → Entries s 7 es k → (e : Entry) → EntryAt s i e j → e ≡ loaded
+      (part s a m) (part s m j)
   package-entry {a} {m} {j} p es r e t =
       let v = w es r in
       let x = (p (v .rest) (v .from)) .2 in

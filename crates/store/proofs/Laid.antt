@@ -51,7 +51,8 @@ in-stand (suc k) s i es h e = elim (decLe (length s) i) [
   | no g ↦ further (omega arith) (λ n fs h e. in-stand k s n fs h e)
 ]
   where
-    further : i < length s → ((n : ℕ) (fs : List Entry) → n ≤ length s → entriesIn k (drop n s) ≡ some fs → Entries s n fs (length s)) → Entries s i es (length s)
+    further : i < length s → ((n : ℕ) (fs : List Entry) → n ≤ length s → entriesIn k (drop n s) ≡ some fs → Entries s n fs (length s)) → Entries s i es
+        (length s)
     further l rec =
         let q : (entry (drop i s) andThen entriesThen k) ≡ some es = sym (entries-in-suc k (drop i s) (omega (arith, length-drop i s))) ∙ e in
         let x = and-then-is (entry (drop i s)) (entriesThen k) es q in
@@ -108,7 +109,8 @@ module _ (s : Bytes) (k : ℕ) (h : k ≤ length s) where
 
 pub entries-first : (s : Bytes) (i : ℕ) (es : List Entry) (k : ℕ) → Entries s i es k → Entries (take k s) i es k
 entries-first s i _ _ (over h) = over {i = i} (omega (arith, length-take-le i s h))
-entries-first s i _ k (more {j = j} {e = e} {es = es} t r) = let b = entries-to s j es k r in more (entry-first s k (b .1) i e j (b .0) t) (entries-first s j es k r)
+entries-first s i _ k (more {j = j} {e = e} {es = es} t r) = let b = entries-to s j es k r in more (entry-first s k (b .1) i e j (b .0) t)
+    (entries-first s j es k r)
 
 pub first-entries : (s : Bytes) (i : ℕ) (es : List Entry) (k m : ℕ) → k ≤ length s → Entries (take k s) i es m → Entries s i es m
 first-entries s i _ k _ h (over g) = over {i = i} (omega (arith, length-take-le k s h))
@@ -118,7 +120,8 @@ first-entries s i _ k m h (more {j = j} {e = e} {es = es} t r) = more (first-ent
 pub part-stand : (n : ℕ) (s : Bytes) (i k : ℕ) (es : List Entry) → i ≤ k → k ≤ length s → entriesIn n (part s i k) ≡ some es → Entries s i es k
 part-stand n s i k es h g e =
     let l : length (take k s) ≡ k = length-take-le k s g in
-    first-entries s i es k k g (subst (λ (m : ℕ). Entries (take k s) i es m) l (in-stand n (take k s) i es (omega arith) (ap (entriesIn n) (drop-take i k s) ∙ e)))
+    first-entries s i es k k g (subst (λ (m : ℕ). Entries (take k s) i es m) l
+    (in-stand n (take k s) i es (omega arith) (ap (entriesIn n) (drop-take i k s) ∙ e)))
 
 pub stand-part : (n : ℕ) (s : Bytes) (i k : ℕ) (es : List Entry) → length es ≤ n → Entries s i es k → entriesIn n (part s i k) ≡ some es
 stand-part n s i k es h r =
@@ -185,7 +188,9 @@ by-laid s es t =
     let k = (entries-to s 7 es (u2At s 5) (t .stand)) .1 in
     let l : leb 7 (u2At s 5) ≡ true = le-leb 7 (u2At s 5) (t .from) in
     let n : length es ≤ length (part s 7 (u2At s 5)) = omega (arith, entries-few es, entries-next s 7 es (u2At s 5) (t .stand), part-length s 7 (u2At s 5) k) in
-    rw (is-true (same (take 5 s) opening) (t .opens), fields-at s (t .inside)) (rw (l, drop-span s 7 (u2At s 5) (t .from) k, is-true (all isZero (drop (u2At s 5) s)) (t .zeros)) (stand-part (length (part s 7 (u2At s 5))) s 7 (u2At s 5) es n (t .stand)))
+    rw (is-true (same (take 5 s) opening) (t .opens), fields-at s (t .inside))
+    (rw (l, drop-span s 7 (u2At s 5) (t .from) k, is-true (all isZero (drop (u2At s 5) s)) (t .zeros))
+    (stand-part (length (part s 7 (u2At s 5))) s 7 (u2At s 5) es n (t .stand)))
 
 -- bytes below 256, by their places
 pub all-bytes : (s : Bytes) → ((i : ℕ) → getD s i 0 < 256) → T (all isByte s)
@@ -216,7 +221,8 @@ module _ (s : Bytes) (h : (i : ℕ) → getD s i 0 < 256) where
   pub laid-none : ((es : List Entry) → LaidBy s es → ⊥) → (none ≡ usedOf (entriesOf s)) × ((es : List Entry) → entriesOf s ≡ some es → Holds s es)
   laid-none g = (sym (ap usedOf (reads-none s g)), holds s h)
 
-  pub laid-some : (u : ℕ) (es : List Entry) → u ≡ u2At s 5 → LaidBy s es → (some u ≡ usedOf (entriesOf s)) × ((es : List Entry) → entriesOf s ≡ some es → Holds s es)
+  pub laid-some : (u : ℕ) (es : List Entry) → u ≡ u2At s 5 → LaidBy s es → (some u ≡ usedOf (entriesOf s)) ×
+      ((es : List Entry) → entriesOf s ≡ some es → Holds s es)
   laid-some u es e t =
       let n : used es ≡ u = entries-next s 7 es (u2At s 5) (t .stand) ∙ sym e in
       (sym (ap usedOf (by-laid s es t) ∙ ap some n), holds s h)

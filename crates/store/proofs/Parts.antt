@@ -46,13 +46,18 @@ pub part-take : (s : Bytes) (i j n : ℕ) → i + n ≤ j → take n (part s i j
 part-take s i j n h = let m : n ≡ i + n - i = omega arith in take-take n (j - i) (drop i s) (omega arith) ∙ ap (λ (a : ℕ). take a (drop i s)) m
 
 -- so many bytes at a place: what was read, and that it can be read
-pub span-drop : (s : Bytes) (i n : ℕ) (x : Bytes × Bytes) → i ≤ length s → span n (drop i s) ≡ some x → (i + n ≤ length s) × (part s i (i + n) ≡ x .0) × (drop (i + n) s ≡ x .1)
+pub span-drop : (s : Bytes) (i n : ℕ) (x : Bytes × Bytes) → i ≤ length s → span n (drop i s) ≡ some x → (i + n ≤ length s) × (part s i (i + n) ≡ x .0) ×
+    (drop (i + n) s ≡ x .1)
 span-drop s i n x k e =
     let p = pick-some (leb n (length (drop i s))) (some (take n (drop i s), drop n (drop i s))) x e in
     let l : n ≤ length (drop i s) = leb→le n (length (drop i s)) (p .0) in
     let m : n ≡ i + n - i = omega arith in
-    let z : _≡_ {A = Bytes × Bytes} (take n (drop i s), drop n (drop i s)) x = Option·some-injective _ _ (p .1) in
-    (omega (arith, length-drop i s), ap (λ (a : ℕ). take a (drop i s)) (sym m) ∙ ap (λ (y : Bytes × Bytes). y .0) z, sym (drop-drop n i s) ∙ ap (λ (y : Bytes × Bytes). y .1) z)
+    let z : _≡_ {A = Bytes × Bytes} (take n (drop i s), drop n (drop i s)) x = Option·some-injective _ _ (p .1) in (
+      omega (arith, length-drop i s),
+      ap (λ (a : ℕ). take a (drop i s)) (sym m) ∙ ap (λ (y : Bytes × Bytes). y .0) z,
+      sym (drop-drop n i s) ∙ ap
+          (λ (y : Bytes × Bytes). y .1) z,
+    )
 
 pub drop-span : (s : Bytes) (i j : ℕ) → i ≤ j → j ≤ length s → span (j - i) (drop i s) ≡ some (part s i j, drop j s)
 drop-span s i j h k =
@@ -60,7 +65,8 @@ drop-span s i j h k =
     let m : i + (j - i) ≡ j = omega arith in
     rw (l, drop-drop (j - i) i s, m)
 
-pub span-part : (s : Bytes) (i j n : ℕ) (x : Bytes × Bytes) → i ≤ j → j ≤ length s → span n (part s i j) ≡ some x → (i + n ≤ j) × (part s i (i + n) ≡ x .0) × (part s (i + n) j ≡ x .1)
+pub span-part : (s : Bytes) (i j n : ℕ) (x : Bytes × Bytes) → i ≤ j → j ≤ length s → span n (part s i j) ≡ some x → (i + n ≤ j) ×
+    (part s i (i + n) ≡ x .0) × (part s (i + n) j ≡ x .1)
 span-part s i j n x k h e =
     let p = pick-some (leb n (length (part s i j))) (some (take n (part s i j), drop n (part s i j))) x e in
     let l : n ≤ length (part s i j) = leb→le n (length (part s i j)) (p .0) in

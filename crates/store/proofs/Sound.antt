@@ -33,7 +33,8 @@ pub over-used : (s : Bytes) (end : ℕ) (es : List Entry) → Over s end es → 
 over-used s end es o = entries-next s 7 es end (o .stand)
 
 -- a domain that is found has been created, one that is not has not
-pub created-is : (s : Bytes) (end : ℕ) (a : Aid) (r : Spot) → SpotAt (isDomain a) s end r → (es : List Entry) → Over s end es → isSome (spot r) ≡ q5-created es a
+pub created-is : (s : Bytes) (end : ℕ) (a : Aid) (r : Spot) → SpotAt (isDomain a) s end r → (es : List Entry) → Over s end es → isSome (spot r) ≡
+    q5-created es a
 created-is s end a r p es o = ap isSome (p es (o .stand)) ∙ sym (created-place 7 es a)
 
 -- 3 of one AID
@@ -99,7 +100,8 @@ module _ (s : Bytes) (u : ℕ) (h : SoundAt s u) where
   asked-refused o n z q = let e = asked-number o n q in (e, refused-after s o n z e)
 
   -- all yes
-  pub asked-done : (o : Operation) (t : Bytes) → Asked s u o 0 → ((es : List Entry) → entriesOf s ≡ some es → t ≡ write (length s) (change es o)) → (0 ≡ number s o) × (t ≡ after s o)
+  pub asked-done : (o : Operation) (t : Bytes) → Asked s u o 0 → ((es : List Entry) → entriesOf s ≡ some es → t ≡ write (length s) (change es o)) →
+      (0 ≡ number s o) × (t ≡ after s o)
   unfolding after
   asked-done o t q w =
       let x = opening s u h in

@@ -57,13 +57,15 @@ entry-reads s i e r t = elim (decLe (length s) i) [
   ]
 ]
   where
-    done : (b r₁ : Bytes) (e₁ : Entry) → nextOf s i ≤ length s → part s (i + 3) (nextOf s i) ≡ b → drop (nextOf s i) s ≡ r₁ → entryOf (getD s i 0) b ≡ some e₁ → _≡_ {A = Entry × Bytes} (e₁, r₁) (e, r) → EntryBy s i e (nextOf s i) × (drop (nextOf s i) s ≡ r)
+    done : (b r₁ : Bytes) (e₁ : Entry) → nextOf s i ≤ length s → part s (i + 3) (nextOf s i) ≡ b → drop (nextOf s i) s ≡ r₁ → entryOf (getD s i 0) b ≡
+        some e₁ → _≡_ {A = Entry × Bytes} (e₁, r₁) (e, r) → EntryBy s i e (nextOf s i) × (drop (nextOf s i) s ≡ r)
     done b r₁ e₁ h p d q z = (
       record { next = refl; to = h; is = ap (entryOf (getD s i 0)) p ∙ q ∙ ap some (ap (λ (x : Entry × Bytes). x .0) z) },
       d ∙ ap (λ (x : Entry × Bytes). x .1) z,
     )
 
-    step : i + 3 ≤ length s → (span (u2At s (i + 1)) (drop (i + 3) s) andThen entryThen (getD s i 0)) ≡ some (e, r) → EntryBy s i e (nextOf s i) × (drop (nextOf s i) s ≡ r)
+    step : i + 3 ≤ length s → (span (u2At s (i + 1)) (drop (i + 3) s) andThen entryThen (getD s i 0)) ≡ some (e, r) → EntryBy s i e (nextOf s i) ×
+        (drop (nextOf s i) s ≡ r)
     step h q =
         let x = and-then-is (span (u2At s (i + 1)) (drop (i + 3) s)) (entryThen (getD s i 0)) (e, r) q in
         let y = and-then-is (entryOf (getD s i 0) (x .0 .0)) (λ v. some (v, x .0 .1)) (e, r) (x .2) in
@@ -110,7 +112,8 @@ kind-by s i e j t = go (eqb (getD s i 0) 1) refl (eqb (getD s i 0) 2) refl (t .i
       | no g ↦
           let l : i + 3 < j = omega arith in
           let d : i + 3 + 1 ≡ i + 4 = omega arith in
-          let r : (span (getD s (i + 3) 0) (part s (i + 4) j) andThen λ x. some (loaded (x .0) (x .1))) ≡ some e = rw (part-cons s (i + 3) j l (t .to), d) at q in
+          let r : (span (getD s (i + 3) 0) (part s (i + 4) j) andThen λ x. some (loaded (x .0) (x .1))) ≡ some e = rw (part-cons s (i + 3) j l (t .to), d)
+          at q in
           let x = and-then-is (span (getD s (i + 3) 0) (part s (i + 4) j)) _ e r in
           let p = span-part s (i + 4) j (getD s (i + 3) 0) (x .0) (omega arith) (t .to) (x .1) in
           kind2 (record { kind = k; length = omega arith; inside = p .0; is = sym (Option·some-injective _ _ (x .2)) ∙ ap₂ loaded (sym (p .1)) (sym (p .2)) })
@@ -198,3 +201,11 @@ entries-split s i es _ j k h (more {j = m} {e = e} {es = ps} t r) u =
     let o = entry-one s i e (f .one) m (f .place) t (f .stands) in
     let q = entries-split s m (f .others) ps j k h r (subst (λ (n : ℕ). Entries s n (f .others) k) (sym (o .1)) (f .rest)) in
     record { rest = q .rest; are = f .are ∙ ap₂ (λ (x : Entry) (l : List Entry). x ∷ l) (sym (o .0)) (q .are); stand = q .stand }
+
+-- an entry that starts before another ends before it
+pub entry-apart : (s : Bytes) (b : ℕ) (ps qs : List Entry) (i j k : ℕ) (e : Entry) → Entries s b ps i → EntryAt s i e k → Entries s b qs j → i < j → k ≤ j
+entry-apart s b ps qs i j k e p t q h =
+    let r = entries-split s b qs ps i j (omega arith) p q in
+    let f = entries-front s i (r .rest) j h (r .stand) in
+    let o = entry-one s i e (f .one) k (f .place) t (f .stands) in
+    omega (arith, o .1, (entries-to s (f .place) (f .others) j (f .rest)) .0)

@@ -29,7 +29,8 @@ module _ (q : Entry → Bool) where
   place-any i [] = refl
   place-any i (e ∷ es) = go (q e) (place-any (i + length (entryBytes e)) es)
     where
-      go : (b : Bool) → isSome (placeOf q (i + length (entryBytes e)) es) ≡ any q es → isSome (pick b (some (i, i + length (entryBytes e))) (placeOf q (i + length (entryBytes e)) es)) ≡ (b || any q es)
+      go : (b : Bool) → isSome (placeOf q (i + length (entryBytes e)) es) ≡ any q es → isSome
+          (pick b (some (i, i + length (entryBytes e))) (placeOf q (i + length (entryBytes e)) es)) ≡ (b || any q es)
       go true h = refl
       go false h = h
 
@@ -55,14 +56,16 @@ pub record FoundAt (q : Entry → Bool) (s : Bytes) (i : ℕ) (es : List Entry) 
   pub left : without q es ≡ before ++ after
 
 -- what the place of an entry says
-pub found-at : (q : Entry → Bool) (s : Bytes) (i : ℕ) (es : List Entry) (k from to : ℕ) → Entries s i es k → placeOf q i es ≡ some (from, to) → FoundAt q s i es k from to
+pub found-at : (q : Entry → Bool) (s : Bytes) (i : ℕ) (es : List Entry) (k from to : ℕ) → Entries s i es k → placeOf q i es ≡ some (from, to) → FoundAt q
+    s i es k from to
 found-at q s i _ _ from to (Entries.over h) e = absurd (none-some e)
 found-at q s i _ k from to (Entries.more {j = j} {e = e} {es = es} t r) p = go (q e) refl p (λ p. found-at q s j es k from to r p)
   where
     n : i + length (entryBytes e) ≡ j
     n = entry-next s i e j t
 
-    go : (b : Bool) → q e ≡ b → pick b (some (i, i + length (entryBytes e))) (placeOf q (i + length (entryBytes e)) es) ≡ some (from, to) → (placeOf q j es ≡ some (from, to) → FoundAt q s j es k from to) → FoundAt q s i (e ∷ es) k from to
+    go : (b : Bool) → q e ≡ b → pick b (some (i, i + length (entryBytes e))) (placeOf q (i + length (entryBytes e)) es) ≡ some (from, to) →
+        (placeOf q j es ≡ some (from, to) → FoundAt q s j es k from to) → FoundAt q s i (e ∷ es) k from to
     go true z p rec =
         let w : _≡_ {A = ℕ × ℕ} (i, i + length (entryBytes e)) (from, to) = Option·some-injective _ _ p in
         let a : i ≡ from = ap (λ (x : ℕ × ℕ). x .0) w in
@@ -95,11 +98,13 @@ found-at q s i _ k from to (Entries.more {j = j} {e = e} {es = es} t r) p = go (
         }
 
 -- the place of an entry behind others that the test does not find
-pub place-is : (q : Entry → Bool) (s : Bytes) (i : ℕ) (before : List Entry) (one : Entry) (after : List Entry) (from to : ℕ) → Entries s i before from → EntryAt s from one to → any q before ≡ false → q one ≡ true → placeOf q i (before ++ one ∷ after) ≡ some (from, to)
+pub place-is : (q : Entry → Bool) (s : Bytes) (i : ℕ) (before : List Entry) (one : Entry) (after : List Entry) (from to : ℕ) → Entries s i before from →
+    EntryAt s from one to → any q before ≡ false → q one ≡ true → placeOf q i (before ++ one ∷ after) ≡ some (from, to)
 place-is q s i _ one after _ to (Entries.over h) t p f = rw f (ap (λ (n : ℕ). some (i, n)) (entry-next s i one to t))
 place-is q s i _ one after from to (Entries.more {j = j} {e = e} {es = es} u r) t p f = go (q e) p (λ p. place-is q s j es one after from to r t p f)
   where
-    go : (b : Bool) → (b || any q es) ≡ false → (any q es ≡ false → placeOf q j (es ++ one ∷ after) ≡ some (from, to)) → pick b (some (i, i + length (entryBytes e))) (placeOf q (i + length (entryBytes e)) (es ++ one ∷ after)) ≡ some (from, to)
+    go : (b : Bool) → (b || any q es) ≡ false → (any q es ≡ false → placeOf q j (es ++ one ∷ after) ≡ some (from, to)) → pick b
+        (some (i, i + length (entryBytes e))) (placeOf q (i + length (entryBytes e)) (es ++ one ∷ after)) ≡ some (from, to)
     go true p rec = let y : _≡_ {A = ℕ} 0 1 = cc in absurd (omega arith)
     go false p rec = ap (λ (m : ℕ). placeOf q m (es ++ one ∷ after)) (entry-next s i e j u) ∙ rec p
 
@@ -113,7 +118,8 @@ pub record Walk (q : Entry → Bool) (s : Bytes) (es : List Entry) (k i : ℕ) :
   pub none : any q passed ≡ false
 
 pub walk-start : {q : Entry → Bool} {s : Bytes} {es : List Entry} {k : ℕ} → Entries s 7 es k → Walk q s es k 7
-walk-start {s = s} {es = es} {k = k} r = let b = entries-to s 7 es k r in record { passed = []; rest = es; are = refl; to = Entries.over {i = 7} (omega arith); from = r; none = refl }
+walk-start {s = s} {es = es} {k = k} r = let b = entries-to s 7 es k r in record
+    { passed = []; rest = es; are = refl; to = Entries.over {i = 7} (omega arith); from = r; none = refl }
 
 module _ {q : Entry → Bool} {s : Bytes} {es : List Entry} {k i : ℕ} (w : Walk q s es k i) where
   -- the entry at hand is found

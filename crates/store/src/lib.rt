@@ -1,10 +1,13 @@
-// The store by its bytes: layout, entries at their places, what would fit.
+// The store by its bytes: its limits, layout, entries at their places, what would fit.
+use cursor::Limits;
 ghost use mathlib.Core.Path.{_≡_};
 ghost use mathlib.Core.List.{List};
 ghost use mathlib.Core.Option.{some};
 ghost use Prim.Native.Nat.{max, _+_, _<_, _≤_};
 ghost use lib.ListN.{length, getD, take, drop};
 ghost use Rattle.rules.specs.Bytes.{all, isSome, _andThen_, same};
+ghost use Rattle.rules.specs.Package.{storeLimits};
+ghost use Rattle.cursor.specs.Limits.{limitsOf};
 ghost use Rattle.rules.specs.Store.{Entry, domain, loaded, used, opening, isZero, entryOf, entriesOf};
 ghost use Rattle.rules.specs.Questions.{q1-size};
 ghost use Rattle.rules.specs.Operations.{isDomain};
@@ -40,6 +43,13 @@ pub enum Spot {
 pub enum FileSpot {
     File(usize, usize, usize),
     Missing,
+}
+
+// The limits of a store: document 01's.
+pub fn limits_of(s: &[u8]) -> Limits
+    ensures { λ r. ⌜ limitsOf r ≡ storeLimits (now (s .entry)) ⌝ }
+{
+    Limits::standard()
 }
 
 // 1. Has the store 64 to 65,535 bytes?

@@ -35,7 +35,8 @@ upTo-length : (u : ℕ) (before : List Entry) → length (upTo u before) ≡ 7 +
 upTo-length u before = omega arith
 
 -- the bytes of a layout around a place
-around : (s : Bytes) (n : ℕ) (es before after : List Entry) → s ≡ write n es → es ≡ before ++ after → s ≡ upTo (used es) before ++ (entriesBytes after ++ zeros (n - used es))
+around : (s : Bytes) (n : ℕ) (es before after : List Entry) → s ≡ write n es → es ≡ before ++ after → s ≡ upTo (used es) before ++
+    (entriesBytes after ++ zeros (n - used es))
 unfolding write
 around s n es before after e q =
     let z : Bytes = zeros (n - used es) in
@@ -53,7 +54,8 @@ used-anew : (u v : ℕ) (r : Bytes) → paste (opening ++ (two u ++ r)) 5 (two v
 used-anew u v r = paste-over opening (two u) r (two v) 5 refl refl
 
 -- an empty store
-pub fresh-is : (s : Bytes) → 7 ≤ length s → paste (set (set (set (set (set (set (set s 0 0x42) 1 0x43) 2 0x53) 3 0) 4 1) 5 0) 6 7) 7 (replicate (length s - 7) 0) (length s - 7) ≡ write (length s) []
+pub fresh-is : (s : Bytes) → 7 ≤ length s → paste (set (set (set (set (set (set (set s 0 0x42) 1 0x43) 2 0x53) 3 0) 4 1) 5 0) 6 7) 7
+    (replicate (length s - 7) 0) (length s - 7) ≡ write (length s) []
 unfolding write
 fresh-is s h =
     let a : Bytes = 0x42 ∷ 0x43 ∷ 0x53 ∷ 0 ∷ 1 ∷ 0 ∷ 7 ∷ [] in
@@ -67,7 +69,8 @@ fresh-is s h =
     ∙ ap (λ (t : Bytes). a ++ t) (append-nil z)
 
 -- an entry behind the others
-pub appended : (s : Bytes) (es : List Entry) (e : Entry) (w : Bytes) → s ≡ write (length s) es → used es + length w ≤ length s → w ≡ entryBytes e → paste (paste s (used es) w (length w)) 5 (two (used es + length w)) 2 ≡ write (length s) (es ++ e ∷ [])
+pub appended : (s : Bytes) (es : List Entry) (e : Entry) (w : Bytes) → s ≡ write (length s) es → used es + length w ≤ length s → w ≡ entryBytes e → paste
+    (paste s (used es) w (length w)) 5 (two (used es + length w)) 2 ≡ write (length s) (es ++ e ∷ [])
 appended s es e w h room q =
     let u : ℕ = used es in
     let n : ℕ = length w in
@@ -75,7 +78,8 @@ appended s es e w h room q =
     let p : Bytes = upTo (used es) es in
     let lp : length (upTo (used es) es) ≡ used es = upTo-length (used es) es in
     let k : length s - used es ≡ length w + (length s - (used es + length w)) = omega arith in
-    let s₀ : s ≡ p ++ (zeros n ++ zeros m) = around s (length s) es es [] h (sym (append-nil es)) ∙ ap (λ (t : Bytes). p ++ t) (ap zeros k ∙ sym (replicate-append-replicate n m 0)) in
+    let s₀ : s ≡ p ++ (zeros n ++ zeros m) = around s (length s) es es [] h (sym (append-nil es)) ∙ ap (λ (t : Bytes). p ++ t)
+    (ap zeros k ∙ sym (replicate-append-replicate n m 0)) in
     let s₁ : paste s u w n ≡ p ++ (w ++ zeros m) = ap (λ (t : Bytes). paste t u w n) s₀ ∙ paste-over p (zeros n) (zeros m) w u lp (length-replicate n 0) in
     let en : entriesBytes es ++ w ≡ entriesBytes (es ++ e ∷ []) =
     (ap (λ (t : Bytes). entriesBytes es ++ t) (q ∙ sym (append-nil (entryBytes e))) ∙ sym (flat-append entryBytes es (e ∷ []))) in
@@ -86,12 +90,20 @@ appended s es e w h room q =
     ∙ layout-of (length s) (u + n) (es ++ e ∷ []) (entriesBytes es ++ w) us en
 
 -- an entry in the middle
-used-split : (before : List Entry) (e : Entry) (after : List Entry) → used (before ++ e ∷ after) ≡ 7 + length (entriesBytes before) + length (entryBytes e) + length (entriesBytes after)
+used-split : (before : List Entry) (e : Entry) (after : List Entry) → used (before ++ e ∷ after) ≡ 7 + length (entriesBytes before) + length
+    (entryBytes e) + length (entriesBytes after)
 used-split before e after =
-    omega (arith, ap length (flat-append entryBytes before (e ∷ after)), length-append (entriesBytes before) (entriesBytes (e ∷ after)), length-append (entryBytes e) (entriesBytes after))
+    omega (
+      arith,
+      ap length (flat-append entryBytes before (e ∷ after)),
+      length-append (entriesBytes before) (entriesBytes (e ∷ after)),
+      length-append
+          (entryBytes e) (entriesBytes after),
+    )
 
 -- the later entries moved up, the freed end zeroed, the used field written
-pub cut-out : (s : Bytes) (es before : List Entry) (e : Entry) (after : List Entry) (i j k : ℕ) → s ≡ write (length s) es → es ≡ before ++ e ∷ after → used es ≤ length s → i ≡ 7 + length (entriesBytes before) → j ≡ i + length (entryBytes e) → k ≡ j - i →
+pub cut-out : (s : Bytes) (es before : List Entry) (e : Entry) (after : List Entry) (i j k : ℕ) → s ≡ write (length s) es → es ≡ before ++ e ∷ after →
+    used es ≤ length s → i ≡ 7 + length (entriesBytes before) → j ≡ i + length (entryBytes e) → k ≡ j - i →
     paste (paste (paste s i (drop j s) (used es - j)) (used es - k) (zeros k) k) 5 (two (used es - k)) 2 ≡ write (length s) (before ++ after)
 cut-out s es before e after i j k h q fits pi pj pk =
     let u : ℕ = used es in
@@ -115,7 +127,8 @@ cut-out s es before e after i j k h q fits pi pj pk =
     let w : take (u - j) (drop j s) ≡ c = ap₂ take n rest ∙ take-at c z (length c) refl in
     let s₁ : paste s i (drop j s) (u - j) ≡ (p ++ c) ++ (t ++ z) =
     (paste-take s i (drop j s) (u - j) c w (sym n)
-    ∙ ap (λ (x : Bytes). paste x i c (length c)) (s₀ ∙ ap (λ (x : Bytes). p ++ (x ++ z)) (sym (take-append-drop (length c) (b ++ c))) ∙ ap (λ (x : Bytes). p ++ x) (append-assoc v t z))
+    ∙ ap (λ (x : Bytes). paste x i c (length c)) (s₀ ∙ ap (λ (x : Bytes). p ++ (x ++ z)) (sym (take-append-drop (length c) (b ++ c))) ∙ ap
+    (λ (x : Bytes). p ++ x) (append-assoc v t z))
     ∙ paste-over p v (t ++ z) c i lp lv
     ∙ sym (append-assoc p c (t ++ z))) in
     let lz : length (zeros k) ≡ k = length-replicate k 0 in
@@ -151,7 +164,8 @@ pub package-room : {s : Bytes} {u : ℕ} {d f : Bytes} → Room s u (loaded d f)
 package-room {s} {u} {d} {f} r = subst (RoomBy s u) (loaded-length d f) (room-by r)
 
 -- an entry appended, for whatever entries the buffer reads as
-pub appended-is : (s t : Bytes) (u : ℕ) (e : Entry) (w : Bytes) (n : ℕ) → Room s u e → w ≡ entryBytes e → length w ≡ n → t ≡ paste (paste s u w n) 5 (two (u + n)) 2 → Appended s t e
+pub appended-is : (s t : Bytes) (u : ℕ) (e : Entry) (w : Bytes) (n : ℕ) → Room s u e → w ≡ entryBytes e → length w ≡ n → t ≡ paste (paste s u w n) 5
+    (two (u + n)) 2 → Appended s t e
 appended-is s t u e w n r q l h es reads =
     let z : r .laid .0 ≡ es = Option·some-injective _ _ (sym (r .laid .1 .reads) ∙ reads) in
     let b = room-by r in
@@ -176,9 +190,17 @@ cut-by {s} {u} {i} {j} c =
     let f = found-at (c .test) s 7 (c .laid .0) (used (c .laid .0)) i j x (c .place) in
     let a = entries-to s 7 (f .before) i (f .earlier) in
     let b = entries-to s j (f .after) (used (c .laid .0)) (f .later) in
-    record { from = a .0; entry = omega (arith, entry-next s i (f .one) j (f .stands)); to = omega (arith, c .laid .2, b .0); inside = omega (arith, c .laid .2, b .1); small = c .small }
+    record {
+      from = a .0;
+      entry = omega (arith, entry-next s i (f .one) j (f .stands));
+      to = omega (arith, c .laid .2, b .0);
+      inside = omega
+          (arith, c .laid .2, b .1);
+      small = c .small;
+    }
 
-pub cut-is : (s t : Bytes) (u i j k : ℕ) → CutAt s u i j → k ≡ j - i → t ≡ paste (paste (paste s i (drop j s) (u - j)) (u - k) (replicate k 0) k) 5 (two (u - k)) 2 → CutOut s t i j
+pub cut-is : (s t : Bytes) (u i j k : ℕ) → CutAt s u i j → k ≡ j - i → t ≡ paste (paste (paste s i (drop j s) (u - j)) (u - k) (replicate k 0) k) 5
+    (two (u - k)) 2 → CutOut s t i j
 cut-is s t u i j k c n h es q reads place =
     let z : c .laid .0 ≡ es = Option·some-injective _ _ (sym (c .laid .1 .reads) ∙ reads) in
     let m : u ≡ used es = c .laid .2 ∙ ap used z in
@@ -187,7 +209,8 @@ cut-is s t u i j k c n h es q reads place =
     let b : s ≡ write (length s) es = c .laid .1 .bytes ∙ ap (write (length s)) z in
     h
     ∙ ap (λ (x : ℕ). paste (paste (paste s i (drop j s) (x - j)) (x - k) (replicate k 0) k) 5 (two (x - k)) 2) m
-    ∙ cut-out s es (f .before) (f .one) (f .after) i j k b (f .are) ((entries-to s 7 es (used es) r) .1) (sym (entries-next s 7 (f .before) i (f .earlier))) (sym (entry-next s i (f .one) j (f .stands))) n
+    ∙ cut-out s es (f .before) (f .one) (f .after) i j k b (f .are) ((entries-to s 7 es (used es) r) .1)
+    (sym (entries-next s 7 (f .before) i (f .earlier))) (sym (entry-next s i (f .one) j (f .stands))) n
     ∙ ap (write (length s)) (sym (f .left))
 
 -- a domain appended: kind and length, the AID, the used field
@@ -196,14 +219,16 @@ pub domain-appended : (s s₁ s₂ t : Bytes) (u : ℕ) (a : Aid) → Room s u (
 domain-appended s s₁ s₂ t u a r e₁ e₂ e₃ =
     let b = room-by r in
     let h₃ : Bytes = 1 ∷ two (length a) in
-    let q₂ : s₂ ≡ paste s u (h₃ ++ a) (3 + length a) = e₂ ∙ ap (λ (x : Bytes). paste x (u + 3) a (length a)) e₁ ∙ paste-join s u h₃ a 3 (length a) (omega (arith, b .to)) refl refl in
+    let q₂ : s₂ ≡ paste s u (h₃ ++ a) (3 + length a) = e₂ ∙ ap (λ (x : Bytes). paste x (u + 3) a (length a)) e₁ ∙ paste-join s u h₃ a 3 (length a)
+    (omega (arith, b .to)) refl refl in
     let v : u + 3 + length a ≡ u + (3 + length a) = omega arith in
     let l : length (h₃ ++ a) ≡ 3 + length a = omega arith in
     appended-is s t u (domain a) (h₃ ++ a) (3 + length a) r refl l (e₃ ∙ ap₂ (λ (x : Bytes) (k : ℕ). paste x 5 (two k) 2) q₂ v)
 
 -- a package appended: kind and length, the domain's length, the domain, the file, the used field
 pub package-appended : (s s₁ s₂ s₃ t : Bytes) (u : ℕ) (d f : Bytes) → Room s u (loaded d f) →
-    s₁ ≡ paste s u (2 ∷ two (1 + length d + length f)) 3 → s₂ ≡ paste (set s₁ (u + 3) (length d)) (u + 4) d (length d) → s₃ ≡ paste s₂ (u + 4 + length d) f (length f) → t ≡ paste s₃ 5 (two (u + 3 + (1 + length d + length f))) 2 → Appended s t (loaded d f)
+    s₁ ≡ paste s u (2 ∷ two (1 + length d + length f)) 3 → s₂ ≡ paste (set s₁ (u + 3) (length d)) (u + 4) d (length d) → s₃ ≡ paste s₂ (u + 4 + length d)
+    f (length f) → t ≡ paste s₃ 5 (two (u + 3 + (1 + length d + length f))) 2 → Appended s t (loaded d f)
 package-appended s s₁ s₂ s₃ t u d f r e₁ e₂ e₃ e₄ =
     let b = package-room r in
     let l = loaded-length d f in
@@ -212,8 +237,10 @@ package-appended s s₁ s₂ s₃ t u d f r e₁ e₂ e₃ e₄ =
     let to : u ≤ length s = omega (arith, b .to) in
     let l₁ : length s₁ ≡ length s = ap length e₁ ∙ length-paste s u h₃ 3 (omega (arith, b .to)) (omega arith) in
     let q₁ : set s₁ (u + 3) (length d) ≡ paste s u h₄ 4 =
-    (set-one s₁ (u + 3) (length d) (omega (arith, b .to)) ∙ ap (λ (x : Bytes). paste x (u + 3) (length d ∷ []) 1) e₁ ∙ paste-join s u h₃ (length d ∷ []) 3 1 to refl refl) in
-    let q₂ : s₂ ≡ paste s u (h₄ ++ d) (4 + length d) = e₂ ∙ ap (λ (x : Bytes). paste x (u + 4) d (length d)) q₁ ∙ paste-join s u h₄ d 4 (length d) to refl refl in
+    (set-one s₁ (u + 3) (length d) (omega (arith, b .to)) ∙ ap (λ (x : Bytes). paste x (u + 3) (length d ∷ []) 1) e₁ ∙ paste-join s u h₃ (length d ∷ []) 3
+    1 to refl refl) in
+    let q₂ : s₂ ≡ paste s u (h₄ ++ d) (4 + length d) = e₂ ∙ ap (λ (x : Bytes). paste x (u + 4) d (length d)) q₁ ∙ paste-join s u h₄ d 4 (length d) to refl
+    refl in
     let m : u + 4 + length d ≡ u + (4 + length d) = omega arith in
     let lh : length (h₄ ++ d) ≡ 4 + length d = omega arith in
     let q₃ : s₃ ≡ paste s u ((h₄ ++ d) ++ f) (4 + length d + length f) =

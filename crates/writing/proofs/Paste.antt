@@ -16,7 +16,8 @@ pub set-two : (d : Bytes) (at a b : ℕ) → at + 1 < length d → set (set d at
 set-two d at a b h = ap (λ (k : ℕ). set (set d at a) k b) (add-one at) ∙ sets-eq (a ∷ b ∷ []) d at (omega arith)
 
 -- a turn of a loop that pastes w
-pub paste-more : (d : Bytes) (at : ℕ) (w : Bytes) (j v : ℕ) → at + j < length d → j < length w → v ≡ getD w j 0 → set (paste d at w j) (at + j) v ≡ paste d at w (j + 1)
+pub paste-more : (d : Bytes) (at : ℕ) (w : Bytes) (j v : ℕ) → at + j < length d → j < length w → v ≡ getD w j 0 → set (paste d at w j) (at + j) v ≡ paste
+    d at w (j + 1)
 paste-more d at w j v hd hw e =
     ap (set (paste d at w j) (at + j)) e ∙ paste-suc d at w j 0 hd hw ∙ ap (paste d at w) (sym (add-one j))
 
@@ -47,12 +48,16 @@ paste-take d at w n v e l =
     ∙ ap (λ (k : ℕ). take at d ++ take (length v) v ++ drop (at + k) d) (sym l)
 
 -- a paste, and another one behind it
-pub paste-join : (d : Bytes) (at : ℕ) (v w : Bytes) (m n : ℕ) → at ≤ length d → length v ≡ m → length w ≡ n → paste (paste d at v m) (at + m) w n ≡ paste d at (v ++ w) (m + n)
+pub paste-join : (d : Bytes) (at : ℕ) (v w : Bytes) (m n : ℕ) → at ≤ length d → length v ≡ m → length w ≡ n → paste (paste d at v m) (at + m) w n ≡ paste
+    d at (v ++ w) (m + n)
 paste-join d at v w m n h a b =
-    let t : take (at + m) (paste d at v m) ≡ take at d ++ v = take-paste d at v m h (omega arith) ∙ ap (λ (x : Bytes). take at d ++ x) (ap (λ (k : ℕ). take k v) (sym a) ∙ take-length v) in
+    let t : take (at + m) (paste d at v m) ≡ take at d ++ v = take-paste d at v m h (omega arith) ∙ ap (λ (x : Bytes). take at d ++ x)
+    (ap (λ (k : ℕ). take k v) (sym a) ∙ take-length v) in
     let r : drop (at + m + n) (paste d at v m) ≡ drop (at + (m + n)) d =
-    (sym (drop-drop n (at + m) (paste d at v m)) ∙ ap (drop n) (drop-paste d at v m h (omega arith)) ∙ drop-drop n (at + m) d ∙ ap (λ (k : ℕ). drop k d) (let e : at + m + n ≡ at + (m + n) = omega arith in e)) in
+    (sym (drop-drop n (at + m) (paste d at v m)) ∙ ap (drop n) (drop-paste d at v m h (omega arith)) ∙ drop-drop n (at + m) d ∙ ap (λ (k : ℕ). drop k d)
+    (let e : at + m + n ≡ at + (m + n) = omega arith in e)) in
     let l : m + n ≡ length (v ++ w) = sym (length-append v w ∙ ap₂ _+_ a b) in
     ap₂ (λ (x y : Bytes). x ++ take n w ++ y) t r
     ∙ ap (λ (x : Bytes). ((take at d ++ v) ++ x) ++ drop (at + (m + n)) d) (ap (λ (k : ℕ). take k w) (sym b) ∙ take-length w)
-    ∙ ap (λ (x : Bytes). x ++ drop (at + (m + n)) d) (append-assoc (take at d) v w ∙ ap (λ (x : Bytes). take at d ++ x) (sym (ap (λ (k : ℕ). take k (v ++ w)) l ∙ take-length (v ++ w))))
+    ∙ ap (λ (x : Bytes). x ++ drop (at + (m + n)) d) (append-assoc (take at d) v w ∙ ap (λ (x : Bytes). take at d ++ x)
+    (sym (ap (λ (k : ℕ). take k (v ++ w)) l ∙ take-length (v ++ w))))

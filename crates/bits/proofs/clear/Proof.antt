@@ -28,13 +28,22 @@ loop-less : tie.Need-loop-less Inv-loop μ-loop
 loop-less c = simp length-set (omega arith)
 
 loop-again : tie.Need-loop-again Inv-loop μ-loop
-loop-again c = (simp length-set (omega arith), simp length-set (omega arith), zeros-more (c .before .loop .s) (c .before .loop .i) (c .loop-test .taken) (c .before .loop .inv .2))
+loop-again c = (
+  simp length-set (omega arith),
+  simp length-set (omega arith),
+  zeros-more (c .before .loop .s) (c .before .loop .i) (c .loop-test .taken)
+      (c .before .loop .inv .2),
+)
 
 same-length : tie.Need-same-length Inv-loop μ-loop
 same-length c = search needs
 
 returns : tie.Need-returns Inv-loop μ-loop
-returns c = (zero-bits (c .before .loop .s) (λ k h. c .before .loop .inv .2 k (omega (arith, h))), zero-halves (c .before .loop .s) (λ k h. c .before .loop .inv .2 k (omega (arith, h))))
+returns c = (
+  zero-bits (c .before .loop .s) (λ k h. c .before .loop .inv .2 k (omega (arith, h))),
+  zero-halves (c .before .loop .s)
+      (λ k h. c .before .loop .inv .2 k (omega (arith, h))),
+)
 
 pub clear-spec : {M : Type 1} → statement M
 clear-spec =

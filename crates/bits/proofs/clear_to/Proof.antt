@@ -28,13 +28,23 @@ loop-less : tie.Need-loop-less Inv-loop μ-loop
 loop-less c = search needs
 
 loop-again : tie.Need-loop-again Inv-loop μ-loop
-loop-again c = (simp length-set (omega arith), omega arith, simp length-set (omega arith), zeros-more (c .before .loop .s) (c .before .loop .i) (omega arith) (c .before .loop .inv .3))
+loop-again c = (
+  simp length-set (omega arith),
+  omega arith,
+  simp length-set (omega arith),
+  zeros-more (c .before .loop .s) (c .before .loop .i)
+      (omega arith) (c .before .loop .inv .3),
+)
 
 same-length : tie.Need-same-length Inv-loop μ-loop
 same-length c = search needs
 
 returns : tie.Need-returns Inv-loop μ-loop
-returns c = (λ j h. zero-bit (c .before .loop .s) j (c .before .loop .inv .3 (j / 8) (omega arith)), λ j h. zero-half (c .before .loop .s) j (c .before .loop .inv .3 (j / 2) (omega arith)))
+returns c = (
+  λ j h. zero-bit (c .before .loop .s) j (c .before .loop .inv .3 (j / 8) (omega arith)),
+  λ j h. zero-half (c .before .loop .s) j
+      (c .before .loop .inv .3 (j / 2) (omega arith)),
+)
 
 pub clear-to-spec : {M : Type 1} → statement M
 clear-to-spec =

@@ -15,7 +15,9 @@ div-result : tie.Need-div-result
 div-result c = search needs
 
 returns : tie.Need-returns
-returns c = bit-is-test (now (c .before .before .before .args .s)) (c .before .before .before .args .i) (c .power .result) (c .power .ensures .0)
+returns c =
+    let a = c .before .before .before .args in
+    bit-is-test (now (a .s)) (a .i) (c .power .result) (c .power .ensures .0)
 
 pub get-spec : {M : Type 1} → statement M
 get-spec = tie.close (tie.spec shared-slice-read-result power-requires div-result returns)

@@ -14,7 +14,11 @@ returns : tie.Need-returns
 returns c = (half-low (now (c .before .before .args .s)) (c .before .before .args .i) (c .if1 .taken), omega arith)
 
 returns-2 : tie.Need-returns-2
-returns-2 c = (half-high (now (c .before .before .args .s)) (c .before .before .args .i) (c .if1 .left), omega (arith, c .before .shared-slice-known .given (c .before .before .args .i / 2)))
+returns-2 c = (
+  half-high (now (c .before .before .args .s)) (c .before .before .args .i) (c .if1 .left),
+  omega
+      (arith, c .before .shared-slice-known .given (c .before .before .args .i / 2)),
+)
 
 pub half-get-spec : {M : Type 1} → statement M
 half-get-spec = tie.close (tie.spec shared-slice-read-w returns returns-2)

@@ -23,7 +23,8 @@ same-length : tie.Need-same-length
 same-length c = search needs
 
 returns : tie.Need-returns
-returns c = put-low (now (c .before .before .args .s)) (c .before .before .args .i) (c .before .before .args .v) (c .before .before .pre .0) (c .before .before .pre .1) (c .if1 .taken)
+returns c = put-low (now (c .before .before .args .s)) (c .before .before .args .i) (c .before .before .args .v) (c .before .before .pre .0)
+    (c .before .before .pre .1) (c .if1 .taken)
 
 mul-s-2 : tie.Need-mul-s-2
 mul-s-2 c = search needs
@@ -38,7 +39,8 @@ same-length-2 : tie.Need-same-length-2
 same-length-2 c = search needs
 
 returns-2 : tie.Need-returns-2
-returns-2 c = put-high (now (c .before .before .args .s)) (c .before .before .args .i) (c .before .before .args .v) (c .before .before .pre .0) (c .before .before .pre .1) (c .if1 .left)
+returns-2 c = put-high (now (c .before .before .args .s)) (c .before .before .args .i) (c .before .before .args .v) (c .before .before .pre .0)
+    (c .before .before .pre .1) (c .if1 .left)
 
 pub half-put-spec : {M : Type 1} → statement M
 half-put-spec =

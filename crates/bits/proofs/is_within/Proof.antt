@@ -27,7 +27,12 @@ shared-slice-read-if1-3 : tie.Need-shared-slice-read-if1-3 Inv-loop μ-loop
 shared-slice-read-if1-3 c = search needs
 
 returns : tie.Need-returns Inv-loop μ-loop
-returns c = let a = c .before .before .before .before .before .before .args in within-not (now (a .a)) (now (a .b)) (c .before .before .before .before .before .loop .i) (c .before .before .before .shared-slice-known .given (c .before .before .before .before .before .loop .i) .fits) (c .if1 .taken)
+returns c =
+    let c1 = c .before .before .before in
+    let c2 = c1 .before .before in
+    let loop = c2 .loop in
+    let a-told = c2 .before .args in
+    let a = a-told in within-not (now (a .a)) (now (a .b)) (loop .i) (c1 .shared-slice-known .given (loop .i) .fits) (c .if1 .taken)
 
 add-i : tie.Need-add-i Inv-loop μ-loop
 add-i c = search needs
@@ -36,7 +41,11 @@ loop-less : tie.Need-loop-less Inv-loop μ-loop
 loop-less c = search needs
 
 loop-again : tie.Need-loop-again Inv-loop μ-loop
-loop-again c = let a = c .before .before .before .before .before .before .args in within-more (now (a .a)) (now (a .b)) (c .before .before .before .before .before .loop .i) (c .before .before .before .before .before .loop .inv) (c .if1 .left)
+loop-again c =
+    let c1 = c .before .before .before .before .before in
+    let loop = c1 .loop in
+    let a-told = c1 .before .args in
+    let a = a-told in within-more (now (a .a)) (now (a .b)) (loop .i) (loop .inv) (c .if1 .left)
 
 returns-2 : tie.Need-returns-2 Inv-loop μ-loop
 returns-2 c = let a = c .before .before .args in within-all (now (a .a)) (now (a .b)) (c .before .loop .i) (c .loop-test .left) (c .before .loop .inv)

@@ -18,7 +18,9 @@ same-length : tie.Need-same-length
 same-length c = search needs
 
 returns : tie.Need-returns
-returns c = λ j. let a = c .before .before .before .args in set-case (now (a .s)) (a .i) (c .power .result) (c .power .ensures .0) (c .before .before .before .pre) j
+returns c =
+    let start = c .before .before .before in
+    λ j. let a = start .args in set-case (now (a .s)) (a .i) (c .power .result) (c .power .ensures .0) (start .pre) j
 
 pub set-spec : {M : Type 1} → statement M
 set-spec = tie.close (tie.spec slice-read-w power-requires slice-write-s same-length returns)

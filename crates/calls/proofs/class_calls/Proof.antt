@@ -4,59 +4,77 @@ use mathlib.Core.Path.{_≡_, refl}
 use lib.ListN.{length}
 use denote.Ref.{now}
 use borrow.Author.Needs.{needs}
-use Rattle.rules.specs.Package.{storeLimits}
-use Rattle.files.specs.Say.{ClassThere}
+use Rattle.files.specs.Say.{Methods}
 use Rattle.files.proofs.Steps as steps
 use Rattle.calls.specs.Maps.{TablesTrue}
 use Rattle.calls.specs.Calls.{OwnMethod}
 use Rattle.calls.proofs.Asked as asked
+use Rattle.calls.proofs.Walked as walked
 use Rattle.calls.proofs.class_calls.Statement.{statement}
 use Rattle.calls.proofs.class_calls.Tie as tie
 
 abbrev Inv-loop : tie.InvT-loop
 Inv-loop f s domain table a homes rows₀ map₀ start left₀ c₀ number₀ rows map left c number =
-    (length rows ≡ length rows₀) × (length map ≡ length map₀) × TablesTrue f s (a .end) domain homes rows map × asked.MethodsLoop f s (a .end) domain start number left c
+    (length rows ≡ length rows₀) × (length map ≡ length map₀) × TablesTrue f s (a .end) domain homes rows map
+    × walked.MethodsLoop f s (a .end) domain start number left c
 
 abbrev μ-loop : tie.MeasureT-loop
 μ-loop f s domain table a homes rows₀ map₀ start left₀ c₀ number₀ rows map left c number = left
 
--- the class
-there : (k : tie.Start Inv-loop μ-loop) → ClassThere (now (k .args .f)) (k .args .a .at)
-there k = let g = k .pre .0 .0 in (storeLimits (now (k .args .s)), g .1 .pack .domains, (g .3 .0, g .3 .1, g .3 .2))
+-- the function's start, where the loop stands
+abbrev start : tie.At-loop Inv-loop μ-loop → tie.Start Inv-loop μ-loop
+start k = k .before .before .before .before .before .before .before .before .before
+
+-- the list of methods
+methods : (k : tie.After-methods-of Inv-loop μ-loop) → Methods (now (k .before .before .before .before .before .before .args .f)) (k .methods-of .result)
+methods k = steps.methods-there (k .methods-of .ensures) (asked.class-there (k .before .before .before .before .before .before .pre .0 .0))
 
 -- the method at hand
-method : (k : tie.In-loop Inv-loop μ-loop) → OwnMethod (now (k .before .before .before .before .before .before .before .before .before .before .args .f)) (now (k .before .before .before .before .before .before .before .before .before .before .args .s)) (k .before .before .before .before .before .before .before .before .before .before .args .a .end) (k .before .loop .c)
-method k = asked.methods-one (k .before .before .before .before .methods-of .result) (k .before .loop .number) (k .before .loop .inv .3) (k .loop-test .taken)
+method : (k : tie.In-loop Inv-loop μ-loop) →
+    let a = start (k .before) .args in
+    OwnMethod (now (a .f)) (now (a .s)) (a .a .end) (k .before .loop .c)
+method k =
+    let o = k .before .loop in
+    walked.methods-one (k .before .before .before .before .methods-of .result) (o .number) (o .inv .3) (k .loop-test .taken)
 
 methods-of-requires : tie.Need-methods-of-requires Inv-loop μ-loop
-methods-of-requires c κs = there (c .before .before .before .before .before)
+methods-of-requires c κs =
+    let pre = c .before .before .before .before .before .pre in
+    asked.class-there (pre .0 .0)
 
 shared-slice-read-wide : tie.Need-shared-slice-read-wide Inv-loop μ-loop
-shared-slice-read-wide c = steps.methods-in (steps.methods-there (c .before .methods-of .ensures) (there (c .before .before .before .before .before .before .before)))
+shared-slice-read-wide c = steps.methods-in (methods (c .before))
 
 wide-requires : tie.Need-wide-requires Inv-loop μ-loop
 wide-requires c κs = search needs
 
 add-c : tie.Need-add-c Inv-loop μ-loop
-add-c c = omega (arith, steps.methods-in (steps.methods-there (c .before .before .methods-of .ensures) (there (c .before .before .before .before .before .before .before .before))))
+add-c c = omega (arith, steps.methods-in (methods (c .before .before)))
 
 loop-holds : tie.Need-loop-holds Inv-loop μ-loop
-loop-holds c = (refl, refl, c .before .before .before .before .before .before .before .before .pre .1 .1, asked.methods-begin (c .before .before .before .before .before .before .before .before .pre .0 .0) (c .before .before .methods-of .ensures) (c .wide .ensures .0))
+loop-holds c =
+    let c1 = c .before .before in
+    let b = c1 .before .before .before .before .before .before in
+    (refl, refl, b .pre .1 .1, walked.methods-begin (b .pre .0 .0) (c1 .methods-of .ensures) (c .wide .ensures .0))
 
 asker-at-requires : tie.Need-asker-at-requires Inv-loop μ-loop
 asker-at-requires c κs = search needs
 
 method-calls-requires : tie.Need-method-calls-requires Inv-loop μ-loop
 method-calls-requires c κs =
-    let b = c .before .before .before .before .before .before .before .before .before .before .before .before .before in
+    let c1 = c .before .before in
+    let k = c1 .before in
+    let b = start (k .before) in
     let t = b .pre .1 .0 in
-    rw (c .before .before .asker-at .ensures) ((method (c .before .before .before), b .pre .0 .1), (record { file = t .file; loading = t .loading }, c .before .before .before .before .loop .inv .2))
+    rw (c1 .asker-at .ensures) ((method k, b .pre .0 .1), (record { file = t .file; loading = t .loading }, k .before .loop .inv .2))
 
 first-no-requires : tie.Need-first-no-requires Inv-loop μ-loop
 first-no-requires c κs = search needs
 
 after-method-requires : tie.Need-after-method-requires Inv-loop μ-loop
-after-method-requires c κs = let g = method (c .before .before .before .before .before .before .before .before .before) in (storeLimits (now (c .before .before .before .before .before .before .before .before .before .before .before .before .before .before .before .before .before .before .before .args .s)), g .1 .pack .domains, (g .3 .0, g .3 .1, g .3 .2))
+after-method-requires c κs =
+    let earlier = c .before .before .before .before .before .before .before .before .before in
+    asked.method-there (method earlier)
 
 sub-left : tie.Need-sub-left Inv-loop μ-loop
 sub-left c = omega arith
@@ -66,12 +84,18 @@ loop-less c = omega arith
 
 loop-again : tie.Need-loop-again Inv-loop μ-loop
 loop-again c =
-    let o = c .before .before .before .before .before .before .before .before .before .before .before .loop in
-    let e = rw (c .before .before .before .before .before .before .before .before .before .asker-at .ensures) at (c .before .before .before .before .before .before .method-calls .ensures) in (
-      omega (arith, c .before .before .before .before .before .before .method-calls .kept, o .inv .0),
-      omega (arith, c .before .before .before .before .before .before .method-calls .kept, o .inv .1),
+    let c1 = c .before .before .before .before .before .before in
+    let m = c1 .method-calls in
+    let c2 = c1 .before .before .before in
+    let k = c2 .before in
+    let o = k .before .loop in
+    let n = c .before .first-no in
+    let e = rw (c2 .asker-at .ensures) at (m .ensures) in (
+      omega (arith, m .kept, o .inv .0),
+      omega (arith, m .kept, o .inv .1),
       e .1,
-      asked.methods-on (c .before .before .before .before .before .before .before .before .before .before .before .before .before .before .methods-of .result) (o .number) (o .inv .3) (c .before .before .before .before .before .before .method-calls .result) (c .before .first-no .result) (c .after-method .result) (c .before .before .before .before .before .before .before .before .before .before .loop-test .taken) (e .0) (c .before .first-no .ensures) (c .after-method .ensures),
+      walked.methods-on (k .before .before .before .before .methods-of .result) (o .number) (o .inv .3) (m .result) (n .result) (c .after-method .result)
+          (k .loop-test .taken) (e .0) (n .ensures) (c .after-method .ensures),
     )
 
 same-length : tie.Need-same-length Inv-loop μ-loop
@@ -81,7 +105,10 @@ same-length-2 : tie.Need-same-length-2 Inv-loop μ-loop
 same-length-2 c = c .before .loop .inv .1
 
 returns : tie.Need-returns Inv-loop μ-loop
-returns c = (asked.methods-end (c .before .before .before .before .methods-of .result) (c .before .loop .number) (c .before .loop .inv .3) (c .loop-test .left) (c .before .before .before .before .methods-of .ensures), c .before .loop .inv .2)
+returns c =
+    let m = c .before .before .before .before .methods-of in
+    let o = c .before .loop in
+    (walked.methods-end (m .result) (o .number) (o .inv .3) (c .loop-test .left) (m .ensures), o .inv .2)
 
 pub class-calls-spec : {M : Type 1} → statement M
 class-calls-spec =

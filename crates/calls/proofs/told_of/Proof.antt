@@ -1,5 +1,5 @@
 -- `calls::told_of` meets its contract. Assumes nothing.
-use mathlib.Core.Path.{_≡_, refl}
+use mathlib.Core.Path.{refl}
 use denote.Ref.{now}
 use borrow.Author.Needs.{needs}
 use Rattle.files.proofs.Walks.{domains-read, imports-there, file-references}
@@ -12,16 +12,23 @@ imports-at-requires : tie.Need-imports-at-requires
 imports-at-requires c κs = c .before .before .pre
 
 shared-slice-read-wide : tie.Need-shared-slice-read-wide
-shared-slice-read-wide c = look.imports-in (c .before .imports-at .ensures) (c .before .before .before .before .pre)
+shared-slice-read-wide c =
+    let pre = c .before .before .before .before .pre in
+    look.imports-in (c .before .imports-at .ensures) pre
 
 wide-requires : tie.Need-wide-requires
 wide-requires c κs = search needs
 
 after-aids-requires : tie.Need-after-aids-requires
-after-aids-requires c κs = imports-there (c .before .before .imports-at .ensures) (c .before .before .before .before .before .pre)
+after-aids-requires c κs =
+    let c1 = c .before .before in
+    let pre = c1 .before .before .before .pre in
+    imports-there (c1 .imports-at .ensures) pre
 
 domains-at-requires : tie.Need-domains-at-requires
-domains-at-requires c κs = c .before .before .before .before .before .before .pre
+domains-at-requires c κs =
+    let pre = c .before .before .before .before .before .before .pre in
+    pre
 
 number-of-requires : tie.Need-number-of-requires
 number-of-requires c κs =
@@ -31,11 +38,18 @@ number-of-requires c κs =
 
 returns : tie.Need-returns
 returns c =
-    let a = c .before .before .before .before .before .before .before .before .args in (
+    let c1 = c .before .before in
+    let c2 = c1 .before in
+    let n = c2 .wide in
+    let c3 = c2 .before .before in
+    let a = c3 .before .before .before .args in
+    let i = c3 .imports-at .ensures in (
       refl,
       λ s g. record {
-        file = (look.imports-count (c .before .before .before .wide .result) (c .before .before .before .before .before .imports-at .ensures) (c .before .before .before .wide .ensures .0), file-references (c .before .before .before .before .before .imports-at .ensures) (c .before .before .after-aids .ensures));
-        loading = covers.loading-told (now (a .f)) s (now (a .domain)) (c .before .domains-at .result) (c .before .domains-at .ensures) (g .1 .pack) (g .2 .setting .reads) (c .number-of .result) (c .number-of .ensures .0);
+        file = (look.imports-count (n .result) i (n .ensures .0), file-references i (c1 .after-aids .ensures));
+        loading =
+            covers.loading-told (now (a .f)) s (now (a .domain)) (c .before .domains-at .result) (c .before .domains-at .ensures) (g .1 .pack)
+            (g .2 .setting .reads) (c .number-of .result) (c .number-of .ensures .0);
       },
     )
 

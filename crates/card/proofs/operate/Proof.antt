@@ -12,8 +12,9 @@ enum-known-form c = search needs
 
 slice-aggregate-loader-create : tie.Need-slice-aggregate-loader-create
 slice-aggregate-loader-create c =
-    let pre = c .before .before .before .before .before .before .before .pre in
-    sym (length-take-le _ _ (ends _ (c .before .before .before .form .given .1) (pre .1)))
+    let c1 = c .before .before .before in
+    let pre = c1 .before .before .before .before .pre in
+    sym (length-take-le _ _ (ends _ (c1 .form .given .1) (pre .1)))
 
 loader-create-requires : tie.Need-loader-create-requires
 loader-create-requires c κs = search needs
@@ -23,8 +24,9 @@ enum-known-form-2 c = search needs
 
 slice-aggregate-loader-delete : tie.Need-slice-aggregate-loader-delete
 slice-aggregate-loader-delete c =
-    let pre = c .before .before .before .before .before .before .before .pre in
-    sym (length-take-le _ _ (ends _ (c .before .before .before .form2 .given .1) (pre .1)))
+    let c1 = c .before .before .before in
+    let pre = c1 .before .before .before .before .pre in
+    sym (length-take-le _ _ (ends _ (c1 .form2 .given .1) (pre .1)))
 
 loader-delete-requires : tie.Need-loader-delete-requires
 loader-delete-requires c κs = search needs
@@ -34,8 +36,9 @@ enum-known-form-3 c = search needs
 
 slice-aggregate-loader-remove : tie.Need-slice-aggregate-loader-remove
 slice-aggregate-loader-remove c =
-    let pre = c .before .before .before .before .before .before .before .pre in
-    sym (length-take-le _ _ (ends _ (c .before .before .before .form3 .given .1) (pre .1)))
+    let c1 = c .before .before .before in
+    let pre = c1 .before .before .before .before .pre in
+    sym (length-take-le _ _ (ends _ (c1 .form3 .given .1) (pre .1)))
 
 loader-remove-requires : tie.Need-loader-remove-requires
 loader-remove-requires c κs = search needs
@@ -45,24 +48,28 @@ enum-known-form-4 c = search needs
 
 slice-aggregate-loader-load : tie.Need-slice-aggregate-loader-load
 slice-aggregate-loader-load c =
-    let pre = c .before .before .before .before .before .before .before .pre in
-    let same = c .before .before .before .form4 .given .1 in
+    let c1 = c .before .before .before in
+    let pre = c1 .before .before .before .before .pre in
+    let same = c1 .form4 .given .1 in
     sym (length-take-le _ _ (first-within _ same (pre .0) (pre .1)))
 
 sub-loader-load : tie.Need-sub-loader-load
 sub-loader-load c =
-    let pre = c .before .before .before .before .before .before .before .pre in
-    middles (c .before .before .before .form4 .given .1) (pre .0)
+    let c1 = c .before .before .before in
+    let pre = c1 .before .before .before .before .pre in
+    middles (c1 .form4 .given .1) (pre .0)
 
 part-loader-load-start : tie.Need-part-loader-load-start
 part-loader-load-start c =
-    let pre = c .before .before .before .before .before .before .before .pre in
-    middles (c .before .before .before .form4 .given .1) (pre .0)
+    let c1 = c .before .before .before in
+    let pre = c1 .before .before .before .before .pre in
+    middles (c1 .form4 .given .1) (pre .0)
 
 part-loader-load-end : tie.Need-part-loader-load-end
 part-loader-load-end c =
-    let pre = c .before .before .before .before .before .before .before .pre in
-    ends _ (c .before .before .before .form4 .given .1) (pre .1)
+    let c1 = c .before .before .before in
+    let pre = c1 .before .before .before .before .pre in
+    ends _ (c1 .form4 .given .1) (pre .1)
 
 loader-load-requires : tie.Need-loader-load-requires
 loader-load-requires c κs = search needs

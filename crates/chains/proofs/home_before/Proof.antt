@@ -16,22 +16,47 @@ loop-holds : tie.Need-loop-holds Inv-loop μ-loop
 loop-holds c = (omega arith, λ j u v. absurd (omega arith))
 
 link-home-requires : tie.Need-link-home-requires Inv-loop μ-loop
-link-home-requires c κs = (c .loop-test .taken, c .before .before .before .pre .1)
+link-home-requires c κs =
+    let pre = c .before .before .before .pre in
+    (c .loop-test .taken, pre .1)
 
 returns : tie.Need-returns Inv-loop μ-loop
-returns c = running.home-found (now (c .before .before .before .before .before .before .args .names)) (c .before .before .before .before .before .before .args .i) (c .before .before .before .before .before .before .args .q) (c .before .before .before .before .loop .k) (c .before .before .before .before .loop .inv .1) (c .before .before .link-home .result) (c .before .before .before .before .loop .inv .0) (c .before .before .link-home .ensures) (c .if1 .taken)
+returns c =
+    let c1 = c .before .before in
+    let link-home = c1 .link-home in
+    let c2 = c1 .before .before in
+    let loop = c2 .loop in
+    let a = c2 .before .before .args in
+    running.home-found (now (a .names)) (a .i) (a .q) (loop .k) (loop .inv .1) (link-home .result) (loop .inv .0) (link-home .ensures) (c .if1 .taken)
 
 add-k : tie.Need-add-k Inv-loop μ-loop
-add-k c = omega (arith, c .before .before .before .loop-test .taken)
+add-k c =
+    let loop-test = c .before .before .before .loop-test in
+    omega (arith, loop-test .taken)
 
 loop-less : tie.Need-loop-less Inv-loop μ-loop
-loop-less c = omega (arith, c .before .before .before .loop-test .taken)
+loop-less c =
+    let loop-test = c .before .before .before .loop-test in
+    omega (arith, loop-test .taken)
 
 loop-again : tie.Need-loop-again Inv-loop μ-loop
-loop-again c = (omega (arith, c .before .before .before .before .loop .inv .0), running.home-next (now (c .before .before .before .before .before .before .args .names)) (c .before .before .before .before .before .before .args .i) (c .before .before .before .before .before .before .args .q) (c .before .before .before .before .loop .k) (c .before .before .before .before .loop .inv .1) (c .before .before .link-home .result) (c .before .before .link-home .ensures) (c .if1 .left))
+loop-again c =
+    let c1 = c .before .before in
+    let link-home = c1 .link-home in
+    let c2 = c1 .before .before in
+    let loop = c2 .loop in
+    let a = c2 .before .before .args in (
+      omega (arith, loop .inv .0),
+      running.home-next (now (a .names)) (a .i) (a .q) (loop .k) (loop .inv .1) (link-home .result) (link-home .ensures)
+          (c .if1 .left),
+    )
 
 returns-2 : tie.Need-returns-2 Inv-loop μ-loop
-returns-2 c = running.home-none (now (c .before .before .before .args .names)) (c .before .before .before .args .i) (c .before .before .before .args .q) (c .before .loop .k) (c .before .loop .inv .1) (record { from = 0; to = 0; before = 0 }) (c .before .before .before .pre .0) (c .loop-test .left)
+returns-2 c =
+    let start = c .before .before .before in
+    let a = start .args in
+    running.home-none (now (a .names)) (a .i) (a .q) (c .before .loop .k) (c .before .loop .inv .1) (record { from = 0; to = 0; before = 0 })
+    (start .pre .0) (c .loop-test .left)
 
 pub home-before-spec : {M : Type 1} → statement M
 home-before-spec =

@@ -44,7 +44,14 @@ number-in-requires-3 : tie.Need-number-in-requires-3
 number-in-requires-3 c κs = search needs
 
 returns : tie.Need-returns
-returns c = links.home-of (linkHome (now (c .before .before .before .before .before .before .before .args .names)) (c .before .before .before .before .before .before .before .args .i)) (c .before .before .before .before .number-in .result) (c .before .before .number-in2 .result) (c .number-in3 .result) (c .before .before .before .before .number-in .ensures) (c .before .before .number-in2 .ensures) (c .number-in3 .ensures)
+returns c =
+    let c1 = c .before .before in
+    let number-in2 = c1 .number-in2 in
+    let c2 = c1 .before .before in
+    let number-in = c2 .number-in in
+    let a = c2 .before .before .before .args in
+    links.home-of (linkHome (now (a .names)) (a .i)) (number-in .result) (number-in2 .result) (c .number-in3 .result) (number-in .ensures)
+    (number-in2 .ensures) (c .number-in3 .ensures)
 
 pub link-home-spec : {M : Type 1} → statement M
 link-home-spec =

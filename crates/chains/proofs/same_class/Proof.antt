@@ -17,7 +17,11 @@ returns-3 : tie.Need-returns-3
 returns-3 c = λ z. let y : _≡_ {A = ℕ} 0 1 = cc in absurd (omega arith)
 
 returns-4 : tie.Need-returns-4
-returns-4 c = λ z. (home-is (c .before .before .before .before .before .before .before .before .before .args .g) (c .before .before .before .before .before .before .before .before .before .args .h) (c .before .before .before .before .before .before .if1 .left) (c .before .before .before .if2 .left) (c .if3 .left), eqb-true (c .before .before .before .before .before .before .before .before .before .args .m) (c .before .before .before .before .before .before .before .before .before .args .n) z)
+returns-4 c =
+    let c1 = c .before .before .before in
+    let c2 = c1 .before .before .before in
+    let a = c2 .before .before .before .args in
+    λ z. (home-is (a .g) (a .h) (c2 .if1 .left) (c1 .if2 .left) (c .if3 .left), eqb-true (a .m) (a .n) z)
 
 pub same-class-spec : {M : Type 1} → statement M
 same-class-spec = tie.close (tie.spec returns returns-2 returns-3 returns-4)

@@ -40,7 +40,9 @@ mul-names-3 : tie.Need-mul-names-3
 mul-names-3 c = search needs
 
 slice-write-names-3 : tie.Need-slice-write-names-3
-slice-write-names-3 c = simp length-set (omega (arith, c .before .before .before .pre .0 .0, c .before .before .before .pre .0 .1))
+slice-write-names-3 c =
+    let pre = c .before .before .before .pre in
+    simp length-set (omega (arith, pre .0 .0, pre .0 .1))
 
 cast-names-4 : tie.Need-cast-names-4
 cast-names-4 c = search needs
@@ -52,7 +54,9 @@ mul-names-4 : tie.Need-mul-names-4
 mul-names-4 c = search needs
 
 slice-write-names-4 : tie.Need-slice-write-names-4
-slice-write-names-4 c = simp length-set (omega (arith, c .before .before .before .pre .0 .0, c .before .before .before .pre .0 .1))
+slice-write-names-4 c =
+    let pre = c .before .before .before .pre in
+    simp length-set (omega (arith, pre .0 .0, pre .0 .1))
 
 same-length : tie.Need-same-length
 same-length c = search needs

@@ -11,19 +11,51 @@ same-class-requires : tie.Need-same-class-requires
 same-class-requires c κs = search needs
 
 returns : tie.Need-returns
-returns c = keeping.stored-kept (now (c .before .before .before .before .before .before .before .args .f)) (now (c .before .before .before .before .before .before .before .args .s)) (now (c .before .before .before .before .before .before .before .args .names)) (c .before .before .before .before .before .before .before .args .kept) (c .before .before .before .before .before .before .before .args .d) (c .before .before .before .before .before .before .before .pre .1 .0 .0) (c .before .before .before .before .before .before .before .pre .0 .1) (c .before .same-class .ensures (c .if1 .taken))
+returns c =
+    let start = c .before .before .before .before .before .before .before in
+    let a = start .args in
+    let pre = start .pre in
+    keeping.stored-kept (now (a .f)) (now (a .s)) (now (a .names)) (a .kept) (a .d) (pre .1 .0 .0) (pre .0 .1) (c .before .same-class .ensures (c .if1 .taken))
 
 find-part-requires : tie.Need-find-part-requires
-find-part-requires c κs = (keeping.stored-room (now (c .before .before .before .before .before .before .before .before .args .f)) (now (c .before .before .before .before .before .before .before .before .args .s)) (c .before .before .before .before .before .before .before .before .args .kept .end) (c .before .before .before .before .before .before .before .before .args .d) (c .before .before .before .before .before .before .before .before .pre .0 .1) (c .before .before .before .before .before .before .before .before .pre .0 .0), ((omega arith, omega (arith, (c .before .before .before .before .before .before .before .before .pre .1 .0 .1) .size)), (((c .before .before .before .before .before .before .before .before .pre .1 .0 .1) .file, (c .before .before .before .before .before .before .before .before .pre .1 .0 .1) .store), c .before .before .before .before .before .before .before .before .pre .1 .1)))
+find-part-requires c κs =
+    let start = c .before .before .before .before .before .before .before .before in
+    let a = start .args in
+    let pre = start .pre in (
+      keeping.stored-room (now (a .f)) (now (a .s)) (a .kept .end) (a .d) (pre .0 .1) (pre .0 .0),
+      ((omega arith, omega (arith, (pre .1 .0 .1) .size)), (((pre .1 .0 .1) .file, (pre .1 .0 .1) .store), pre .1 .1)),
+    )
 
 gather-requires : tie.Need-gather-requires
-gather-requires c κs = (keeping.stored-there (now (c .before .before .before .before .before .before .before .before .before .before .before .before .args .f)) (now (c .before .before .before .before .before .before .before .before .before .before .before .before .args .s)) (c .before .before .before .before .before .before .before .before .before .before .before .before .args .kept .end) (c .before .before .before .before .before .before .before .before .before .before .before .before .args .d) (c .before .before .before .before .before .before .before .before .before .before .before .before .pre .0 .1) (c .before .before .before .before .before .before .before .before .before .before .before .before .pre .0 .0) (now (c .before .before .before .before .before .before .before .before .before .before .before .before .args .names)) (c .before .before .before .find-part .last .1 .1 .1 .1 .0) (c .before .before .before .find-part .result .link) (c .before .before .before .find-part .result .next) (c .before .before .before .find-part .ensures), (keeping.stored-fits (now (c .before .before .before .before .before .before .before .before .before .before .before .before .args .f)) (now (c .before .before .before .before .before .before .before .before .before .before .before .before .args .s)) (c .before .before .before .before .before .before .before .before .before .before .before .before .args .kept .end) (c .before .before .before .before .before .before .before .before .before .before .before .before .args .d) (c .before .before .before .before .before .before .before .before .before .before .before .before .pre .0 .1) (c .before .before .before .before .before .before .before .before .before .before .before .before .pre .0 .0) (now (c .before .before .before .before .before .before .before .before .before .before .before .before .args .names)) (c .before .before .before .find-part .last .1 .1 .1 .1 .0) (c .before .before .before .find-part .result .link) (c .before .before .before .find-part .result .next) (c .before .before .before .find-part .ensures) (c .before .before .before .before .before .before .before .before .before .before .before .before .pre .1 .0 .1), ((c .before .before .before .before .before .before .before .before .before .before .before .before .pre .1 .0 .1) .file, (c .before .before .before .before .before .before .before .before .before .before .before .before .pre .1 .0 .1) .store)))
+gather-requires c κs =
+    let c1 = c .before .before .before in
+    let find-part = c1 .find-part in
+    let start = c1 .before .before .before .before .before .before .before .before .before in
+    let a = start .args in
+    let pre = start .pre in (
+      keeping.stored-there (now (a .f)) (now (a .s)) (a .kept .end) (a .d) (pre .0 .1) (pre .0 .0) (now (a .names)) (find-part .last .1 .1 .1 .1 .0)
+          (find-part .result .link) (find-part .result .next) (find-part .ensures),
+      (
+        keeping.stored-fits (now (a .f)) (now (a .s)) (a .kept .end) (a .d) (pre .0 .1) (pre .0 .0) (now (a .names)) (find-part .last .1 .1 .1 .1 .0)
+            (find-part .result .link) (find-part .result .next) (find-part .ensures) (pre .1 .0 .1),
+        ((pre .1 .0 .1) .file, (pre .1 .0 .1) .store),
+      ),
+    )
 
 same-length : tie.Need-same-length
 same-length c = search needs
 
 returns-2 : tie.Need-returns-2
-returns-2 c = keeping.stored-new (now (c .before .before .before .before .before .before .before .before .before .before .before .before .before .before .before .args .f)) (now (c .before .before .before .before .before .before .before .before .before .before .before .before .before .before .before .args .s)) (c .before .before .before .before .before .before .before .before .before .before .before .before .before .before .before .args .kept .end) (c .before .before .before .before .before .before .before .before .before .before .before .before .before .before .before .args .d) (c .before .before .before .before .before .before .before .before .before .before .before .before .before .before .before .pre .0 .1) (c .before .before .before .before .before .before .before .before .before .before .before .before .before .before .before .pre .0 .0) (now (c .before .before .before .before .before .before .before .before .before .before .before .before .before .before .before .args .names)) (c .before .before .before .before .before .before .find-part .last .1 .1 .1 .1 .0) (c .before .before .before .before .before .before .find-part .result .link) (c .before .before .before .before .before .before .find-part .result .next) (c .before .before .before .before .before .before .find-part .ensures) (c .before .before .gather .last .1 .1 .0) (c .before .before .gather .result) (c .before .before .gather .ensures)
+returns-2 c =
+    let c1 = c .before .before in
+    let gather = c1 .gather in
+    let c2 = c1 .before .before .before .before in
+    let find-part = c2 .find-part in
+    let start = c2 .before .before .before .before .before .before .before .before .before in
+    let a = start .args in
+    let pre = start .pre in
+    keeping.stored-new (now (a .f)) (now (a .s)) (a .kept .end) (a .d) (pre .0 .1) (pre .0 .0) (now (a .names)) (find-part .last .1 .1 .1 .1 .0)
+    (find-part .result .link) (find-part .result .next) (find-part .ensures) (gather .last .1 .1 .0) (gather .result) (gather .ensures)
 
 pub stored-names-spec : {M : Type 1} → statement M
 stored-names-spec =

@@ -8,13 +8,25 @@ record-at-requires : tie.Need-record-at-requires
 record-at-requires c κs = c .before .before .pre
 
 file-of-requires : tie.Need-file-of-requires
-file-of-requires c κs = places.there-bounds (now (c .before .before .before .args .f)) (now (c .before .before .before .args .s)) (c .before .before .before .args .h) (c .before .before .before .args .n) (c .before .before .before .pre)
+file-of-requires c κs =
+    let start = c .before .before .before in
+    let a = start .args in
+    places.there-bounds (now (a .f)) (now (a .s)) (a .h) (a .n) (start .pre)
 
 methods-of-requires : tie.Need-methods-of-requires
-methods-of-requires c κs = places.class-there (now (c .before .before .before .before .args .f)) (now (c .before .before .before .before .args .s)) (c .before .before .before .before .args .h) (c .before .before .before .before .args .n) (now (c .file-of .result)) (c .before .record-at .result) (c .file-of .ensures) (c .before .record-at .ensures) (c .before .before .before .before .pre)
+methods-of-requires c κs =
+    let start = c .before .before .before .before in
+    let a = start .args in
+    places.class-there (now (a .f)) (now (a .s)) (a .h) (a .n) (now (c .file-of .result)) (c .before .record-at .result) (c .file-of .ensures)
+    (c .before .record-at .ensures) (start .pre)
 
 returns : tie.Need-returns
-returns c = places.methods-in (now (c .before .before .before .before .before .args .f)) (now (c .before .before .before .before .before .args .s)) (c .before .before .before .before .before .args .h) (c .before .before .before .before .before .args .n) (now (c .before .file-of .result)) (c .before .before .record-at .result) (c .methods-of .result) (c .before .file-of .ensures) (c .before .before .record-at .ensures) (c .methods-of .ensures)
+returns c =
+    let c1 = c .before .before in
+    let record-at = c1 .record-at in
+    let a = c1 .before .before .before .args in
+    places.methods-in (now (a .f)) (now (a .s)) (a .h) (a .n) (now (c .before .file-of .result)) (record-at .result) (c .methods-of .result)
+    (c .before .file-of .ensures) (record-at .ensures) (c .methods-of .ensures)
 
 pub methods-at-spec : {M : Type 1} → statement M
 methods-at-spec = tie.close (tie.spec record-at-requires file-of-requires methods-of-requires returns)

@@ -11,34 +11,77 @@ use Rattle.classes.proofs.parent_at.Statement.{statement}
 use Rattle.classes.proofs.parent_at.Tie as tie
 
 class-record-requires : tie.Need-class-record-requires
-class-record-requires c κs = records.home-there (now (c .before .before .before .args .f)) (now (c .before .before .before .args .s)) (c .before .before .before .args .h) (c .before .before .before .args .n) (c .before .before .before .pre .0 .class)
+class-record-requires c κs =
+    let start = c .before .before .before in
+    let a = start .args in
+    records.home-there (now (a .f)) (now (a .s)) (a .h) (a .n) (start .pre .0 .class)
 
 mul-wide : tie.Need-mul-wide
-mul-wide c = omega (arith, (records.pair-inside (now (c .before .before .before .before .args .f)) (now (c .before .before .before .before .args .s)) (c .before .before .before .before .args .h) (c .before .before .before .before .args .n) (now (c .class-record .result)) (c .class-record .ensures) (c .before .before .before .before .args .i) (c .before .before .before .before .pre .0)) .0)
+mul-wide c =
+    let start = c .before .before .before .before in
+    let a = start .args in
+    omega (
+      arith,
+      (records.pair-inside (now (a .f)) (now (a .s)) (a .h) (a .n) (now (c .class-record .result)) (c .class-record .ensures) (a .i)
+          (start .pre .0)) .0,
+    )
 
 add-wide : tie.Need-add-wide
-add-wide c = omega (arith, (records.pair-inside (now (c .before .before .before .before .args .f)) (now (c .before .before .before .before .args .s)) (c .before .before .before .before .args .h) (c .before .before .before .before .args .n) (now (c .class-record .result)) (c .class-record .ensures) (c .before .before .before .before .args .i) (c .before .before .before .before .pre .0)) .0)
+add-wide c =
+    let start = c .before .before .before .before in
+    let a = start .args in
+    omega (
+      arith,
+      (records.pair-inside (now (a .f)) (now (a .s)) (a .h) (a .n) (now (c .class-record .result)) (c .class-record .ensures) (a .i)
+          (start .pre .0)) .0,
+    )
 
 shared-slice-read-wide : tie.Need-shared-slice-read-wide
-shared-slice-read-wide c = omega (arith, (records.pair-inside (now (c .before .before .before .before .before .args .f)) (now (c .before .before .before .before .before .args .s)) (c .before .before .before .before .before .args .h) (c .before .before .before .before .before .args .n) (now (c .before .class-record .result)) (c .before .class-record .ensures) (c .before .before .before .before .before .args .i) (c .before .before .before .before .before .pre .0)) .1)
+shared-slice-read-wide c =
+    let start = c .before .before .before .before .before in
+    let a = start .args in
+    omega (
+      arith,
+      (records.pair-inside (now (a .f)) (now (a .s)) (a .h) (a .n) (now (c .before .class-record .result)) (c .before .class-record .ensures)
+          (a .i) (start .pre .0)) .1,
+    )
 
 wide-requires : tie.Need-wide-requires
 wide-requires c κs = search needs
 
 mul-wide-2 : tie.Need-mul-wide-2
-mul-wide-2 c = omega (arith, (records.pair-inside (now (c .before .before .before .before .before .before .args .f)) (now (c .before .before .before .before .before .before .args .s)) (c .before .before .before .before .before .before .args .h) (c .before .before .before .before .before .before .args .n) (now (c .before .before .class-record .result)) (c .before .before .class-record .ensures) (c .before .before .before .before .before .before .args .i) (c .before .before .before .before .before .before .pre .0)) .0)
+mul-wide-2 c =
+    let c1 = c .before .before in
+    let class-record = c1 .class-record in
+    let start = c1 .before .before .before .before in
+    let a = start .args in
+    omega (arith, (records.pair-inside (now (a .f)) (now (a .s)) (a .h) (a .n) (now (class-record .result)) (class-record .ensures) (a .i) (start .pre .0)) .0)
 
 add-wide-2 : tie.Need-add-wide-2
-add-wide-2 c = omega (arith, (records.pair-inside (now (c .before .before .before .before .before .before .args .f)) (now (c .before .before .before .before .before .before .args .s)) (c .before .before .before .before .before .before .args .h) (c .before .before .before .before .before .before .args .n) (now (c .before .before .class-record .result)) (c .before .before .class-record .ensures) (c .before .before .before .before .before .before .args .i) (c .before .before .before .before .before .before .pre .0)) .0)
+add-wide-2 c =
+    let c1 = c .before .before in
+    let class-record = c1 .class-record in
+    let start = c1 .before .before .before .before in
+    let a = start .args in
+    omega (arith, (records.pair-inside (now (a .f)) (now (a .s)) (a .h) (a .n) (now (class-record .result)) (class-record .ensures) (a .i) (start .pre .0)) .0)
 
 shared-slice-read-wide-2 : tie.Need-shared-slice-read-wide-2
-shared-slice-read-wide-2 c = omega (arith, (records.pair-inside (now (c .before .before .before .before .before .before .before .args .f)) (now (c .before .before .before .before .before .before .before .args .s)) (c .before .before .before .before .before .before .before .args .h) (c .before .before .before .before .before .before .before .args .n) (now (c .before .before .before .class-record .result)) (c .before .before .before .class-record .ensures) (c .before .before .before .before .before .before .before .args .i) (c .before .before .before .before .before .before .before .pre .0)) .1)
+shared-slice-read-wide-2 c =
+    let c1 = c .before .before .before in
+    let class-record = c1 .class-record in
+    let start = c1 .before .before .before .before in
+    let a = start .args in
+    omega (arith, (records.pair-inside (now (a .f)) (now (a .s)) (a .h) (a .n) (now (class-record .result)) (class-record .ensures) (a .i) (start .pre .0)) .1)
 
 wide-requires-2 : tie.Need-wide-requires-2
 wide-requires-2 c κs = search needs
 
 numbered-requires : tie.Need-numbered-requires
-numbered-requires c κs = (records.home-there (now (c .before .before .before .before .before .before .before .before .args .f)) (now (c .before .before .before .before .before .before .before .before .args .s)) (c .before .before .before .before .before .before .before .before .args .h) (c .before .before .before .before .before .before .before .before .args .n) (c .before .before .before .before .before .before .before .before .pre .0 .class), c .before .before .before .before .before .before .before .before .pre .1)
+numbered-requires c κs =
+    let start = c .before .before .before .before .before .before .before .before in
+    let a = start .args in
+    let pre = start .pre in
+    (records.home-there (now (a .f)) (now (a .s)) (a .h) (a .n) (pre .0 .class), pre .1)
 
 enum-known-g : tie.Need-enum-known-g
 enum-known-g c = search needs
@@ -47,10 +90,33 @@ enum-told : tie.Need-enum-told
 enum-told c = search needs
 
 returns : tie.Need-returns
-returns c = parents.parent-is (now (c .before .before .before .before .before .before .before .before .before .before .before .before .args .f)) (now (c .before .before .before .before .before .before .before .before .before .before .before .before .args .s)) (c .before .before .before .before .before .before .before .before .before .before .before .before .args .h) (c .before .before .before .before .before .before .before .before .before .before .before .before .args .n) (c .before .before .before .before .before .before .before .before .before .before .before .before .args .i) (now (c .before .before .before .before .before .before .before .before .class-record .result)) (c .before .before .before .before .before .before .before .before .class-record .ensures) (c .before .before .before .before .wide2 .result) (c .before .before .before .before .before .before .wide .result) (c .before .before .before .before .wide2 .ensures .0) (c .before .before .before .before .before .before .wide .ensures .0) (c .before .g .given .0 .0) (c .before .before .before .before .before .before .wide .ensures .1) (subst (λ (v : HomeFound). NumberedIs (now (c .before .before .before .before .before .before .before .before .before .before .before .before .args .f)) (now (c .before .before .before .before .before .before .before .before .before .before .before .before .args .s)) (c .before .before .before .before .before .before .before .before .before .before .before .before .args .h) (c .before .before .before .before .wide2 .result) v) (c .before .g .given .1) (c .before .before .before .numbered .ensures))
+returns c =
+    let c1 = c .before .before .before in
+    let c2 = c1 .before in
+    let wide2 = c2 .wide2 in
+    let c3 = c2 .before .before in
+    let wide = c3 .wide in
+    let c4 = c3 .before .before in
+    let class-record = c4 .class-record in
+    let a = c4 .before .before .before .before .args in
+    parents.parent-is (now (a .f)) (now (a .s)) (a .h) (a .n) (a .i) (now (class-record .result)) (class-record .ensures) (wide2 .result) (wide .result)
+    (wide2 .ensures .0) (wide .ensures .0) (c .before .g .given .0 .0) (wide .ensures .1)
+    (subst (λ (v : HomeFound). NumberedIs (now (a .f)) (now (a .s)) (a .h) (wide2 .result) v) (c .before .g .given .1) (c1 .numbered .ensures))
 
 returns-2 : tie.Need-returns-2
-returns-2 c = absurd (parents.parent-none (now (c .before .before .before .before .before .before .before .before .before .before .before .args .f)) (now (c .before .before .before .before .before .before .before .before .before .before .before .args .s)) (c .before .before .before .before .before .before .before .before .before .before .before .args .h) (c .before .before .before .before .before .before .before .before .before .before .before .args .n) (c .before .before .before .before .before .before .before .before .before .before .before .args .i) (now (c .before .before .before .before .before .before .before .class-record .result)) (c .before .before .before .before .before .before .before .class-record .ensures) (c .before .before .before .wide2 .result) (c .before .before .before .before .before .wide .result) (c .before .before .before .wide2 .ensures .0) (c .before .before .before .before .before .wide .ensures .0) (c .before .before .before .before .before .before .before .before .before .before .before .pre .0) (subst (λ (v : HomeFound). NumberedIs (now (c .before .before .before .before .before .before .before .before .before .before .before .args .f)) (now (c .before .before .before .before .before .before .before .before .before .before .before .args .s)) (c .before .before .before .before .before .before .before .before .before .before .before .args .h) (c .before .before .before .wide2 .result) v) (c .enum-told .given .1) (c .before .before .numbered .ensures)))
+returns-2 c =
+    let c1 = c .before .before in
+    let c2 = c1 .before in
+    let wide2 = c2 .wide2 in
+    let c3 = c2 .before .before in
+    let wide = c3 .wide in
+    let c4 = c3 .before .before in
+    let class-record = c4 .class-record in
+    let start = c4 .before .before .before .before in
+    let a = start .args in
+    absurd (parents.parent-none (now (a .f)) (now (a .s)) (a .h) (a .n) (a .i) (now (class-record .result)) (class-record .ensures) (wide2 .result)
+    (wide .result) (wide2 .ensures .0) (wide .ensures .0) (start .pre .0)
+    (subst (λ (v : HomeFound). NumberedIs (now (a .f)) (now (a .s)) (a .h) (wide2 .result) v) (c .enum-told .given .1) (c1 .numbered .ensures)))
 
 pub parent-at-spec : {M : Type 1} → statement M
 parent-at-spec =

@@ -47,8 +47,9 @@ sub-may-end c = omega (arith, c .before .if1 .left)
 
 shared-slice-read-may-end : tie.Need-shared-slice-read-may-end
 shared-slice-read-may-end c =
-    let at-walk = c .before .before .before .before .before .before .before .before in
-    omega (arith, at-walk .walk .ensures .bound, c .before .before .if1 .left)
+    let c1 = c .before .before in
+    let at-walk = c1 .before .before .before .before .before .before in
+    omega (arith, at-walk .walk .ensures .bound, c1 .if1 .left)
 
 may-end-requires : tie.Need-may-end-requires
 may-end-requires c κs = search needs
@@ -78,14 +79,15 @@ same-length-6 c = search needs
 
 returns-3 : tie.Need-returns-3
 returns-3 c =
-    let at-may-end = c .before .before .before in
+    let c1 = c .before .before in
+    let at-may-end = c1 .before in
     let at-if1 = at-may-end .before .before .before in
     let at-walk = at-if1 .before .before .before .before .before .before in
     let start = at-walk .before .before .before .before .before .before .before .before .before .before .before .before .before .before in
     let found = at-walk .walk in
     let code = now (start .args .code) in
     let w = found .result in
-    let ends : mayEnd (u1At code (w .last - 1)) ≡ true = sym (at-may-end .may-end .ensures) ∙ not-false _ (c .before .before .if2 .left) in
+    let ends : mayEnd (u1At code (w .last - 1)) ≡ true = sym (at-may-end .may-end .ensures) ∙ not-false _ (c1 .if2 .left) in
     sym (number-outside code (w .last) (w .inside) (w .calls) _ _ (found .ensures) (at-if1 .if1 .left) ends (not-true _ (c .if3 .taken)))
 
 is-within-requires : tie.Need-is-within-requires
@@ -120,7 +122,9 @@ same-length-10 c = search needs
 
 returns-5 : tie.Need-returns-5
 returns-5 c =
-    let at-if3 = c .before .before .before .before .before in
+    let c1 = c .before .before in
+    let is-within = c1 .is-within in
+    let at-if3 = c1 .before .before .before in
     let at-if2 = at-if3 .before .before in
     let at-may-end = at-if2 .before in
     let at-if1 = at-may-end .before .before .before in
@@ -131,7 +135,7 @@ returns-5 c =
     let w = found .result in
     let ends : mayEnd (u1At code (w .last - 1)) ≡ true = sym (at-may-end .may-end .ensures) ∙ not-false _ (at-if2 .if2 .left) in
     sym (number-lands code (w .last) (w .inside) (w .calls) _ _ (found .ensures) (at-if1 .if1 .left) ends (not-false _ (at-if3 .if3 .left))
-    (c .before .before .is-within .result) (c .before .before .is-within .ensures) (not-false _ (c .before .if4 .left)) true (c .if5 .taken))
+    (is-within .result) (is-within .ensures) (not-false _ (c .before .if4 .left)) true (c .if5 .taken))
 
 same-length-11 : tie.Need-same-length-11
 same-length-11 c = search needs
@@ -141,7 +145,9 @@ same-length-12 c = search needs
 
 returns-6 : tie.Need-returns-6
 returns-6 c =
-    let at-if3 = c .before .before .before .before .before in
+    let c1 = c .before .before in
+    let is-within = c1 .is-within in
+    let at-if3 = c1 .before .before .before in
     let at-if2 = at-if3 .before .before in
     let at-may-end = at-if2 .before in
     let at-if1 = at-may-end .before .before .before in
@@ -152,7 +158,7 @@ returns-6 c =
     let w = found .result in
     let ends : mayEnd (u1At code (w .last - 1)) ≡ true = sym (at-may-end .may-end .ensures) ∙ not-false _ (at-if2 .if2 .left) in
     sym (number-lands code (w .last) (w .inside) (w .calls) _ _ (found .ensures) (at-if1 .if1 .left) ends (not-false _ (at-if3 .if3 .left))
-    (c .before .before .is-within .result) (c .before .before .is-within .ensures) (not-false _ (c .before .if4 .left)) false (c .if5 .left))
+    (is-within .result) (is-within .ensures) (not-false _ (c .before .if4 .left)) false (c .if5 .left))
 
 pub check-marked-spec : {M : Type 1} → statement M
 check-marked-spec =

@@ -64,13 +64,14 @@ enum-told c = c .match .keys2
 
 loop-less : tie.Need-loop-less Inv-loop μ-loop
 loop-less c =
-    let at-instruction-length = c .before .before .before in
+    let c1 = c .before .before in
+    let here = c1 .call-at in
+    let at-instruction-length = c1 .before in
     let at-loop-test = at-instruction-length .before .before .before in
     let at-loop = at-loop-test .before in
     let start = at-loop .before .before in
     let turn = at-loop .loop in
     let got = at-instruction-length .instruction-length in
-    let here = c .before .before .call-at in
     let a = start .args in
     let z : got .result ≡ 0 → ⊥ = walk-grows (now (a .code)) (a .from .0) (turn .at) (got .result) (turn .inv .0) (at-loop-test .loop-test .taken)
     (turn .inv .1) (got .ensures .0) (here .result) (here .ensures .0) in
@@ -78,13 +79,14 @@ loop-less c =
 
 loop-again : tie.Need-loop-again Inv-loop μ-loop
 loop-again c =
-    let at-instruction-length = c .before .before .before in
+    let c1 = c .before .before in
+    let here = c1 .call-at in
+    let at-instruction-length = c1 .before in
     let at-loop-test = at-instruction-length .before .before .before in
     let at-loop = at-loop-test .before in
     let start = at-loop .before .before in
     let turn = at-loop .loop in
     let got = at-instruction-length .instruction-length in
-    let here = c .before .before .call-at in
     let a = start .args in
     let t = walk-on (now (a .code)) (a .from .0) (turn .at) (got .result) (turn .inv .0) (at-loop-test .loop-test .taken) (turn .inv .1)
     (got .ensures .0) (here .result) (here .ensures .0) (c .enum-told .given .1) in

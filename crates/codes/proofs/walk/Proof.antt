@@ -140,7 +140,8 @@ loop-less-3 c = search needs
 
 loop-again-3 : tie.Need-loop-again-3 Inv-loop μ-loop
 loop-again-3 c =
-    let at-if3 = c .before .before .before .before in
+    let c1 = c .before .before in
+    let at-if3 = c1 .before .before in
     let at-set = at-if3 .before .before .before .before in
     let at-if1 = at-set .before .before in
     let at-instruction-length = at-if1 .before in
@@ -155,7 +156,7 @@ loop-again-3 c =
     (at-loop-test .loop-test .taken) (got .ensures .0) (at-if1 .if1 .left) (got .ensures .1) in
     let form = at-entry-at .entry-at .result / 16 in
     let size = at-entry-at .entry-at .result % 16 in
-    let marked = c .before .before .mark-targets in (
+    let marked = c1 .mark-targets in (
       step _ _ (turn .inside && marked .result) (turn .calls) (passed-branch code (turn .inside) (turn .calls) (turn .starts) (turn .targets)
           (turn .inv .0 .before) (turn .inv .0 .passed) (turn .at) form size _ (at-entry-at .entry-at .ensures .0) (at-loop-test .loop-test .taken)
           (at-set .set .ensures) (omega (arith, at-if3 .if3 .left)) _ (marked .result) (marked .ensures)),

@@ -35,8 +35,9 @@ loop-less c = search needs
 
 loop-again : tie.Need-loop-again Inv-loop μ-loop
 loop-again c =
-    let start = c .before .before .before in
-    let at-loop = c .before .before .loop in (
+    let c1 = c .before .before in
+    let start = c1 .before in
+    let at-loop = c1 .loop in (
       omega arith,
       ap (λ (l : List ℕ). set l (at-loop .i) (getD (now (start .args .s)) (at-loop .i) 0)) (at-loop .inv .1)
           ∙ front-step (replicate 16 0) (now (start .args .s)) (at-loop .i) (omega arith) (omega arith),

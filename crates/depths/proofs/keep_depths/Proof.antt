@@ -18,64 +18,188 @@ use Rattle.depths.proofs.keep_depths.Statement.{statement}
 use Rattle.depths.proofs.keep_depths.Tie as tie
 
 abbrev Inv-loop : tie.InvT-loop
-Inv-loop s t₀ depths from to g n₀ i₀ t n i = ClassesFrom g n i × FileKeptTo g from depths t n × ((j : ℕ) → j < from / 5 → halfAt t j ≡ halfAt t₀ j) × (length t ≡ length t₀)
+Inv-loop s t₀ depths from to g n₀ i₀ t n i = ClassesFrom g n i × FileKeptTo g from depths t n × ((j : ℕ) → j < from / 5 → halfAt t j ≡ halfAt t₀ j) ×
+    (length t ≡ length t₀)
 
 abbrev μ-loop : tie.MeasureT-loop
 μ-loop s t₀ depths from to g n₀ i₀ t n i = length g - i
 
 sub-g : tie.Need-sub-g Inv-loop μ-loop
-sub-g c = omega (arith, c .before .before .before .pre .0 .0)
+sub-g c =
+    let pre = c .before .before .before .pre in
+    omega (arith, pre .0 .0)
 
 part-g-start : tie.Need-part-g-start Inv-loop μ-loop
-part-g-start c = omega (arith, c .before .before .before .pre .0 .0, c .before .before .before .pre .0 .1)
+part-g-start c =
+    let pre = c .before .before .before .pre in
+    omega (arith, pre .0 .0, pre .0 .1)
 
 part-g-end : tie.Need-part-g-end Inv-loop μ-loop
-part-g-end c = omega (arith, c .before .before .before .pre .0 .0, c .before .before .before .pre .0 .1)
+part-g-end c =
+    let pre = c .before .before .before .pre in
+    omega (arith, pre .0 .0, pre .0 .1)
 
 classes-at-requires : tie.Need-classes-at-requires Inv-loop μ-loop
-classes-at-requires c κs = (c .before .before .before .before .pre .1 .0)
+classes-at-requires c κs =
+    let pre = c .before .before .before .before .pre in
+    (pre .1 .0)
 
 add-i : tie.Need-add-i Inv-loop μ-loop
-add-i c = omega (arith, rows.classes-inside (part (now (c .before .before .before .before .before .args .s)) (c .before .before .before .before .before .args .from) (c .before .before .before .before .before .args .to)) (c .classes-at .result) (c .before .before .before .before .before .pre .1 .0) (c .classes-at .ensures), part-length (now (c .before .before .before .before .before .args .s)) (c .before .before .before .before .before .args .from) (c .before .before .before .before .before .args .to) (c .before .before .before .before .before .pre .0 .1), c .before .before .before .before .before .pre .0 .1, c .before .before .before .before .before .pre .0 .3)
+add-i c =
+    let start = c .before .before .before .before .before in
+    let a = start .args in
+    let pre = start .pre in
+    omega (
+      arith,
+      rows.classes-inside (part (now (a .s)) (a .from) (a .to)) (c .classes-at .result) (pre .1 .0) (c .classes-at .ensures),
+      part-length
+          (now (a .s)) (a .from) (a .to) (pre .0 .1),
+      pre .0 .1,
+      pre .0 .3,
+    )
 
 loop-holds : tie.Need-loop-holds Inv-loop μ-loop
-loop-holds c = (rows.from-start (part (now (c .before .before .before .before .before .args .s)) (c .before .before .before .before .before .args .from) (c .before .before .before .before .before .args .to)) (c .classes-at .result) (c .classes-at .ensures), written.kept-start (part (now (c .before .before .before .before .before .args .s)) (c .before .before .before .before .before .args .from) (c .before .before .before .before .before .args .to)) (c .before .before .before .before .before .args .from) (now (c .before .before .before .before .before .args .depths)) (now (c .before .before .before .before .before .args .t)), λ j h. refl, refl)
+loop-holds c =
+    let a = c .before .before .before .before .before .args in (
+      rows.from-start (part (now (a .s)) (a .from) (a .to)) (c .classes-at .result) (c .classes-at .ensures),
+      written.kept-start
+          (part (now (a .s)) (a .from) (a .to)) (a .from) (now (a .depths)) (now (a .t)),
+      λ j h. refl,
+      refl,
+    )
 
 add-keep : tie.Need-add-keep Inv-loop μ-loop
-add-keep c = omega (arith, c .before .loop-test .taken, part-length (now (c .before .before .before .before .before .before .before .before .args .s)) (c .before .before .before .before .before .before .before .before .args .from) (c .before .before .before .before .before .before .before .before .args .to) (c .before .before .before .before .before .before .before .before .pre .0 .1), c .before .before .before .before .before .before .before .before .pre .0 .1, c .before .before .before .before .before .before .before .before .pre .0 .3)
+add-keep c =
+    let start = c .before .before .before .before .before .before .before .before in
+    let a = start .args in
+    let pre = start .pre in
+    omega (arith, c .before .loop-test .taken, part-length (now (a .s)) (a .from) (a .to) (pre .0 .1), pre .0 .1, pre .0 .3)
 
 add-wide : tie.Need-add-wide Inv-loop μ-loop
-add-wide c = omega (arith, c .before .loop-test .taken, part-length (now (c .before .before .before .before .before .before .before .before .args .s)) (c .before .before .before .before .before .before .before .before .args .from) (c .before .before .before .before .before .before .before .before .args .to) (c .before .before .before .before .before .before .before .before .pre .0 .1), c .before .before .before .before .before .before .before .before .pre .0 .1, c .before .before .before .before .before .before .before .before .pre .0 .3)
+add-wide c =
+    let start = c .before .before .before .before .before .before .before .before in
+    let a = start .args in
+    let pre = start .pre in
+    omega (arith, c .before .loop-test .taken, part-length (now (a .s)) (a .from) (a .to) (pre .0 .1), pre .0 .1, pre .0 .3)
 
 shared-slice-read-wide : tie.Need-shared-slice-read-wide Inv-loop μ-loop
-shared-slice-read-wide c = omega (arith, written.three-inside (part (now (c .before .before .before .before .before .before .before .before .before .args .s)) (c .before .before .before .before .before .before .before .before .before .args .from) (c .before .before .before .before .before .before .before .before .before .args .to)) (c .before .before .before .loop .i) (rows.from-there (part (now (c .before .before .before .before .before .before .before .before .before .args .s)) (c .before .before .before .before .before .before .before .before .before .args .from) (c .before .before .before .before .before .before .before .before .before .args .to)) (c .before .before .before .loop .n) (c .before .before .before .loop .i) (record { inside = c .before .before .loop-test .taken; rest = c .before .before .before .loop .inv .0 }) (c .before .before .before .before .before .before .before .before .before .pre .1 .0)))
+shared-slice-read-wide c =
+    let c1 = c .before .before in
+    let c2 = c1 .before in
+    let loop = c2 .loop in
+    let start = c2 .before .before .before .before .before .before in
+    let a = start .args in
+    omega (
+      arith,
+      written.three-inside (part (now (a .s)) (a .from) (a .to)) (loop .i)
+          (rows.from-there (part (now (a .s)) (a .from) (a .to)) (loop .n) (loop .i) (record { inside = c1 .loop-test .taken; rest = loop .inv .0 })
+          (start .pre .1 .0)),
+    )
 
 wide-requires : tie.Need-wide-requires Inv-loop μ-loop
 wide-requires c κs = search needs
 
 shared-slice-read-keep : tie.Need-shared-slice-read-keep Inv-loop μ-loop
-shared-slice-read-keep c = omega (arith, (exist.own-few (part (now (c .before .before .before .before .before .before .before .before .before .before .before .args .s)) (c .before .before .before .before .before .before .before .before .before .before .before .args .from) (c .before .before .before .before .before .before .before .before .before .before .before .args .to)) (c .before .before .before .before .before .loop .n) (c .before .before .before .before .before .loop .i) (c .before .before .before .before .before .before .before .before .before .before .before .pre .1 .0) (record { inside = c .before .before .before .before .loop-test .taken; rest = c .before .before .before .before .before .loop .inv .0 })), (c .before .before .before .before .before .before .before .before .before .before .before .pre .1 .1) .size)
+shared-slice-read-keep c =
+    let c1 = c .before .before .before .before in
+    let c2 = c1 .before in
+    let loop = c2 .loop in
+    let start = c2 .before .before .before .before .before .before in
+    let a = start .args in
+    let pre = start .pre in
+    omega (
+      arith,
+      (exist.own-few (part (now (a .s)) (a .from) (a .to)) (loop .n) (loop .i) (pre .1 .0)
+          (record { inside = c1 .loop-test .taken; rest = loop .inv .0 })),
+      (pre .1 .1) .size,
+    )
 
 keep-requires : tie.Need-keep-requires Inv-loop μ-loop
-keep-requires c κs = λ h. let x = (c .before .before .before .before .before .before .before .before .before .before .before .pre .1 .1) .fit (c .before .before .before .before .before .loop .n) (c .before .before .before .before .before .loop .i) (c .before .before .before .before .before .loop .inv .0 .stands) (omega (arith, h, c .before .wide .ensures .0)) in (x .0, x .1, omega (arith, c .before .before .before .before .loop-test .taken, part-length (now (c .before .before .before .before .before .before .before .before .before .before .before .args .s)) (c .before .before .before .before .before .before .before .before .before .before .before .args .from) (c .before .before .before .before .before .before .before .before .before .before .before .args .to) (c .before .before .before .before .before .before .before .before .before .before .before .pre .0 .1), c .before .before .before .before .before .before .before .before .before .before .before .pre .0 .0, c .before .before .before .before .before .before .before .before .before .before .before .pre .0 .1, c .before .before .before .before .before .before .before .before .before .before .before .pre .0 .2, c .before .before .before .before .before .loop .inv .3))
+keep-requires c κs =
+    let c1 = c .before .before .before .before in
+    let c2 = c1 .before in
+    let loop = c2 .loop in
+    let start = c2 .before .before .before .before .before .before in
+    let a = start .args in
+    let pre = start .pre in
+    λ h. let x = (pre .1 .1) .fit (loop .n) (loop .i) (loop .inv .0 .stands) (omega (arith, h, c .before .wide .ensures .0)) in
+    (x .0, x .1, omega (arith, c1 .loop-test .taken, part-length (now (a .s)) (a .from) (a .to) (pre .0 .1), pre .0 .0, pre .0 .1, pre .0 .2, loop .inv .3))
 
 after-class-requires : tie.Need-after-class-requires Inv-loop μ-loop
-after-class-requires c κs = (rows.from-there (part (now (c .before .before .before .before .before .before .before .before .before .before .before .before .before .before .args .s)) (c .before .before .before .before .before .before .before .before .before .before .before .before .before .before .args .from) (c .before .before .before .before .before .before .before .before .before .before .before .before .before .before .args .to)) (c .before .before .before .before .before .before .before .before .loop .n) (c .before .before .before .before .before .before .before .before .loop .i) (record { inside = c .before .before .before .before .before .before .before .loop-test .taken; rest = c .before .before .before .before .before .before .before .before .loop .inv .0 }) (c .before .before .before .before .before .before .before .before .before .before .before .before .before .before .pre .1 .0))
+after-class-requires c κs =
+    let c1 = c .before .before .before .before .before .before .before in
+    let c2 = c1 .before in
+    let loop = c2 .loop in
+    let start = c2 .before .before .before .before .before .before in
+    let a = start .args in
+    (rows.from-there (part (now (a .s)) (a .from) (a .to)) (loop .n) (loop .i) (record { inside = c1 .loop-test .taken; rest = loop .inv .0 })
+    (start .pre .1 .0))
 
 add-n : tie.Need-add-n Inv-loop μ-loop
-add-n c = omega (arith, (exist.own-few (part (now (c .before .before .before .before .before .before .before .before .before .before .before .before .before .before .before .args .s)) (c .before .before .before .before .before .before .before .before .before .before .before .before .before .before .before .args .from) (c .before .before .before .before .before .before .before .before .before .before .before .before .before .before .before .args .to)) (c .before .before .before .before .before .before .before .before .before .loop .n) (c .before .before .before .before .before .before .before .before .before .loop .i) (c .before .before .before .before .before .before .before .before .before .before .before .before .before .before .before .pre .1 .0) (record { inside = c .before .before .before .before .before .before .before .before .loop-test .taken; rest = c .before .before .before .before .before .before .before .before .before .loop .inv .0 })))
+add-n c =
+    let c1 = c .before .before .before .before .before .before .before .before in
+    let c2 = c1 .before in
+    let loop = c2 .loop in
+    let start = c2 .before .before .before .before .before .before in
+    let a = start .args in
+    omega (
+      arith,
+      (exist.own-few (part (now (a .s)) (a .from) (a .to)) (loop .n) (loop .i) (start .pre .1 .0)
+          (record { inside = c1 .loop-test .taken; rest = loop .inv .0 })),
+    )
 
 loop-less : tie.Need-loop-less Inv-loop μ-loop
-loop-less c = omega (arith, c .before .before .before .before .before .before .before .before .loop-test .taken, written.after-five (part (now (c .before .before .before .before .before .before .before .before .before .before .before .before .before .before .before .args .s)) (c .before .before .before .before .before .before .before .before .before .before .before .before .before .before .before .args .from) (c .before .before .before .before .before .before .before .before .before .before .before .before .before .before .before .args .to)) (c .before .before .before .before .before .before .before .before .before .loop .i) (c .after-class .result) (rows.from-there (part (now (c .before .before .before .before .before .before .before .before .before .before .before .before .before .before .before .args .s)) (c .before .before .before .before .before .before .before .before .before .before .before .before .before .before .before .args .from) (c .before .before .before .before .before .before .before .before .before .before .before .before .before .before .before .args .to)) (c .before .before .before .before .before .before .before .before .before .loop .n) (c .before .before .before .before .before .before .before .before .before .loop .i) (record { inside = c .before .before .before .before .before .before .before .before .loop-test .taken; rest = c .before .before .before .before .before .before .before .before .before .loop .inv .0 }) (c .before .before .before .before .before .before .before .before .before .before .before .before .before .before .before .pre .1 .0)) (c .after-class .ensures))
+loop-less c =
+    let c1 = c .before .before .before .before .before .before .before .before in
+    let loop-test = c1 .loop-test in
+    let c2 = c1 .before in
+    let loop = c2 .loop in
+    let start = c2 .before .before .before .before .before .before in
+    let a = start .args in
+    omega (
+      arith,
+      loop-test .taken,
+      written.after-five (part (now (a .s)) (a .from) (a .to)) (loop .i) (c .after-class .result)
+          (rows.from-there (part (now (a .s)) (a .from) (a .to)) (loop .n) (loop .i) (record { inside = loop-test .taken; rest = loop .inv .0 })
+          (start .pre .1 .0)) (c .after-class .ensures),
+    )
 
 loop-again : tie.Need-loop-again Inv-loop μ-loop
-loop-again c = (rows.from-next (part (now (c .before .before .before .before .before .before .before .before .before .before .before .before .before .before .before .args .s)) (c .before .before .before .before .before .before .before .before .before .before .before .before .before .before .before .args .from) (c .before .before .before .before .before .before .before .before .before .before .before .before .before .before .before .args .to)) (c .before .before .before .before .before .before .before .before .before .loop .n) (c .before .before .before .before .before .before .before .before .before .loop .i) (c .after-class .result) (c .before .before .before .before .before .before .before .before .before .before .before .before .before .before .before .pre .1 .0) (record { inside = c .before .before .before .before .before .before .before .before .loop-test .taken; rest = c .before .before .before .before .before .before .before .before .before .loop .inv .0 }) (c .after-class .ensures), written.kept-more (part (now (c .before .before .before .before .before .before .before .before .before .before .before .before .before .before .before .args .s)) (c .before .before .before .before .before .before .before .before .before .before .before .before .before .before .before .args .from) (c .before .before .before .before .before .before .before .before .before .before .before .before .before .before .before .args .to)) (c .before .before .before .before .before .before .before .before .before .before .before .before .before .before .before .args .from) (now (c .before .before .before .before .before .before .before .before .before .before .before .before .before .before .before .args .depths)) (c .before .before .before .before .before .before .before .before .before .before .before .before .before .before .before .pre .1 .0) (c .before .before .before .before .before .before .before .before .before .before .before .before .before .before .before .pre .1 .1) (c .before .before .before .before .before .before .before .before .before .loop .t) (c .before .before .before .keep .last .0) (c .before .before .before .before .before .before .before .before .before .loop .n) (c .before .before .before .before .before .before .before .before .before .loop .i) (c .before .before .before .before .before .before .before .before .before .loop .inv .0 .stands) (λ j. c .before .before .before .keep .ensures j ∙ ap (λ (v : ℕ). keptHalf (c .before .before .before .before .before .before .before .before .before .loop .t) ((c .before .before .before .before .before .before .before .before .before .before .before .before .before .before .before .args .from) + c .before .before .before .before .before .before .before .before .before .loop .i) v (getD (now (c .before .before .before .before .before .before .before .before .before .before .before .before .before .before .before .args .depths)) (c .before .before .before .before .before .before .before .before .before .loop .n) 0) j) (c .before .before .before .before .before .wide .ensures .0)) (c .before .before .before .before .before .before .before .before .before .loop .inv .1), λ j h. written.below-more (part (now (c .before .before .before .before .before .before .before .before .before .before .before .before .before .before .before .args .s)) (c .before .before .before .before .before .before .before .before .before .before .before .before .before .before .before .args .from) (c .before .before .before .before .before .before .before .before .before .before .before .before .before .before .before .args .to)) (c .before .before .before .before .before .before .before .before .before .before .before .before .before .before .before .args .from) (now (c .before .before .before .before .before .before .before .before .before .before .before .before .before .before .before .args .depths)) (c .before .before .before .before .before .before .before .before .before .before .before .before .before .before .before .pre .1 .0) (c .before .before .before .before .before .before .before .before .before .before .before .before .before .before .before .pre .1 .1) (c .before .before .before .before .before .before .before .before .before .loop .t) (c .before .before .before .keep .last .0) (c .before .before .before .before .before .before .before .before .before .loop .n) (c .before .before .before .before .before .before .before .before .before .loop .i) (c .before .before .before .before .before .before .before .before .before .loop .inv .0 .stands) (λ j. c .before .before .before .keep .ensures j ∙ ap (λ (v : ℕ). keptHalf (c .before .before .before .before .before .before .before .before .before .loop .t) ((c .before .before .before .before .before .before .before .before .before .before .before .before .before .before .before .args .from) + c .before .before .before .before .before .before .before .before .before .loop .i) v (getD (now (c .before .before .before .before .before .before .before .before .before .before .before .before .before .before .before .args .depths)) (c .before .before .before .before .before .before .before .before .before .loop .n) 0) j) (c .before .before .before .before .before .wide .ensures .0)) j h ∙ c .before .before .before .before .before .before .before .before .before .loop .inv .2 j h, omega (arith, c .before .before .before .before .before .before .before .before .before .loop .inv .3, c .before .before .before .keep .kept .0))
+loop-again c =
+    let c1 = c .before .before .before in
+    let keep = c1 .keep in
+    let c2 = c1 .before .before in
+    let wide = c2 .wide in
+    let c3 = c2 .before .before .before in
+    let c4 = c3 .before in
+    let loop = c4 .loop in
+    let start = c4 .before .before .before .before .before .before in
+    let a = start .args in
+    let pre = start .pre in (
+      rows.from-next (part (now (a .s)) (a .from) (a .to)) (loop .n) (loop .i) (c .after-class .result) (pre .1 .0)
+          (record { inside = c3 .loop-test .taken; rest = loop .inv .0 }) (c .after-class .ensures),
+      written.kept-more (part (now (a .s)) (a .from) (a .to))
+          (a .from) (now (a .depths)) (pre .1 .0) (pre .1 .1) (loop .t) (keep .last .0) (loop .n) (loop .i) (loop .inv .0 .stands)
+          (λ j. keep .ensures j ∙ ap (λ (v : ℕ). keptHalf (loop .t) ((a .from) + loop .i) v (getD (now (a .depths)) (loop .n) 0) j) (wide .ensures .0))
+          (loop .inv .1),
+      λ j h. written.below-more (part (now (a .s)) (a .from) (a .to)) (a .from) (now (a .depths)) (pre .1 .0) (pre .1 .1) (loop .t)
+          (keep .last .0) (loop .n) (loop .i) (loop .inv .0 .stands) (λ j. keep .ensures j ∙ ap
+          (λ (v : ℕ). keptHalf (loop .t) ((a .from) + loop .i) v (getD (now (a .depths)) (loop .n) 0) j) (wide .ensures .0)) j h ∙ loop .inv .2 j h,
+      omega
+          (arith, loop .inv .3, keep .kept .0),
+    )
 
 same-length : tie.Need-same-length Inv-loop μ-loop
 same-length c = c .before .loop .inv .3
 
 returns : tie.Need-returns Inv-loop μ-loop
-returns c = (written.kept-done (part (now (c .before .before .before .before .before .before .before .args .s)) (c .before .before .before .before .before .before .before .args .from) (c .before .before .before .before .before .before .before .args .to)) (c .before .before .before .before .before .before .before .args .from) (now (c .before .before .before .before .before .before .before .args .depths)) (c .before .loop .t) (c .before .loop .n) (c .before .loop .i) (c .before .before .before .before .before .before .before .pre .1 .0) (c .before .loop .inv .0 .stands) (c .loop-test .left) (c .before .loop .inv .1), c .before .loop .inv .2)
+returns c =
+    let start = c .before .before .before .before .before .before .before in
+    let a = start .args in (
+      written.kept-done (part (now (a .s)) (a .from) (a .to)) (a .from) (now (a .depths)) (c .before .loop .t) (c .before .loop .n) (c .before .loop .i)
+          (start .pre .1 .0) (c .before .loop .inv .0 .stands) (c .loop-test .left) (c .before .loop .inv .1),
+      c .before .loop .inv .2,
+    )
 
 pub keep-depths-spec : {M : Type 1} → statement M
 keep-depths-spec =

@@ -12,10 +12,18 @@ use Rattle.depths.proofs.parent_exists.Statement.{statement}
 use Rattle.depths.proofs.parent_exists.Tie as tie
 
 returns : tie.Need-returns
-returns c = (exist.exists-beyond (now (c .before .before .before .before .before .args .f)) (now (c .before .before .before .before .before .args .s)) (c .before .before .before .before .before .args .o .end) (c .before .before .before .before .before .args .o .number) (c .before .before .before .before .before .args .p) (c .before .before .before .before .before .args .c) (c .before .before .before .before .before .args .o .imports) (c .before .before .before .before .before .pre .1 .0) (c .if1 .taken), (c .before .before .before .before .before .pre .1 .1))
+returns c =
+    let start = c .before .before .before .before .before in
+    let a = start .args in
+    let pre = start .pre in
+    (exist.exists-beyond (now (a .f)) (now (a .s)) (a .o .end) (a .o .number) (a .p) (a .c) (a .o .imports) (pre .1 .0) (c .if1 .taken), (pre .1 .1))
 
 class-in-requires : tie.Need-class-in-requires
-class-in-requires c κs = (((c .before .before .before .before .before .before .pre .0 .0), (c .before .before .before .before .before .before .pre .0 .1)), ((exist.imports-there (now (c .before .before .before .before .before .before .args .f)) (c .before .before .before .before .before .before .args .o .imports) (c .before .before .before .before .before .before .args .p) (c .before .before .before .before .before .before .pre .1 .0) (c .before .if1 .left)), (c .before .before .before .before .before .before .pre .1 .1)))
+class-in-requires c κs =
+    let start = c .before .before .before .before .before .before in
+    let a = start .args in
+    let pre = start .pre in
+    (((pre .0 .0), (pre .0 .1)), ((exist.imports-there (now (a .f)) (a .o .imports) (a .p) (pre .1 .0) (c .before .if1 .left)), (pre .1 .1)))
 
 enum-told : tie.Need-enum-told
 enum-told c = search needs
@@ -24,7 +32,19 @@ same-length : tie.Need-same-length
 same-length c = search needs
 
 returns-2 : tie.Need-returns-2
-returns-2 c = (exist.exists-at (now (c .before .before .before .before .before .before .before .before .before .before .before .before .args .f)) (now (c .before .before .before .before .before .before .before .before .before .before .before .before .args .s)) (c .before .before .before .before .before .before .before .before .before .before .before .before .args .o .end) (c .before .before .before .before .before .before .before .before .before .before .before .before .args .o .number) (c .before .before .before .before .before .before .before .before .before .before .before .before .args .p) (c .before .before .before .before .before .before .before .before .before .before .before .before .args .c) (now (c .before .before .before .before .before .before .before .before .before .before .before .before .args .homes)) (c .before .before .before .before .before .before .before .before .before .before .before .before .pre .0 .1) (exist.imports-there (now (c .before .before .before .before .before .before .before .before .before .before .before .before .args .f)) (c .before .before .before .before .before .before .before .before .before .before .before .before .args .o .imports) (c .before .before .before .before .before .before .before .before .before .before .before .before .args .p) (c .before .before .before .before .before .before .before .before .before .before .before .before .pre .1 .0) (c .before .before .before .before .before .before .before .if1 .left)) (c .before .enum-told .given .0 .0) (subst (ClassPlaced (now (c .before .before .before .before .before .before .before .before .before .before .before .before .args .f)) (now (c .before .before .before .before .before .before .before .before .before .before .before .before .args .s)) (homeOf (c .before .before .before .before .before .before .before .before .before .before .before .before .args .o .end) (now (c .before .before .before .before .before .before .before .before .before .before .before .before .args .homes)) (c .before .before .before .before .before .before .before .before .before .before .before .before .args .p)) (c .before .before .before .before .before .before .before .before .before .before .before .before .args .c)) (c .before .enum-told .given .1) (c .before .before .before .before .before .class-in .ensures .0)) false true (ne-eqb (c .before .before .before .before .before .before .before .before .before .before .before .before .args .p) 0 (c .if2 .taken)) refl, c .before .before .before .before .before .class-in .ensures .1)
+returns-2 c =
+    let c1 = c .before .before .before .before .before in
+    let class-in = c1 .class-in in
+    let c2 = c1 .before .before in
+    let start = c2 .before .before .before .before .before in
+    let a = start .args in
+    let pre = start .pre in (
+      exist.exists-at (now (a .f)) (now (a .s)) (a .o .end) (a .o .number) (a .p) (a .c) (now (a .homes)) (pre .0 .1)
+          (exist.imports-there (now (a .f)) (a .o .imports) (a .p) (pre .1 .0) (c2 .if1 .left)) (c .before .enum-told .given .0 .0)
+          (subst (ClassPlaced (now (a .f)) (now (a .s)) (homeOf (a .o .end) (now (a .homes)) (a .p)) (a .c)) (c .before .enum-told .given .1)
+          (class-in .ensures .0)) false true (ne-eqb (a .p) 0 (c .if2 .taken)) refl,
+      class-in .ensures .1,
+    )
 
 enum-told-2 : tie.Need-enum-told-2
 enum-told-2 c = search needs
@@ -33,13 +53,39 @@ same-length-2 : tie.Need-same-length-2
 same-length-2 c = search needs
 
 returns-3 : tie.Need-returns-3
-returns-3 c = (exist.exists-at (now (c .before .before .before .before .before .before .before .before .before .before .before .before .before .args .f)) (now (c .before .before .before .before .before .before .before .before .before .before .before .before .before .args .s)) (c .before .before .before .before .before .before .before .before .before .before .before .before .before .args .o .end) (c .before .before .before .before .before .before .before .before .before .before .before .before .before .args .o .number) (c .before .before .before .before .before .before .before .before .before .before .before .before .before .args .p) (c .before .before .before .before .before .before .before .before .before .before .before .before .before .args .c) (now (c .before .before .before .before .before .before .before .before .before .before .before .before .before .args .homes)) (c .before .before .before .before .before .before .before .before .before .before .before .before .before .pre .0 .1) (exist.imports-there (now (c .before .before .before .before .before .before .before .before .before .before .before .before .before .args .f)) (c .before .before .before .before .before .before .before .before .before .before .before .before .before .args .o .imports) (c .before .before .before .before .before .before .before .before .before .before .before .before .before .args .p) (c .before .before .before .before .before .before .before .before .before .before .before .before .before .pre .1 .0) (c .before .before .before .before .before .before .before .before .if1 .left)) (c .before .before .enum-told .given .0 .0) (subst (ClassPlaced (now (c .before .before .before .before .before .before .before .before .before .before .before .before .before .args .f)) (now (c .before .before .before .before .before .before .before .before .before .before .before .before .before .args .s)) (homeOf (c .before .before .before .before .before .before .before .before .before .before .before .before .before .args .o .end) (now (c .before .before .before .before .before .before .before .before .before .before .before .before .before .args .homes)) (c .before .before .before .before .before .before .before .before .before .before .before .before .before .args .p)) (c .before .before .before .before .before .before .before .before .before .before .before .before .before .args .c)) (c .before .before .enum-told .given .1) (c .before .before .before .before .before .before .class-in .ensures .0)) true (ltb (c .before .before .before .before .before .before .before .before .before .before .before .before .before .args .c) (c .before .before .before .before .before .before .before .before .before .before .before .before .before .args .o .number)) (eq-eqb (c .before .before .before .before .before .before .before .before .before .before .before .before .before .args .p) 0 (c .before .if2 .left)) refl, c .before .before .before .before .before .before .class-in .ensures .1)
+returns-3 c =
+    let c1 = c .before .before in
+    let enum-told-told = c1 .enum-told in
+    let c2 = c1 .before .before .before .before in
+    let class-in = c2 .class-in in
+    let c3 = c2 .before .before in
+    let start = c3 .before .before .before .before .before in
+    let a = start .args in
+    let pre = start .pre in (
+      exist.exists-at (now (a .f)) (now (a .s)) (a .o .end) (a .o .number) (a .p) (a .c) (now (a .homes)) (pre .0 .1)
+          (exist.imports-there (now (a .f)) (a .o .imports) (a .p) (pre .1 .0) (c3 .if1 .left)) (enum-told-told .given .0 .0)
+          (subst (ClassPlaced (now (a .f)) (now (a .s)) (homeOf (a .o .end) (now (a .homes)) (a .p)) (a .c)) (enum-told-told .given .1)
+          (class-in .ensures .0)) true (ltb (a .c) (a .o .number)) (eq-eqb (a .p) 0 (c .before .if2 .left)) refl,
+      class-in .ensures .1,
+    )
 
 same-length-3 : tie.Need-same-length-3
 same-length-3 c = search needs
 
 returns-4 : tie.Need-returns-4
-returns-4 c = (exist.exists-not (now (c .before .before .before .before .before .before .before .before .before .before .before .args .f)) (now (c .before .before .before .before .before .before .before .before .before .before .before .args .s)) (c .before .before .before .before .before .before .before .before .before .before .before .args .o .end) (c .before .before .before .before .before .before .before .before .before .before .before .args .o .number) (c .before .before .before .before .before .before .before .before .before .before .before .args .p) (c .before .before .before .before .before .before .before .before .before .before .before .args .c) (now (c .before .before .before .before .before .before .before .before .before .before .before .args .homes)) (c .before .before .before .before .before .before .before .before .before .before .before .pre .0 .1) (exist.imports-there (now (c .before .before .before .before .before .before .before .before .before .before .before .args .f)) (c .before .before .before .before .before .before .before .before .before .before .before .args .o .imports) (c .before .before .before .before .before .before .before .before .before .before .before .args .p) (c .before .before .before .before .before .before .before .before .before .before .before .pre .1 .0) (c .before .before .before .before .before .before .if1 .left)) (subst (ClassPlaced (now (c .before .before .before .before .before .before .before .before .before .before .before .args .f)) (now (c .before .before .before .before .before .before .before .before .before .before .before .args .s)) (homeOf (c .before .before .before .before .before .before .before .before .before .before .before .args .o .end) (now (c .before .before .before .before .before .before .before .before .before .before .before .args .homes)) (c .before .before .before .before .before .before .before .before .before .before .before .args .p)) (c .before .before .before .before .before .before .before .before .before .before .before .args .c)) (c .enum-told2 .given .1) (c .before .before .before .before .class-in .ensures .0)), c .before .before .before .before .class-in .ensures .1)
+returns-4 c =
+    let c1 = c .before .before .before .before in
+    let class-in = c1 .class-in in
+    let c2 = c1 .before .before in
+    let start = c2 .before .before .before .before .before in
+    let a = start .args in
+    let pre = start .pre in (
+      exist.exists-not (now (a .f)) (now (a .s)) (a .o .end) (a .o .number) (a .p) (a .c) (now (a .homes)) (pre .0 .1)
+          (exist.imports-there (now (a .f)) (a .o .imports) (a .p) (pre .1 .0) (c2 .if1 .left))
+          (subst (ClassPlaced (now (a .f)) (now (a .s)) (homeOf (a .o .end) (now (a .homes)) (a .p)) (a .c)) (c .enum-told2 .given .1)
+          (class-in .ensures .0)),
+      class-in .ensures .1,
+    )
 
 pub parent-exists-spec : {M : Type 1} → statement M
 parent-exists-spec =

@@ -29,8 +29,9 @@ returns c =
 
 enter-requires : tie.Need-enter-requires
 enter-requires c κs =
-    let start = c .before .before .before .before .before in
-    let range = c .before .before .length-ok in
+    let c1 = c .before .before in
+    let range = c1 .length-ok in
+    let start = c1 .before .before .before in
     keys.enter-ready (now (start .args .s)) (start .args .at) (now (start .args .table)) (start .pre .0) (start .args .next)
     (part (now (start .args .s)) (start .args .from) (start .args .next)) (start .pre .1 .0 .0)
     (keys.part-range (now (start .args .s)) (start .args .from) (start .args .next) (start .pre .1 .0 .0 .to) (range .result) true (range .ensures)
@@ -41,10 +42,13 @@ same-length c = search needs
 
 returns-2 : tie.Need-returns-2
 returns-2 c =
-    let start = c .before .before .before .before .before .before .before .before in
-    let range = c .before .before .before .before .before .length-ok in
-    let if1 = c .before .before .before .before .if1 in
-    let entered = c .before .before .enter in (
+    let c1 = c .before .before in
+    let c2 = c1 .before .before in
+    let if1 = c2 .if1 in
+    let c3 = c2 .before in
+    let range = c3 .length-ok in
+    let start = c3 .before .before .before in
+    let entered = c1 .enter in (
       keys.enter-says (now (start .args .s)) (start .args .at) (now (start .args .table)) (start .pre .0) (start .args .next)
           (part (now (start .args .s)) (start .args .from) (start .args .next)) (start .pre .1 .0 .0)
           (keys.part-range (now (start .args .s)) (start .args .from) (start .args .next) (start .pre .1 .0 .0 .to) (range .result) true (range .ensures)

@@ -44,19 +44,23 @@ enum-known-from c = search needs
 
 domain-ok-requires : tie.Need-domain-ok-requires Inv-loop μ-loop
 domain-ok-requires c κs =
-    let start = c .before .before .before .before .before .before .before .before in
-    let turn = c .before .before .before .before .before .loop in
-    let entry = c .before .before .from in
+    let c1 = c .before .before in
+    let entry = c1 .from in
+    let c2 = c1 .before .before in
+    let c3 = c2 .before in
+    let turn = c3 .loop in
+    let start = c3 .before .before .before in
     let first = phase.domain-first (now (start .args .s)) (start .args .end) (turn .at) (turn .inv .0) (entry .given .0 .0) (entry .given .0 .1 .0)
-    (part-told (entry .given .1) (c .before .before .before .before .entry-at .ensures)) (start .pre .0) in
+    (part-told (entry .given .1) (c2 .entry-at .ensures)) (start .pre .0) in
     (turn .inv .1, ((first .0, first .1), start .pre .1 .0))
 
 same-length : tie.Need-same-length Inv-loop μ-loop
 same-length c =
-    let start = c .before .before .before .before .before .before .before .before .before .before .before .before in
+    let c1 = c .before .before .before .before .before .before .before .before .before in
+    let start = c1 .before .before .before in
     omega (
       arith,
-      c .before .before .before .before .before .before .before .before .before .loop .inv .2,
+      c1 .loop .inv .2,
       length-set (now (start .args .table)) 0 0,
       c .before
           .before .before .domain-ok .kept,
@@ -64,31 +68,42 @@ same-length c =
 
 returns : tie.Need-returns Inv-loop μ-loop
 returns c =
-    let start = c .before .before .before .before .before .before .before .before .before .before .before .before in
-    let turn = c .before .before .before .before .before .before .before .before .before .loop in
-    let entry = c .before .before .before .before .before .before .from in
+    let c1 = c .before .before .before in
+    let c2 = c1 .before .before .before in
+    let entry = c2 .from in
+    let c3 = c2 .before .before in
+    let c4 = c3 .before in
+    let turn = c4 .loop in
+    let start = c4 .before .before .before in
     phase.domain-bad (now (start .args .s)) (start .args .end) (turn .at) (turn .inv .0) (entry .given .0 .0) (entry .given .0 .1 .0)
-    (part-told (entry .given .1) (c .before .before .before .before .before .before .before .before .entry-at .ensures))
+    (part-told (entry .given .1) (c3 .entry-at .ensures))
     (subst (EntrySays (now (start .args .s)) (turn .at) (domain (part (now (start .args .s)) (entry .given .0 .0) (entry .given .0 .1 .0))))
-    (not-true _ (c .if1 .taken)) (c .before .before .before .domain-ok .ensures .0))
+    (not-true _ (c .if1 .taken)) (c1 .domain-ok .ensures .0))
 
 loop-less : tie.Need-loop-less Inv-loop μ-loop
 loop-less c =
-    let start = c .before .before .before .before .before .before .before .before .before .before .before .before in
-    let turn = c .before .before .before .before .before .before .before .before .before .loop in
-    let entry = c .before .before .before .before .before .before .from in
+    let c1 = c .before .before .before .before .before .before in
+    let entry = c1 .from in
+    let c2 = c1 .before .before in
+    let c3 = c2 .before in
+    let turn = c3 .loop in
+    let start = c3 .before .before .before in
     let first = phase.domain-first (now (start .args .s)) (start .args .end) (turn .at) (turn .inv .0) (entry .given .0 .0) (entry .given .0 .1 .0)
-    (part-told (entry .given .1) (c .before .before .before .before .before .before .before .before .entry-at .ensures)) (start .pre .0) in
+    (part-told (entry .given .1) (c2 .entry-at .ensures)) (start .pre .0) in
     omega (arith, first .2, first .3)
 
 loop-again : tie.Need-loop-again Inv-loop μ-loop
 loop-again c =
-    let start = c .before .before .before .before .before .before .before .before .before .before .before .before in
-    let turn = c .before .before .before .before .before .before .before .before .before .loop in
-    let entry = c .before .before .before .before .before .before .from in
-    let told = c .before .before .before .domain-ok in (
+    let c1 = c .before .before .before in
+    let c2 = c1 .before .before .before in
+    let entry = c2 .from in
+    let c3 = c2 .before .before in
+    let c4 = c3 .before in
+    let turn = c4 .loop in
+    let start = c4 .before .before .before in
+    let told = c1 .domain-ok in (
       phase.domain-on (now (start .args .s)) (start .args .end) (turn .at) (turn .inv .0) (entry .given .0 .0) (entry .given .0 .1 .0)
-          (part-told (entry .given .1) (c .before .before .before .before .before .before .before .before .entry-at .ensures))
+          (part-told (entry .given .1) (c3 .entry-at .ensures))
           (subst (EntrySays (now (start .args .s)) (turn .at) (domain (part (now (start .args .s)) (entry .given .0 .0) (entry .given .0 .1 .0))))
           (not-false _ (c .if1 .left)) (told .ensures .0)),
       told .ensures .1 (not-false _ (c .if1 .left)),
@@ -100,43 +115,56 @@ enum-known-from-2 c = search needs
 
 package-ok-requires : tie.Need-package-ok-requires Inv-loop μ-loop
 package-ok-requires c κs =
-    let start = c .before .before .before .before .before .before .before .before in
-    let turn = c .before .before .before .before .before .loop in
-    let entry = c .before .before .from2 in
+    let c1 = c .before .before in
+    let entry = c1 .from2 in
+    let c2 = c1 .before .before in
+    let c3 = c2 .before in
+    let turn = c3 .loop in
+    let start = c3 .before .before .before in
     let first = phase.package-first (now (start .args .s)) (start .args .end) (turn .at) (turn .inv .0) (entry .given .0 .0) (entry .given .0 .1 .0)
-    (entry .given .0 .1 .1 .0) (part-told (entry .given .1) (c .before .before .before .before .entry-at .ensures)) (start .pre .0) in
+    (entry .given .0 .1 .1 .0) (part-told (entry .given .1) (c2 .entry-at .ensures)) (start .pre .0) in
     (turn .inv .1, (first .1, omega (arith, first .2, first .0 .to)))
 
 same-length-2 : tie.Need-same-length-2 Inv-loop μ-loop
 same-length-2 c =
-    let start = c .before .before .before .before .before .before .before .before .before .before in
-    omega (arith, c .before .before .before .before .before .before .before .loop .inv .2, length-set (now (start .args .table)) 0 0)
+    let c1 = c .before .before .before .before .before .before .before in
+    let start = c1 .before .before .before in
+    omega (arith, c1 .loop .inv .2, length-set (now (start .args .table)) 0 0)
 
 returns-2 : tie.Need-returns-2 Inv-loop μ-loop
 returns-2 c =
-    let start = c .before .before .before .before .before .before .before .before .before .before in
-    let turn = c .before .before .before .before .before .before .before .loop in
-    let entry = c .before .before .before .before .from2 in
+    let c1 = c .before .before .before .before in
+    let entry = c1 .from2 in
+    let c2 = c1 .before .before in
+    let c3 = c2 .before in
+    let turn = c3 .loop in
+    let start = c3 .before .before .before in
     phase.package-bad (now (start .args .s)) (start .args .end) (turn .at) (turn .inv .0) (entry .given .0 .0) (entry .given .0 .1 .0)
-    (entry .given .0 .1 .1 .0) (part-told (entry .given .1) (c .before .before .before .before .before .before .entry-at .ensures))
+    (entry .given .0 .1 .1 .0) (part-told (entry .given .1) (c2 .entry-at .ensures))
     (subst (PackageSays (now (start .args .s)) (turn .at) (part (now (start .args .s)) (entry .given .0 .0) (entry .given .0 .1 .0)))
     (not-true _ (c .if2 .taken)) (c .before .package-ok .ensures))
 
 loop-less-2 : tie.Need-loop-less-2 Inv-loop μ-loop
 loop-less-2 c =
-    let start = c .before .before .before .before .before .before .before .before .before .before in
-    let turn = c .before .before .before .before .before .before .before .loop in
-    let entry = c .before .before .before .before .from2 in
+    let c1 = c .before .before .before .before in
+    let entry = c1 .from2 in
+    let c2 = c1 .before .before in
+    let c3 = c2 .before in
+    let turn = c3 .loop in
+    let start = c3 .before .before .before in
     let first = phase.package-first (now (start .args .s)) (start .args .end) (turn .at) (turn .inv .0) (entry .given .0 .0) (entry .given .0 .1 .0)
-    (entry .given .0 .1 .1 .0) (part-told (entry .given .1) (c .before .before .before .before .before .before .entry-at .ensures)) (start .pre .0) in
+    (entry .given .0 .1 .1 .0) (part-told (entry .given .1) (c2 .entry-at .ensures)) (start .pre .0) in
     omega (arith, first .3, first .4)
 
 loop-again-2 : tie.Need-loop-again-2 Inv-loop μ-loop
 loop-again-2 c =
-    let start = c .before .before .before .before .before .before .before .before .before .before in
-    let turn = c .before .before .before .before .before .before .before .loop in
-    let entry = c .before .before .before .before .from2 in
-    let part-at = c .before .before .before .before .before .before .entry-at in
+    let c1 = c .before .before .before .before in
+    let entry = c1 .from2 in
+    let c2 = c1 .before .before in
+    let part-at = c2 .entry-at in
+    let c3 = c2 .before in
+    let turn = c3 .loop in
+    let start = c3 .before .before .before in
     let first = phase.package-first (now (start .args .s)) (start .args .end) (turn .at) (turn .inv .0) (entry .given .0 .0) (entry .given .0 .1 .0)
     (entry .given .0 .1 .1 .0) (part-told (entry .given .1) (part-at .ensures)) (start .pre .0) in (
       phase.package-on (now (start .args .s)) (start .args .end) (turn .at) (turn .inv .0) (entry .given .0 .0) (entry .given .0 .1 .0)
@@ -154,15 +182,18 @@ enum-told c = search needs
 
 same-length-3 : tie.Need-same-length-3 Inv-loop μ-loop
 same-length-3 c =
-    let start = c .before .before .before .before .before .before in
-    omega (arith, c .before .before .before .loop .inv .2, length-set (now (start .args .table)) 0 0)
+    let c1 = c .before .before .before in
+    let start = c1 .before .before .before in
+    omega (arith, c1 .loop .inv .2, length-set (now (start .args .table)) 0 0)
 
 returns-3 : tie.Need-returns-3 Inv-loop μ-loop
 returns-3 c =
-    let start = c .before .before .before .before .before .before in
-    let turn = c .before .before .before .loop in
+    let c1 = c .before .before in
+    let c2 = c1 .before in
+    let turn = c2 .loop in
+    let start = c2 .before .before .before in
     phase.all-done (now (start .args .s)) (start .args .end) (turn .at) (turn .inv .0)
-    (part-told (c .enum-told .given .1) (c .before .before .entry-at .ensures))
+    (part-told (c .enum-told .given .1) (c1 .entry-at .ensures))
 
 pub domains-ok-spec : {M : Type 1} → statement M
 domains-ok-spec =

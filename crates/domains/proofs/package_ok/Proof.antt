@@ -39,22 +39,26 @@ find-requires c κs =
 
 returns-2 : tie.Need-returns-2
 returns-2 c =
-    let start = c .before .before .before .before .before .before .before in
-    let range = c .before .before .before .before .length-ok in
+    let c1 = c .before .before .before in
+    let c2 = c1 .before in
+    let range = c2 .length-ok in
+    let start = c2 .before .before .before in
     (keys.package-says (now (start .args .s)) (start .args .at) (now (start .args .table)) (start .pre .0)
     (part (now (start .args .s)) (start .args .from) (start .args .file)) (c .before .find .result)
     (keys.part-range (now (start .args .s)) (start .args .from) (start .args .file) (start .pre .1 .1) (range .result) true (range .ensures)
-    (not-false _ (c .before .before .before .if1 .left)))
+    (not-false _ (c1 .if1 .left)))
     (c .before .find .ensures)) .1 (c .if2 .taken)
 
 returns-3 : tie.Need-returns-3
 returns-3 c =
-    let start = c .before .before .before .before .before .before .before in
-    let range = c .before .before .before .before .length-ok in
+    let c1 = c .before .before .before in
+    let c2 = c1 .before in
+    let range = c2 .length-ok in
+    let start = c2 .before .before .before in
     (keys.package-says (now (start .args .s)) (start .args .at) (now (start .args .table)) (start .pre .0)
     (part (now (start .args .s)) (start .args .from) (start .args .file)) (c .before .find .result)
     (keys.part-range (now (start .args .s)) (start .args .from) (start .args .file) (start .pre .1 .1) (range .result) true (range .ensures)
-    (not-false _ (c .before .before .before .if1 .left)))
+    (not-false _ (c1 .if1 .left)))
     (c .before .find .ensures)) .0 (c .if2 .left)
 
 pub package-ok-spec : {M : Type 1} → statement M

@@ -30,15 +30,17 @@ wide-requires c κs = search needs
 
 add-c : tie.Need-add-c Inv-loop μ-loop
 add-c c =
-    let start = c .before .before .before .before .before .before in
-    omega (arith, methods-in (methods-there (c .before .before .methods-of .ensures) (let g = start .pre .0 in (g .0, g .1, g .2))))
+    let c1 = c .before .before in
+    let start = c1 .before .before .before .before in
+    omega (arith, methods-in (methods-there (c1 .methods-of .ensures) (let g = start .pre .0 in (g .0, g .1, g .2))))
 
 loop-holds : tie.Need-loop-holds Inv-loop μ-loop
 loop-holds c = (methods-start (c .wide .ensures .0), refl, refl)
 
 method-number-requires : tie.Need-method-number-requires Inv-loop μ-loop
 method-number-requires c κs =
-    let at-loop = c .before .before .before in
+    let c1 = c .before .before in
+    let at-loop = c1 .before in
     let at-methods-of = at-loop .before .before .before in
     let start = at-methods-of .before .before .before .before in
     let g = start .pre .0 in
@@ -47,7 +49,7 @@ method-number-requires c κs =
         g .0,
         g .1,
         methods-here (at-methods-of .methods-of .result) (turn .number) (turn .left) (turn .c) (turn .inv .0) (g .0) (g .1) (g .2)
-            (at-methods-of .methods-of .ensures) (c .before .before .loop-test .taken),
+            (at-methods-of .methods-of .ensures) (c1 .loop-test .taken),
         (
           omega (arith, g .3 .0, turn .inv .1),
           omega

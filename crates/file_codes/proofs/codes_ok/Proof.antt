@@ -31,15 +31,17 @@ wide-requires c κs = search needs
 
 add-c : tie.Need-add-c Inv-loop μ-loop
 add-c c =
-    let start = c .before .before .before .before .before .before in
-    omega (arith, classes-in (classes-there (c .before .before .classes-at .ensures) (let g = start .pre .0 in (g .0, g .1, g .2))))
+    let c1 = c .before .before in
+    let start = c1 .before .before .before .before in
+    omega (arith, classes-in (classes-there (c1 .classes-at .ensures) (let g = start .pre .0 in (g .0, g .1, g .2))))
 
 loop-holds : tie.Need-loop-holds Inv-loop μ-loop
 loop-holds c = (classes-start (c .wide .ensures .0), refl, refl)
 
 class-number-requires : tie.Need-class-number-requires Inv-loop μ-loop
 class-number-requires c κs =
-    let at-loop = c .before .before .before in
+    let c1 = c .before .before in
+    let at-loop = c1 .before in
     let at-classes-at = at-loop .before .before .before in
     let start = at-classes-at .before .before .before .before in
     let g = start .pre .0 in
@@ -48,7 +50,7 @@ class-number-requires c κs =
         g .0,
         g .1 .domains,
         classes-here (at-classes-at .classes-at .result) (turn .number) (turn .left) (turn .c) (turn .inv .0) (g .0) (g .1)
-            (g .2) (at-classes-at .classes-at .ensures) (c .before .before .loop-test .taken),
+            (g .2) (at-classes-at .classes-at .ensures) (c1 .loop-test .taken),
         (
           omega (arith, g .3 .0, turn .inv .1),
           omega

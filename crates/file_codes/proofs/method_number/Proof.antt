@@ -27,9 +27,11 @@ code-of-requires c κs =
 
 check-code-requires : tie.Need-check-code-requires
 check-code-requires c κs =
-    let start = c .before .before .before .before .before .before .before .before in
+    let c1 = c .before .before in
+    let code-of = c1 .code-of in
+    let start = c1 .before .before .before .before .before .before in
     let a = start .args in
-    let short = method-short (now (a .starts)) (now (a .targets)) (now (c .before .before .code-of .result)) (c .before .before .code-of .ensures)
+    let short = method-short (now (a .starts)) (now (a .targets)) (now (code-of .result)) (code-of .ensures)
     (start .pre .0) in
     (start .pre .1, short .0, short .1)
 

@@ -15,7 +15,9 @@ wide-requires : tie.Need-wide-requires
 wide-requires c κs = search needs
 
 add-result-2 : tie.Need-add-result-2
-add-result-2 c = omega (arith, steps.aid-in (c .before .before .before .pre), c .wide .ensures .0)
+add-result-2 c =
+    let pre = c .before .before .before .pre in
+    omega (arith, steps.aid-in pre, c .wide .ensures .0)
 
 returns : tie.Need-returns
 returns c = rw (c .wide .ensures .0) steps.aid-next

@@ -20,13 +20,17 @@ wide-requires : tie.Need-wide-requires Inv-loop μ-loop
 wide-requires c κs = search needs
 
 add-c : tie.Need-add-c Inv-loop μ-loop
-add-c c = omega (arith, steps.methods-in (c .before .before .before .pre))
+add-c c =
+    let pre = c .before .before .before .pre in
+    omega (arith, steps.methods-in pre)
 
 loop-holds : tie.Need-loop-holds Inv-loop μ-loop
 loop-holds c = loops.methods-start (c .wide .ensures .0)
 
 after-method-requires : tie.Need-after-method-requires Inv-loop μ-loop
-after-method-requires c κs = loops.methods-here (c .before .loop .inv) (c .loop-test .taken) (c .before .before .before .before .before .pre)
+after-method-requires c κs =
+    let pre = c .before .before .before .before .before .pre in
+    loops.methods-here (c .before .loop .inv) (c .loop-test .taken) pre
 
 sub-left : tie.Need-sub-left Inv-loop μ-loop
 sub-left c = omega arith

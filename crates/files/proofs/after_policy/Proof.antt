@@ -13,16 +13,22 @@ wide-requires : tie.Need-wide-requires
 wide-requires c κs = search needs
 
 add-result : tie.Need-add-result
-add-result c = omega (arith, steps.policy-in (c .before .before .before .before .pre))
+add-result c =
+    let pre = c .before .before .before .before .pre in
+    omega (arith, steps.policy-in pre)
 
 returns : tie.Need-returns
 returns c = steps.policy-every (sym (c .before .wide .ensures .0) ∙ c .if1 .taken)
 
 add-result-2 : tie.Need-add-result-2
-add-result-2 c = omega (arith, steps.policy-in (c .before .before .before .before .pre))
+add-result-2 c =
+    let pre = c .before .before .before .before .pre in
+    omega (arith, steps.policy-in pre)
 
 add-result-3 : tie.Need-add-result-3
-add-result-3 c = omega (arith, steps.policy-to (λ e. c .if1 .left (c .before .wide .ensures .0 ∙ e)) (c .before .before .before .before .pre), c .before .wide .ensures .0)
+add-result-3 c =
+    let pre = c .before .before .before .before .pre in
+    omega (arith, steps.policy-to (λ e. c .if1 .left (c .before .wide .ensures .0 ∙ e)) pre, c .before .wide .ensures .0)
 
 returns-2 : tie.Need-returns-2
 returns-2 c = rw (c .before .wide .ensures .0) (steps.policy-only (λ e. c .if1 .left (c .before .wide .ensures .0 ∙ e)))

@@ -8,16 +8,32 @@ after-aid-requires : tie.Need-after-aid-requires
 after-aid-requires c κs = c .before .pre
 
 add-result : tie.Need-add-result
-add-result c = omega (arith, (steps.aid-bytes (c .after-aid .ensures) (c .before .before .pre .2)) .0, (steps.aid-bytes (c .after-aid .ensures) (c .before .before .pre .2)) .1)
+add-result c = omega (
+  arith,
+  (steps.aid-bytes (c .after-aid .ensures) (c .before .before .pre .2)) .0,
+  (steps.aid-bytes (c .after-aid .ensures) (c .before .before .pre .2)) .1,
+)
 
 sub-result : tie.Need-sub-result
-sub-result c = omega (arith, (steps.aid-bytes (c .after-aid .ensures) (c .before .before .pre .2)) .0, (steps.aid-bytes (c .after-aid .ensures) (c .before .before .pre .2)) .1)
+sub-result c = omega (
+  arith,
+  (steps.aid-bytes (c .after-aid .ensures) (c .before .before .pre .2)) .0,
+  (steps.aid-bytes (c .after-aid .ensures) (c .before .before .pre .2)) .1,
+)
 
 part-result-start : tie.Need-part-result-start
-part-result-start c = omega (arith, (steps.aid-bytes (c .after-aid .ensures) (c .before .before .pre .2)) .0, (steps.aid-bytes (c .after-aid .ensures) (c .before .before .pre .2)) .1)
+part-result-start c = omega (
+  arith,
+  (steps.aid-bytes (c .after-aid .ensures) (c .before .before .pre .2)) .0,
+  (steps.aid-bytes (c .after-aid .ensures) (c .before .before .pre .2)) .1,
+)
 
 part-result-end : tie.Need-part-result-end
-part-result-end c = omega (arith, (steps.aid-bytes (c .after-aid .ensures) (c .before .before .pre .2)) .0, (steps.aid-bytes (c .after-aid .ensures) (c .before .before .pre .2)) .1)
+part-result-end c = omega (
+  arith,
+  (steps.aid-bytes (c .after-aid .ensures) (c .before .before .pre .2)) .0,
+  (steps.aid-bytes (c .after-aid .ensures) (c .before .before .pre .2)) .1,
+)
 
 returns : tie.Need-returns
 returns c = λ a j p. (steps.aid-bytes (c .before .after-aid .ensures) p) .2

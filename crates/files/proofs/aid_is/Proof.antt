@@ -13,7 +13,9 @@ same-bytes-requires : tie.Need-same-bytes-requires
 same-bytes-requires c κs = search needs
 
 returns : tie.Need-returns
-returns c = λ a j p. c .same-bytes .ensures ∙ ap (same (now (c .before .before .before .before .args .x))) (c .before .aid-bytes .ensures a j p)
+returns c =
+    let a-told = c .before .before .before .before .args in
+    λ a j p. c .same-bytes .ensures ∙ ap (same (now (a-told .x))) (c .before .aid-bytes .ensures a j p)
 
 pub aid-is-spec : {M : Type 1} → statement M
 aid-is-spec = tie.close (tie.spec aid-bytes-requires same-bytes-requires returns)

@@ -12,46 +12,132 @@ wide-requires : tie.Need-wide-requires
 wide-requires c κs = search needs
 
 add-after-policy : tie.Need-add-after-policy
-add-after-policy c = omega (arith, steps.method-in (c .before .before .before .pre))
+add-after-policy c =
+    let pre = c .before .before .before .pre in
+    omega (arith, steps.method-in pre)
 
 after-policy-requires : tie.Need-after-policy-requires
-after-policy-requires c κs = steps.method-policy (c .before .before .before .pre)
+after-policy-requires c κs =
+    let pre = c .before .before .before .pre in
+    steps.method-policy pre
 
 sub-result : tie.Need-sub-result
-sub-result c = omega (arith, steps.bare-in (c .before .before .wide .ensures .0) (c .before .after-policy .ensures) (c .if1 .taken) (c .before .before .before .before .before .pre))
+sub-result c =
+    let c1 = c .before .before in
+    let pre = c1 .before .before .before .pre in
+    omega (arith, steps.bare-in (c1 .wide .ensures .0) (c .before .after-policy .ensures) (c .if1 .taken) pre)
 
 part-result-start : tie.Need-part-result-start
-part-result-start c = omega (arith, steps.bare-in (c .before .before .wide .ensures .0) (c .before .after-policy .ensures) (c .if1 .taken) (c .before .before .before .before .before .pre))
+part-result-start c =
+    let c1 = c .before .before in
+    let pre = c1 .before .before .before .pre in
+    omega (arith, steps.bare-in (c1 .wide .ensures .0) (c .before .after-policy .ensures) (c .if1 .taken) pre)
 
 part-result-end : tie.Need-part-result-end
-part-result-end c = omega (arith, steps.bare-in (c .before .before .wide .ensures .0) (c .before .after-policy .ensures) (c .if1 .taken) (c .before .before .before .before .before .pre))
+part-result-end c =
+    let c1 = c .before .before in
+    let pre = c1 .before .before .before .pre in
+    omega (arith, steps.bare-in (c1 .wide .ensures .0) (c .before .after-policy .ensures) (c .if1 .taken) pre)
 
 returns : tie.Need-returns
-returns c = steps.bare-code (c .before .before .before .wide .ensures .0) (c .before .before .after-policy .ensures) (c .before .if1 .taken)
+returns c =
+    let c1 = c .before .before in
+    let wide = c1 .before .wide in
+    steps.bare-code (wide .ensures .0) (c1 .after-policy .ensures) (c .before .if1 .taken)
 
 add-e : tie.Need-add-e
-add-e c = omega (arith, (steps.code-in (c .before .before .wide .ensures .0) (c .before .after-policy .ensures) (c .if1 .left) (c .before .before .before .before .before .pre)) .0, (steps.code-in (c .before .before .wide .ensures .0) (c .before .after-policy .ensures) (c .if1 .left) (c .before .before .before .before .before .pre)) .1)
+add-e c =
+    let c1 = c .before .before in
+    let wide = c1 .wide in
+    let pre = c1 .before .before .before .pre in
+    omega (
+      arith,
+      (steps.code-in (wide .ensures .0) (c .before .after-policy .ensures) (c .if1 .left) pre) .0,
+      (steps.code-in (wide .ensures .0) (c .before .after-policy .ensures) (c .if1 .left) pre) .1,
+    )
 
 u2-at-requires : tie.Need-u2-at-requires
-u2-at-requires c κs = (steps.code-in (c .before .before .wide .ensures .0) (c .before .after-policy .ensures) (c .if1 .left) (c .before .before .before .before .before .pre)) .0
+u2-at-requires c κs =
+    let c1 = c .before .before in
+    let pre = c1 .before .before .before .pre in
+    (steps.code-in (c1 .wide .ensures .0) (c .before .after-policy .ensures) (c .if1 .left) pre) .0
 
 add-e-2 : tie.Need-add-e-2
-add-e-2 c = omega (arith, (steps.code-in (c .before .before .before .wide .ensures .0) (c .before .before .after-policy .ensures) (c .before .if1 .left) (c .before .before .before .before .before .before .pre)) .0, (steps.code-in (c .before .before .before .wide .ensures .0) (c .before .before .after-policy .ensures) (c .before .if1 .left) (c .before .before .before .before .before .before .pre)) .1, c .u2-at .ensures .0)
+add-e-2 c =
+    let c1 = c .before .before in
+    let after-policy = c1 .after-policy in
+    let c2 = c1 .before in
+    let wide = c2 .wide in
+    let pre = c2 .before .before .before .pre in
+    omega (
+      arith,
+      (steps.code-in (wide .ensures .0) (after-policy .ensures) (c .before .if1 .left) pre) .0,
+      (steps.code-in (wide .ensures .0) (after-policy .ensures) (c .before .if1 .left) pre) .1,
+      c .u2-at .ensures .0,
+    )
 
 add-result : tie.Need-add-result
-add-result c = omega (arith, (steps.code-in (c .before .before .before .wide .ensures .0) (c .before .before .after-policy .ensures) (c .before .if1 .left) (c .before .before .before .before .before .before .pre)) .0, (steps.code-in (c .before .before .before .wide .ensures .0) (c .before .before .after-policy .ensures) (c .before .if1 .left) (c .before .before .before .before .before .before .pre)) .1, c .u2-at .ensures .0)
+add-result c =
+    let c1 = c .before .before in
+    let after-policy = c1 .after-policy in
+    let c2 = c1 .before in
+    let wide = c2 .wide in
+    let pre = c2 .before .before .before .pre in
+    omega (
+      arith,
+      (steps.code-in (wide .ensures .0) (after-policy .ensures) (c .before .if1 .left) pre) .0,
+      (steps.code-in (wide .ensures .0) (after-policy .ensures) (c .before .if1 .left) pre) .1,
+      c .u2-at .ensures .0,
+    )
 
 sub-result-2 : tie.Need-sub-result-2
-sub-result-2 c = omega (arith, (steps.code-in (c .before .before .before .wide .ensures .0) (c .before .before .after-policy .ensures) (c .before .if1 .left) (c .before .before .before .before .before .before .pre)) .0, (steps.code-in (c .before .before .before .wide .ensures .0) (c .before .before .after-policy .ensures) (c .before .if1 .left) (c .before .before .before .before .before .before .pre)) .1, c .u2-at .ensures .0)
+sub-result-2 c =
+    let c1 = c .before .before in
+    let after-policy = c1 .after-policy in
+    let c2 = c1 .before in
+    let wide = c2 .wide in
+    let pre = c2 .before .before .before .pre in
+    omega (
+      arith,
+      (steps.code-in (wide .ensures .0) (after-policy .ensures) (c .before .if1 .left) pre) .0,
+      (steps.code-in (wide .ensures .0) (after-policy .ensures) (c .before .if1 .left) pre) .1,
+      c .u2-at .ensures .0,
+    )
 
 part-result-start-2 : tie.Need-part-result-start-2
-part-result-start-2 c = omega (arith, (steps.code-in (c .before .before .before .wide .ensures .0) (c .before .before .after-policy .ensures) (c .before .if1 .left) (c .before .before .before .before .before .before .pre)) .0, (steps.code-in (c .before .before .before .wide .ensures .0) (c .before .before .after-policy .ensures) (c .before .if1 .left) (c .before .before .before .before .before .before .pre)) .1, c .u2-at .ensures .0)
+part-result-start-2 c =
+    let c1 = c .before .before in
+    let after-policy = c1 .after-policy in
+    let c2 = c1 .before in
+    let wide = c2 .wide in
+    let pre = c2 .before .before .before .pre in
+    omega (
+      arith,
+      (steps.code-in (wide .ensures .0) (after-policy .ensures) (c .before .if1 .left) pre) .0,
+      (steps.code-in (wide .ensures .0) (after-policy .ensures) (c .before .if1 .left) pre) .1,
+      c .u2-at .ensures .0,
+    )
 
 part-result-end-2 : tie.Need-part-result-end-2
-part-result-end-2 c = omega (arith, (steps.code-in (c .before .before .before .wide .ensures .0) (c .before .before .after-policy .ensures) (c .before .if1 .left) (c .before .before .before .before .before .before .pre)) .0, (steps.code-in (c .before .before .before .wide .ensures .0) (c .before .before .after-policy .ensures) (c .before .if1 .left) (c .before .before .before .before .before .before .pre)) .1, c .u2-at .ensures .0)
+part-result-end-2 c =
+    let c1 = c .before .before in
+    let after-policy = c1 .after-policy in
+    let c2 = c1 .before in
+    let wide = c2 .wide in
+    let pre = c2 .before .before .before .pre in
+    omega (
+      arith,
+      (steps.code-in (wide .ensures .0) (after-policy .ensures) (c .before .if1 .left) pre) .0,
+      (steps.code-in (wide .ensures .0) (after-policy .ensures) (c .before .if1 .left) pre) .1,
+      c .u2-at .ensures .0,
+    )
 
 returns-2 : tie.Need-returns-2
-returns-2 c = steps.code-is (c .before .before .before .before .wide .ensures .0) (c .before .before .before .after-policy .ensures) (c .before .before .if1 .left) (c .before .u2-at .ensures .0)
+returns-2 c =
+    let c1 = c .before .before in
+    let c2 = c1 .before in
+    let wide = c2 .before .wide in
+    steps.code-is (wide .ensures .0) (c2 .after-policy .ensures) (c1 .if1 .left) (c .before .u2-at .ensures .0)
 
 pub code-of-spec : {M : Type 1} → statement M
 code-of-spec =

@@ -11,7 +11,8 @@ use Rattle.files.proofs.find_instance.Statement.{statement}
 use Rattle.files.proofs.find_instance.Tie as tie
 
 abbrev Inv-loop : tie.InvT-loop
-Inv-loop s at name start left₀ c₀ left c = loops.MethodLoop (find (λ m. eqb (m .name) name && not (m .static))) (find (λ m. eqb (m .name) name && not (m .static))) s start left c
+Inv-loop s at name start left₀ c₀ left c = loops.MethodLoop (find (λ m. eqb (m .name) name && not (m .static)))
+    (find (λ m. eqb (m .name) name && not (m .static))) s start left c
 
 abbrev μ-loop : tie.MeasureT-loop
 μ-loop s at name start left₀ c₀ left c = left
@@ -20,25 +21,44 @@ methods-of-requires : tie.Need-methods-of-requires Inv-loop μ-loop
 methods-of-requires c κs = c .before .pre
 
 shared-slice-read-wide : tie.Need-shared-slice-read-wide Inv-loop μ-loop
-shared-slice-read-wide c = steps.methods-in (steps.methods-there (c .before .methods-of .ensures) (c .before .before .before .pre))
+shared-slice-read-wide c =
+    let pre = c .before .before .before .pre in
+    steps.methods-in (steps.methods-there (c .before .methods-of .ensures) pre)
 
 wide-requires : tie.Need-wide-requires Inv-loop μ-loop
 wide-requires c κs = search needs
 
 add-c : tie.Need-add-c Inv-loop μ-loop
-add-c c = omega (arith, steps.methods-in (steps.methods-there (c .before .before .methods-of .ensures) (c .before .before .before .before .pre)))
+add-c c =
+    let c1 = c .before .before in
+    let pre = c1 .before .before .pre in
+    omega (arith, steps.methods-in (steps.methods-there (c1 .methods-of .ensures) pre))
 
 loop-holds : tie.Need-loop-holds Inv-loop μ-loop
 loop-holds c = loops.methods-start (c .wide .ensures .0)
 
 is-instance-requires : tie.Need-is-instance-requires Inv-loop μ-loop
-is-instance-requires c κs = loops.methods-here (c .before .loop .inv) (c .loop-test .taken) (steps.methods-there (c .before .before .before .before .methods-of .ensures) (c .before .before .before .before .before .before .pre))
+is-instance-requires c κs =
+    let c1 = c .before .before .before .before in
+    let pre = c1 .before .before .pre in
+    loops.methods-here (c .before .loop .inv) (c .loop-test .taken) (steps.methods-there (c1 .methods-of .ensures) pre)
 
 returns : tie.Need-returns Inv-loop μ-loop
-returns c = λ l ds k j e. loops.find-hit (λ m. eqb (m .name) (c .before .before .before .before .before .before .before .before .args .name) && not (m .static)) (c .before .before .before .loop .inv) (c .before .before .loop-test .taken) (λ l ds m j q. sym (c .before .is-instance .ensures l ds m j q) ∙ c .if1 .taken) l ds (k .methods) j (c .before .before .before .before .before .before .methods-of .ensures l ds k j e)
+returns c =
+    let c1 = c .before .before in
+    let c2 = c1 .before in
+    let c3 = c2 .before .before .before in
+    let a = c3 .before .before .args in
+    λ l ds k j e. loops.find-hit (λ m. eqb (m .name) (a .name) && not (m .static)) (c2 .loop .inv) (c1 .loop-test .taken)
+    (λ l ds m j q. sym (c .before .is-instance .ensures l ds m j q) ∙ c .if1 .taken) l ds (k .methods) j (c3 .methods-of .ensures l ds k j e)
 
 after-method-requires : tie.Need-after-method-requires Inv-loop μ-loop
-after-method-requires c κs = loops.methods-here (c .before .before .before .loop .inv) (c .before .before .loop-test .taken) (steps.methods-there (c .before .before .before .before .before .before .methods-of .ensures) (c .before .before .before .before .before .before .before .before .pre))
+after-method-requires c κs =
+    let c1 = c .before .before in
+    let c2 = c1 .before in
+    let c3 = c2 .before .before .before in
+    let pre = c3 .before .before .pre in
+    loops.methods-here (c2 .loop .inv) (c1 .loop-test .taken) (steps.methods-there (c3 .methods-of .ensures) pre)
 
 sub-left : tie.Need-sub-left Inv-loop μ-loop
 sub-left c = omega arith
@@ -47,10 +67,20 @@ loop-less : tie.Need-loop-less Inv-loop μ-loop
 loop-less c = omega arith
 
 loop-again : tie.Need-loop-again Inv-loop μ-loop
-loop-again c = loops.find-miss (λ m. eqb (m .name) (c .before .before .before .before .before .before .before .before .before .args .name) && not (m .static)) (c .before .before .before .before .loop .inv) (c .before .before .before .loop-test .taken) (λ l ds m j q. sym (c .before .before .is-instance .ensures l ds m j q) ∙ c .before .if1 .left) (c .after-method .ensures)
+loop-again c =
+    let c1 = c .before .before in
+    let c2 = c1 .before in
+    let c3 = c2 .before in
+    let a = c3 .before .before .before .before .before .args in
+    loops.find-miss (λ m. eqb (m .name) (a .name) && not (m .static)) (c3 .loop .inv) (c2 .loop-test .taken)
+    (λ l ds m j q. sym (c1 .is-instance .ensures l ds m j q) ∙ c .before .if1 .left) (c .after-method .ensures)
 
 returns-2 : tie.Need-returns-2 Inv-loop μ-loop
-returns-2 c = λ l ds k j e. loops.find-none (λ m. eqb (m .name) (c .before .before .before .before .before .before .args .name) && not (m .static)) (c .before .loop .inv) (c .loop-test .left) l ds (k .methods) j (c .before .before .before .before .methods-of .ensures l ds k j e)
+returns-2 c =
+    let c1 = c .before .before .before .before in
+    let a = c1 .before .before .args in
+    λ l ds k j e. loops.find-none (λ m. eqb (m .name) (a .name) && not (m .static)) (c .before .loop .inv) (c .loop-test .left) l ds (k .methods) j
+    (c1 .methods-of .ensures l ds k j e)
 
 pub find-instance-spec : {M : Type 1} → statement M
 find-instance-spec =

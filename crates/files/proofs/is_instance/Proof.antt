@@ -10,7 +10,9 @@ returns : tie.Need-returns
 returns c = steps.instance-other (c .before .name-of .ensures) (c .if1 .taken)
 
 is-static-requires : tie.Need-is-static-requires
-is-static-requires c κs = c .before .before .before .pre
+is-static-requires c κs =
+    let pre = c .before .before .before .pre in
+    pre
 
 returns-2 : tie.Need-returns-2
 returns-2 c = steps.instance-this (c .before .before .name-of .ensures) (c .before .if1 .left) (c .is-static .ensures)

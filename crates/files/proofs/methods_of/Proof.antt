@@ -18,10 +18,14 @@ wide-requires : tie.Need-wide-requires
 wide-requires c κs = search needs
 
 mul-result : tie.Need-mul-result
-mul-result c = omega (arith, (steps.class-in (c .before .before .before .pre)) .1, c .wide .ensures .0)
+mul-result c =
+    let pre = c .before .before .before .pre in
+    omega (arith, (steps.class-in pre) .1, c .wide .ensures .0)
 
 add-result-2 : tie.Need-add-result-2
-add-result-2 c = omega (arith, (steps.class-in (c .before .before .before .pre)) .1, c .wide .ensures .0)
+add-result-2 c =
+    let pre = c .before .before .before .pre in
+    omega (arith, (steps.class-in pre) .1, c .wide .ensures .0)
 
 returns : tie.Need-returns
 returns c = rw (c .wide .ensures .0) steps.class-methods

@@ -20,7 +20,9 @@ wide-requires : tie.Need-wide-requires Inv-loop μ-loop
 wide-requires c κs = search needs
 
 add-c : tie.Need-add-c Inv-loop μ-loop
-add-c c = omega (arith, steps.aids-in (c .before .before .before .pre))
+add-c c =
+    let pre = c .before .before .before .pre in
+    omega (arith, steps.aids-in pre)
 
 loop-holds : tie.Need-loop-holds Inv-loop μ-loop
 loop-holds c = loops.aids-start (c .wide .ensures .0)
@@ -29,7 +31,10 @@ returns : tie.Need-returns Inv-loop μ-loop
 returns c = loops.aids-hit (c .before .before .loop .inv) (c .before .loop-test .taken) (c .if1 .taken)
 
 after-aid-requires : tie.Need-after-aid-requires Inv-loop μ-loop
-after-aid-requires c κs = loops.aids-here (c .before .before .loop .inv) (c .before .loop-test .taken) (c .before .before .before .before .before .before .pre)
+after-aid-requires c κs =
+    let c1 = c .before .before in
+    let pre = c1 .before .before .before .before .pre in
+    loops.aids-here (c1 .loop .inv) (c .before .loop-test .taken) pre
 
 sub-left : tie.Need-sub-left Inv-loop μ-loop
 sub-left c = omega arith
@@ -41,7 +46,10 @@ loop-less : tie.Need-loop-less Inv-loop μ-loop
 loop-less c = omega arith
 
 loop-again : tie.Need-loop-again Inv-loop μ-loop
-loop-again c = loops.aids-miss (c .before .before .before .loop .inv) (c .before .before .loop-test .taken) (c .before .if1 .left) (c .after-aid .ensures)
+loop-again c =
+    let c1 = c .before .before in
+    let loop = c1 .before .loop in
+    loops.aids-miss (loop .inv) (c1 .loop-test .taken) (c .before .if1 .left) (c .after-aid .ensures)
 
 returns-2 : tie.Need-returns-2 Inv-loop μ-loop
 returns-2 c = loops.aids-none (c .before .loop .inv) (c .loop-test .left)

@@ -20,7 +20,9 @@ wide-requires : tie.Need-wide-requires Inv-loop μ-loop
 wide-requires c κs = search needs
 
 add-c : tie.Need-add-c Inv-loop μ-loop
-add-c c = omega (arith, steps.classes-in (c .before .before .before .pre))
+add-c c =
+    let pre = c .before .before .before .pre in
+    omega (arith, steps.classes-in pre)
 
 loop-holds : tie.Need-loop-holds Inv-loop μ-loop
 loop-holds c = loops.classes-start (c .wide .ensures .0)
@@ -29,7 +31,10 @@ returns : tie.Need-returns Inv-loop μ-loop
 returns c = loops.classes-hit (c .before .before .loop .inv) (c .before .loop-test .taken) (c .if1 .taken)
 
 after-class-requires : tie.Need-after-class-requires Inv-loop μ-loop
-after-class-requires c κs = loops.classes-here (c .before .before .loop .inv) (c .before .loop-test .taken) (c .before .before .before .before .before .before .pre)
+after-class-requires c κs =
+    let c1 = c .before .before in
+    let pre = c1 .before .before .before .before .pre in
+    loops.classes-here (c1 .loop .inv) (c .before .loop-test .taken) pre
 
 sub-left : tie.Need-sub-left Inv-loop μ-loop
 sub-left c = omega arith
@@ -41,7 +46,10 @@ loop-less : tie.Need-loop-less Inv-loop μ-loop
 loop-less c = omega arith
 
 loop-again : tie.Need-loop-again Inv-loop μ-loop
-loop-again c = loops.classes-miss (c .before .before .before .loop .inv) (c .before .before .loop-test .taken) (c .before .if1 .left) (c .after-class .ensures)
+loop-again c =
+    let c1 = c .before .before in
+    let loop = c1 .before .loop in
+    loops.classes-miss (loop .inv) (c1 .loop-test .taken) (c .before .if1 .left) (c .after-class .ensures)
 
 returns-2 : tie.Need-returns-2 Inv-loop μ-loop
 returns-2 c = loops.classes-none (c .before .loop .inv) (c .loop-test .left)

@@ -14,16 +14,41 @@ file-of-requires : tie.Need-file-of-requires
 file-of-requires c κs = there-bounds (now (c .before .before .args .f)) (now (c .before .before .args .s)) (c .before .before .args .h) (c .before .before .pre)
 
 class-place-requires : tie.Need-class-place-requires
-class-place-requires c κs = there-reads (now (c .before .before .before .args .f)) (now (c .before .before .before .args .s)) (c .before .before .before .args .h) (now (c .file-of .result)) (c .file-of .ensures) (c .before .before .before .pre)
+class-place-requires c κs =
+    let start = c .before .before .before in
+    let a = start .args in
+    there-reads (now (a .f)) (now (a .s)) (a .h) (now (c .file-of .result)) (c .file-of .ensures) (start .pre)
 
 enum-known-c : tie.Need-enum-known-c
 enum-known-c c = search needs
 
 sub-result : tie.Need-sub-result
-sub-result c = omega (arith, class-inside (now (c .before .before .before .before .file-of .result)) (c .before .before .before .before .before .before .before .args .n) (c .before .c .given .0 .0) (there-reads (now (c .before .before .before .before .before .before .before .args .f)) (now (c .before .before .before .before .before .before .before .args .s)) (c .before .before .before .before .before .before .before .args .h) (now (c .before .before .before .before .file-of .result)) (c .before .before .before .before .file-of .ensures) (c .before .before .before .before .before .before .before .pre)) (subst (say.ClassPlaced (now (c .before .before .before .before .file-of .result)) (c .before .before .before .before .before .before .before .args .n)) (c .before .c .given .1) (c .before .before .before .class-place .ensures)))
+sub-result c =
+    let c1 = c .before .before .before in
+    let c2 = c1 .before in
+    let file-of = c2 .file-of in
+    let start = c2 .before .before .before in
+    let a = start .args in
+    omega (
+      arith,
+      class-inside (now (file-of .result)) (a .n) (c .before .c .given .0 .0)
+          (there-reads (now (a .f)) (now (a .s)) (a .h) (now (file-of .result)) (file-of .ensures) (start .pre))
+          (subst (say.ClassPlaced (now (file-of .result)) (a .n)) (c .before .c .given .1) (c1 .class-place .ensures)),
+    )
 
 part-result-start : tie.Need-part-result-start
-part-result-start c = omega (arith, class-inside (now (c .before .before .before .before .file-of .result)) (c .before .before .before .before .before .before .before .args .n) (c .before .c .given .0 .0) (there-reads (now (c .before .before .before .before .before .before .before .args .f)) (now (c .before .before .before .before .before .before .before .args .s)) (c .before .before .before .before .before .before .before .args .h) (now (c .before .before .before .before .file-of .result)) (c .before .before .before .before .file-of .ensures) (c .before .before .before .before .before .before .before .pre)) (subst (say.ClassPlaced (now (c .before .before .before .before .file-of .result)) (c .before .before .before .before .before .before .before .args .n)) (c .before .c .given .1) (c .before .before .before .class-place .ensures)))
+part-result-start c =
+    let c1 = c .before .before .before in
+    let c2 = c1 .before in
+    let file-of = c2 .file-of in
+    let start = c2 .before .before .before in
+    let a = start .args in
+    omega (
+      arith,
+      class-inside (now (file-of .result)) (a .n) (c .before .c .given .0 .0)
+          (there-reads (now (a .f)) (now (a .s)) (a .h) (now (file-of .result)) (file-of .ensures) (start .pre))
+          (subst (say.ClassPlaced (now (file-of .result)) (a .n)) (c .before .c .given .1) (c1 .class-place .ensures)),
+    )
 
 part-result-end : tie.Need-part-result-end
 part-result-end c = search needs
@@ -41,10 +66,25 @@ part-result-end-2 : tie.Need-part-result-end-2
 part-result-end-2 c = search needs
 
 returns : tie.Need-returns
-returns c = record-is (now (c .before .before .before .before .before .before .before .before .args .f)) (now (c .before .before .before .before .before .before .before .before .args .s)) (c .before .before .before .before .before .before .before .before .args .h) (now (c .before .before .before .before .before .file-of .result)) (c .before .before .before .before .before .file-of .ensures) (c .before .before .before .before .before .before .before .before .args .n) (spots.At (c .before .before .c .given .0 .0)) _ (subst (say.ClassPlaced (now (c .before .before .before .before .before .file-of .result)) (c .before .before .before .before .before .before .before .before .args .n)) (c .before .before .c .given .1) (c .before .before .before .before .class-place .ensures)) (rest-is (now (c .before .before .before .before .before .file-of .result)) (c .before .before .c .given .0 .0))
+returns c =
+    let c1 = c .before .before in
+    let c-told = c1 .c in
+    let c2 = c1 .before .before in
+    let c3 = c2 .before in
+    let file-of = c3 .file-of in
+    let a = c3 .before .before .before .args in
+    record-is (now (a .f)) (now (a .s)) (a .h) (now (file-of .result)) (file-of .ensures) (a .n) (spots.At (c-told .given .0 .0)) _
+    (subst (say.ClassPlaced (now (file-of .result)) (a .n)) (c-told .given .1) (c2 .class-place .ensures))
+    (rest-is (now (file-of .result)) (c-told .given .0 .0))
 
 returns-2 : tie.Need-returns-2
-returns-2 c = record-is (now (c .before .before .before .before .before .before .before .args .f)) (now (c .before .before .before .before .before .before .before .args .s)) (c .before .before .before .before .before .before .before .args .h) (now (c .before .before .before .before .file-of .result)) (c .before .before .before .before .file-of .ensures) (c .before .before .before .before .before .before .before .args .n) spots.Nothing [] (subst (say.ClassPlaced (now (c .before .before .before .before .file-of .result)) (c .before .before .before .before .before .before .before .args .n)) (c .before .enum-told .given .1) (c .before .before .before .class-place .ensures)) refl
+returns-2 c =
+    let c1 = c .before .before .before in
+    let c2 = c1 .before in
+    let file-of = c2 .file-of in
+    let a = c2 .before .before .before .args in
+    record-is (now (a .f)) (now (a .s)) (a .h) (now (file-of .result)) (file-of .ensures) (a .n) spots.Nothing []
+    (subst (say.ClassPlaced (now (file-of .result)) (a .n)) (c .before .enum-told .given .1) (c1 .class-place .ensures)) refl
 
 pub class-record-spec : {M : Type 1} → statement M
 class-record-spec =

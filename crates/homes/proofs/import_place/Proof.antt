@@ -14,7 +14,9 @@ nth-aid-requires : tie.Need-nth-aid-requires
 nth-aid-requires c κs = imports-there (c .imports-at .ensures) (c .before .before .pre)
 
 returns : tie.Need-returns
-returns c = import-placed (now (c .before .before .before .args .g)) (c .before .imports-at .result) (c .before .before .before .args .k) (c .nth-aid .result) (c .before .imports-at .ensures) (c .nth-aid .ensures)
+returns c =
+    let a = c .before .before .before .args in
+    import-placed (now (a .g)) (c .before .imports-at .result) (a .k) (c .nth-aid .result) (c .before .imports-at .ensures) (c .nth-aid .ensures)
 
 pub import-place-spec : {M : Type 1} → statement M
 import-place-spec = tie.close (tie.spec imports-at-requires nth-aid-requires returns)

@@ -32,11 +32,13 @@ enum-known-i c = search needs
 
 aid-bytes-requires : tie.Need-aid-bytes-requires
 aid-bytes-requires c κs =
-    let start = c .before .before .before .before .before .before .before .before .before in
-    let file = c .before .before .before .before .file-of in
+    let c1 = c .before .before .before in
+    let c2 = c1 .before in
+    let file = c2 .file-of in
+    let start = c2 .before .before .before .before .before in
     look.import-ends (now (file .result)) ((start .args .k) - 1) (c .before .i .given .0 .0)
     (look.there-reads (now (start .args .f)) (now (start .args .s)) (start .args .h) (now (file .result)) (file .ensures) (start .pre .0))
-    (subst (ImportPlaced (now (file .result)) ((start .args .k) - 1)) (c .before .i .given .1) (c .before .before .before .import-place .ensures))
+    (subst (ImportPlaced (now (file .result)) ((start .args .k) - 1)) (c .before .i .given .1) (c1 .import-place .ensures))
 
 by-aid-requires : tie.Need-by-aid-requires
 by-aid-requires c κs =
@@ -48,24 +50,31 @@ enum-told c = search needs
 
 returns-2 : tie.Need-returns-2
 returns-2 c =
-    let start = c .before .before .before .before .before .before .before .before .before .before .before in
-    let file = c .before .before .before .before .before .before .file-of in
-    let i = c .before .before .before .i in
+    let c1 = c .before .before .before in
+    let i = c1 .i in
+    let c2 = c1 .before .before in
+    let c3 = c2 .before in
+    let file = c3 .file-of in
+    let c4 = c3 .before in
+    let start = c4 .before .before .before .before in
     let aid-bytes = c .before .aid-bytes in
     look.numbered-suc (now (start .args .f)) (now (start .args .s)) (start .args .h) (start .args .k) (c .by-aid .result)
-    (c .before .before .before .before .before .before .before .if1 .left)
+    (c4 .if1 .left)
     (look.numbered-at (now (start .args .f)) (now (start .args .s)) (start .args .h) (now (file .result)) ((start .args .k) - 1) (i .given .0 .0)
     (now (aid-bytes .result)) (file .ensures)
-    (subst (ImportPlaced (now (file .result)) ((start .args .k) - 1)) (i .given .1) (c .before .before .before .before .before .import-place .ensures))
+    (subst (ImportPlaced (now (file .result)) ((start .args .k) - 1)) (i .given .1) (c2 .import-place .ensures))
     (aid-bytes .ensures) (start .args .end) (start .pre .1 .0 .files) (start .pre .1 .1) (c .by-aid .result) (c .by-aid .ensures))
 
 returns-3 : tie.Need-returns-3
 returns-3 c =
-    let start = c .before .before .before .before .before .before .before .before in
-    let file = c .before .before .before .file-of in
-    look.numbered-suc (now (start .args .f)) (now (start .args .s)) (start .args .h) (start .args .k) Nothing (c .before .before .before .before .if1 .left)
+    let c1 = c .before .before in
+    let c2 = c1 .before in
+    let file = c2 .file-of in
+    let c3 = c2 .before in
+    let start = c3 .before .before .before .before in
+    look.numbered-suc (now (start .args .f)) (now (start .args .s)) (start .args .h) (start .args .k) Nothing (c3 .if1 .left)
     (look.numbered-none (now (start .args .f)) (now (start .args .s)) (start .args .h) (now (file .result)) ((start .args .k) - 1) (file .ensures)
-    (subst (ImportPlaced (now (file .result)) ((start .args .k) - 1)) (c .enum-told .given .1) (c .before .before .import-place .ensures)))
+    (subst (ImportPlaced (now (file .result)) ((start .args .k) - 1)) (c .enum-told .given .1) (c1 .import-place .ensures)))
 
 pub numbered-spec : {M : Type 1} → statement M
 numbered-spec =

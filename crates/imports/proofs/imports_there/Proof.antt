@@ -17,43 +17,123 @@ abbrev μ-loop : tie.MeasureT-loop
 μ-loop f s end index homes₀ at count k₀ homes k = count - k
 
 imports-at-requires : tie.Need-imports-at-requires Inv-loop μ-loop
-imports-at-requires c κs = imports.setting-reads (now (c .before .before .before .args .f)) (now (c .before .before .before .args .s)) (c .before .before .before .args .end) (c .before .before .before .pre .0)
+imports-at-requires c κs =
+    let start = c .before .before .before in
+    let a = start .args in
+    imports.setting-reads (now (a .f)) (now (a .s)) (a .end) (start .pre .0)
 
 shared-slice-read-wide : tie.Need-shared-slice-read-wide Inv-loop μ-loop
-shared-slice-read-wide c = imports.imports-inside (now (c .before .before .before .before .before .args .f)) (now (c .before .before .before .before .before .args .s)) (c .before .before .before .before .before .args .end) (c .before .imports-at .result) (c .before .imports-at .ensures) (c .before .before .before .before .before .pre .0)
+shared-slice-read-wide c =
+    let start = c .before .before .before .before .before in
+    let a = start .args in
+    imports.imports-inside (now (a .f)) (now (a .s)) (a .end) (c .before .imports-at .result) (c .before .imports-at .ensures) (start .pre .0)
 
 wide-requires : tie.Need-wide-requires Inv-loop μ-loop
 wide-requires c κs = search needs
 
 loop-holds : tie.Need-loop-holds Inv-loop μ-loop
-loop-holds c = table.filled-start (now (c .before .before .before .before .before .before .args .f)) (now (c .before .before .before .before .before .before .args .s)) (c .before .before .before .before .before .before .args .end) (now (c .before .before .before .before .before .before .args .homes)) (c .before .before .before .before .before .before .pre .1 .1)
+loop-holds c =
+    let start = c .before .before .before .before .before .before in
+    let a = start .args in
+    table.filled-start (now (a .f)) (now (a .s)) (a .end) (now (a .homes)) (start .pre .1 .1)
 
 import-home-requires : tie.Need-import-home-requires Inv-loop μ-loop
-import-home-requires c κs = (((c .before .before .before .before .before .before .before .before .pre .0), (c .before .before .before .before .imports-at .ensures)), c .before .before .before .before .before .before .before .before .pre .1 .0)
+import-home-requires c κs =
+    let c1 = c .before .before .before .before in
+    let pre = c1 .before .before .before .before .pre in
+    (((pre .0), (c1 .imports-at .ensures)), pre .1 .0)
 
 enum-known-h : tie.Need-enum-known-h Inv-loop μ-loop
 enum-known-h c = search needs
 
 put-home-requires : tie.Need-put-home-requires Inv-loop μ-loop
-put-home-requires c κs = (c .before .before .before .before .before .before .loop .inv .size, omega (arith, imports.imports-few (now (c .before .before .before .before .before .before .before .before .before .before .before .before .before .args .f)) (now (c .before .before .before .before .before .before .before .before .before .before .before .before .before .args .s)) (c .before .before .before .before .before .before .before .before .before .before .before .before .before .args .end) (c .before .before .before .before .before .before .before .before .before .imports-at .result) (c .before .before .before .before .before .before .before .before .before .imports-at .ensures) (c .before .before .before .before .before .before .before .before .before .before .before .before .before .pre .0), c .before .before .before .before .before .before .before .wide .ensures .0, c .before .before .before .before .before .loop-test .taken))
+put-home-requires c κs =
+    let c1 = c .before .before .before .before .before in
+    let c2 = c1 .before in
+    let c3 = c2 .before in
+    let c4 = c3 .before .before in
+    let imports-at = c4 .imports-at in
+    let start = c4 .before .before .before .before in
+    let a = start .args in (
+      c2 .loop .inv .size,
+      omega (
+        arith,
+        imports.imports-few (now (a .f)) (now (a .s)) (a .end) (imports-at .result) (imports-at .ensures) (start .pre .0),
+        c3 .wide .ensures .0,
+        c1 .loop-test .taken,
+      ),
+    )
 
 add-k : tie.Need-add-k Inv-loop μ-loop
-add-k c = omega (arith, c .before .before .before .before .before .before .loop-test .taken)
+add-k c =
+    let loop-test = c .before .before .before .before .before .before .loop-test in
+    omega (arith, loop-test .taken)
 
 loop-less : tie.Need-loop-less Inv-loop μ-loop
-loop-less c = omega (arith, c .before .before .before .before .before .before .loop-test .taken)
+loop-less c =
+    let loop-test = c .before .before .before .before .before .before .loop-test in
+    omega (arith, loop-test .taken)
 
 loop-again : tie.Need-loop-again Inv-loop μ-loop
-loop-again c = table.filled-more (now (c .before .before .before .before .before .before .before .before .before .before .before .before .before .before .args .f)) (now (c .before .before .before .before .before .before .before .before .before .before .before .before .before .before .args .s)) (c .before .before .before .before .before .before .before .before .before .before .before .before .before .before .args .end) (c .before .before .before .before .before .before .before .loop .k) (c .before .before .before .before .before .before .before .loop .homes) _ (c .before .before .before .h .given .0 .0) (c .before .before .before .before .before .before .before .loop .inv) (omega (arith, imports.imports-few (now (c .before .before .before .before .before .before .before .before .before .before .before .before .before .before .args .f)) (now (c .before .before .before .before .before .before .before .before .before .before .before .before .before .before .args .s)) (c .before .before .before .before .before .before .before .before .before .before .before .before .before .before .args .end) (c .before .before .before .before .before .before .before .before .before .before .imports-at .result) (c .before .before .before .before .before .before .before .before .before .before .imports-at .ensures) (c .before .before .before .before .before .before .before .before .before .before .before .before .before .before .pre .0), c .before .before .before .before .before .before .before .before .wide .ensures .0, c .before .before .before .before .before .before .loop-test .taken)) (subst (ImportHomeIs (now (c .before .before .before .before .before .before .before .before .before .before .before .before .before .before .args .f)) (now (c .before .before .before .before .before .before .before .before .before .before .before .before .before .before .args .s)) (c .before .before .before .before .before .before .before .before .before .before .before .before .before .before .args .end) (c .before .before .before .before .before .before .before .loop .k)) (c .before .before .before .h .given .1) (c .before .before .before .before .before .import-home .ensures)) (c .put-home .ensures)
+loop-again c =
+    let c1 = c .before .before .before in
+    let h = c1 .h in
+    let c2 = c1 .before .before in
+    let c3 = c2 .before in
+    let c4 = c3 .before in
+    let loop = c4 .loop in
+    let c5 = c4 .before in
+    let c6 = c5 .before .before in
+    let imports-at = c6 .imports-at in
+    let start = c6 .before .before .before .before in
+    let a = start .args in
+    table.filled-more (now (a .f)) (now (a .s)) (a .end) (loop .k) (loop .homes) _ (h .given .0 .0) (loop .inv)
+    (omega (
+      arith,
+      imports.imports-few (now (a .f)) (now (a .s)) (a .end) (imports-at .result) (imports-at .ensures) (start .pre .0),
+      c5 .wide .ensures .0,
+      c3 .loop-test .taken,
+    )) (subst (ImportHomeIs (now (a .f)) (now (a .s)) (a .end) (loop .k)) (h .given .1)
+    (c2 .import-home .ensures)) (c .put-home .ensures)
 
 enum-told : tie.Need-enum-told Inv-loop μ-loop
 enum-told c = search needs
 
 returns : tie.Need-returns Inv-loop μ-loop
-returns c = (table.missing (now (c .before .before .before .before .before .before .before .before .before .before .before .args .f)) (now (c .before .before .before .before .before .before .before .before .before .before .before .args .s)) (c .before .before .before .before .before .before .before .before .before .before .before .args .end) (c .before .before .before .before .loop .k) (c .before .before .before .before .before .before .before .imports-at .result) (c .before .before .before .before .before .before .before .imports-at .ensures) (omega (arith, c .before .before .before .before .before .wide .ensures .0, c .before .before .before .loop-test .taken)) (subst (ImportHomeIs (now (c .before .before .before .before .before .before .before .before .before .before .before .args .f)) (now (c .before .before .before .before .before .before .before .before .before .before .before .args .s)) (c .before .before .before .before .before .before .before .before .before .before .before .args .end) (c .before .before .before .before .loop .k)) (c .enum-told .given .1) (c .before .before .import-home .ensures)), table.no-homes (now (c .before .before .before .before .before .before .before .before .before .before .before .args .f)) (now (c .before .before .before .before .before .before .before .before .before .before .before .args .s)) (c .before .before .before .before .before .before .before .before .before .before .before .args .end) (c .before .before .before .before .loop .homes) (c .before .before .before .before .loop .inv .size) (table.missing (now (c .before .before .before .before .before .before .before .before .before .before .before .args .f)) (now (c .before .before .before .before .before .before .before .before .before .before .before .args .s)) (c .before .before .before .before .before .before .before .before .before .before .before .args .end) (c .before .before .before .before .loop .k) (c .before .before .before .before .before .before .before .imports-at .result) (c .before .before .before .before .before .before .before .imports-at .ensures) (omega (arith, c .before .before .before .before .before .wide .ensures .0, c .before .before .before .loop-test .taken)) (subst (ImportHomeIs (now (c .before .before .before .before .before .before .before .before .before .before .before .args .f)) (now (c .before .before .before .before .before .before .before .before .before .before .before .args .s)) (c .before .before .before .before .before .before .before .before .before .before .before .args .end) (c .before .before .before .before .loop .k)) (c .enum-told .given .1) (c .before .before .import-home .ensures))))
+returns c =
+    let c1 = c .before .before in
+    let import-home = c1 .import-home in
+    let c2 = c1 .before in
+    let loop-test = c2 .loop-test in
+    let c3 = c2 .before in
+    let loop = c3 .loop in
+    let c4 = c3 .before in
+    let wide = c4 .wide in
+    let c5 = c4 .before .before in
+    let imports-at = c5 .imports-at in
+    let a = c5 .before .before .before .before .args in (
+      table.missing (now (a .f)) (now (a .s)) (a .end) (loop .k) (imports-at .result) (imports-at .ensures)
+          (omega (arith, wide .ensures .0, loop-test .taken)) (subst (ImportHomeIs (now (a .f)) (now (a .s)) (a .end) (loop .k)) (c .enum-told .given .1)
+          (import-home .ensures)),
+      table.no-homes (now (a .f)) (now (a .s)) (a .end) (loop .homes) (loop .inv .size)
+          (table.missing (now (a .f)) (now (a .s)) (a .end) (loop .k) (imports-at .result) (imports-at .ensures)
+          (omega (arith, wide .ensures .0, loop-test .taken)) (subst (ImportHomeIs (now (a .f)) (now (a .s)) (a .end) (loop .k)) (c .enum-told .given .1)
+          (import-home .ensures))),
+    )
 
 returns-2 : tie.Need-returns-2 Inv-loop μ-loop
-returns-2 c = (table.all-there (now (c .before .before .before .before .before .before .before .before .args .f)) (now (c .before .before .before .before .before .before .before .before .args .s)) (c .before .before .before .before .before .before .before .before .args .end) (c .before .loop .k) (c .before .before .before .before .imports-at .result) (c .before .loop .homes) (c .before .before .before .before .imports-at .ensures) (omega (arith, c .before .before .wide .ensures .0, c .loop-test .left)) (c .before .loop .inv), table.homes-found (now (c .before .before .before .before .before .before .before .before .args .f)) (now (c .before .before .before .before .before .before .before .before .args .s)) (c .before .before .before .before .before .before .before .before .args .end) (c .before .loop .k) (c .before .before .before .before .imports-at .result) (c .before .loop .homes) (c .before .before .before .before .imports-at .ensures) (omega (arith, c .before .before .wide .ensures .0, c .loop-test .left)) (c .before .loop .inv))
+returns-2 c =
+    let c1 = c .before .before in
+    let wide = c1 .wide in
+    let c2 = c1 .before .before in
+    let imports-at = c2 .imports-at in
+    let a = c2 .before .before .before .before .args in (
+      table.all-there (now (a .f)) (now (a .s)) (a .end) (c .before .loop .k) (imports-at .result) (c .before .loop .homes) (imports-at .ensures)
+          (omega (arith, wide .ensures .0, c .loop-test .left)) (c .before .loop .inv),
+      table.homes-found (now (a .f)) (now (a .s)) (a .end)
+          (c .before .loop .k) (imports-at .result) (c .before .loop .homes) (imports-at .ensures) (omega (arith, wide .ensures .0, c .loop-test .left))
+          (c .before .loop .inv),
+    )
 
 pub imports-there-spec : {M : Type 1} → statement M
 imports-there-spec =

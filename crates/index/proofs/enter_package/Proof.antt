@@ -16,8 +16,9 @@ same-length c = search needs
 
 returns : tie.Need-returns
 returns c =
-    let start = c .before .before .before .before .before .before in
-    let entered = c .before .before .enter in
+    let c1 = c .before .before in
+    let entered = c1 .enter in
+    let start = c1 .before .before .before .before in
     entering.enter-is (now (start .args .s)) (start .args .at) (start .args .file) (start .args .next) (now (start .args .index)) (start .pre .0 .0)
     (start .pre .0 .1) (start .pre .1 .0) (entered .last .1 .0) (entered .result) (entered .ensures)
 

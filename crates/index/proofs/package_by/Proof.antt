@@ -23,18 +23,21 @@ file-from-requires c κs =
 
 entry-to-requires : tie.Need-entry-to-requires
 entry-to-requires c κs =
-    let start = c .before .before .before .before .before .before in
-    let found = c .before .before .find in
+    let c1 = c .before .before in
+    let found = c1 .find in
+    let start = c1 .before .before .before .before in
     asked.found-inside (now (start .args .s)) (start .args .end) (now (start .args .index)) (now (start .args .aid)) (start .pre .1) (found .result)
     (found .ensures) (c .before .if1 .left)
 
 returns-2 : tie.Need-returns-2
 returns-2 c =
-    let start = c .before .before .before .before .before .before .before in
-    let found = c .before .before .before .find in
+    let c1 = c .before .before in
+    let c2 = c1 .before in
+    let found = c2 .find in
+    let start = c2 .before .before .before .before in
     let file = c .before .file-from in
     asked.package-there (now (start .args .s)) (start .args .end) (now (start .args .index)) (now (start .args .aid)) (start .pre .1) (found .result)
-    (file .result) (c .entry-to .result) (found .ensures) (c .before .before .if1 .left) (file .ensures) (c .entry-to .ensures)
+    (file .result) (c .entry-to .result) (found .ensures) (c1 .if1 .left) (file .ensures) (c .entry-to .ensures)
 
 pub package-by-spec : {M : Type 1} → statement M
 package-by-spec =

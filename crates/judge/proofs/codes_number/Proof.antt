@@ -1,7 +1,7 @@
+-- `judge::codes_number` meets its contract. Assumes nothing.
 use native.Mathlib.Omega.{arith}
 use denote.Ref.{now}
 use Rattle.judge.proofs.Stages as stages
--- `judge::codes_number` meets its contract. Assumes nothing.
 use borrow.Author.Needs.{needs}
 use Rattle.judge.proofs.codes_number.Statement.{statement}
 use Rattle.judge.proofs.codes_number.Tie as tie
@@ -21,8 +21,10 @@ slice-aggregate-codes-ok-2 c = search needs
 
 codes-ok-requires : tie.Need-codes-ok-requires
 codes-ok-requires c κs =
-    let a = c .before .before .before .before .before .before .args in
-    (stages.code-room (now (a .s)) (now (a .file)) (c .before .before .before .before .before .before .pre), c .before .before .before .table .ensures)
+    let c1 = c .before .before .before in
+    let start = c1 .before .before .before in
+    let a = start .args in
+    (stages.code-room (now (a .s)) (now (a .file)) (start .pre), c1 .table .ensures)
 
 returns : tie.Need-returns
 returns c = search needs

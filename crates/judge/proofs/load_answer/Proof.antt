@@ -1,3 +1,4 @@
+-- `judge::load_answer` meets its contract. Assumes nothing.
 use Rattle.store.proofs.Sound.{over-stand, created-is}
 use Rattle.store.specs.declared.Spot.{Spot}
 use Rattle.store.specs.Answers.{spot}
@@ -6,7 +7,6 @@ use borrow.Author.Tests.{not-true, not-false}
 use mathlib.Core.Path.{sym, _∙_, ap}
 use denote.Ref.{now}
 use Rattle.judge.proofs.Loading as loading
--- `judge::load_answer` meets its contract. Assumes nothing.
 use borrow.Author.Needs.{needs}
 use Rattle.judge.proofs.load_answer.Statement.{statement}
 use Rattle.judge.proofs.load_answer.Tie as tie
@@ -22,10 +22,14 @@ length-ok-requires c κs = search needs
 returns : tie.Need-returns
 returns c =
     let a = c .before .before .before .before .before .before .before .before .args in
-    loading.load-3 (now (a .s)) (a .end) (now (a .domain)) (now (a .file)) (sym (c .before .length-ok .ensures) ∙ not-true (c .before .length-ok .result) (c .if1 .taken))
+    loading.load-3 (now (a .s)) (a .end) (now (a .domain)) (now (a .file))
+    (sym (c .before .length-ok .ensures) ∙ not-true (c .before .length-ok .result) (c .if1 .taken))
 
 find-domain-requires : tie.Need-find-domain-requires
-find-domain-requires c κs = over-stand (now (c .before .before .before .before .before .before .before .before .args .s)) (c .before .before .before .before .before .before .before .before .args .end) (c .before .before .before .before .before .before .before .before .pre .0)
+find-domain-requires c κs =
+    let start = c .before .before .before .before .before .before .before .before in
+    let a = start .args in
+    over-stand (now (a .s)) (a .end) (start .pre .0)
 
 enum-told : tie.Need-enum-told
 enum-told c = search needs
@@ -41,16 +45,31 @@ same-length c = search needs
 
 returns-2 : tie.Need-returns-2
 returns-2 c =
-    let a = c .before .before .before .before .before .before .before .before .before .before .before .before .before .before .before .args in
-    loading.load-file (now (a .s)) (a .end) (now (a .domain)) (now (a .file)) (sym (c .before .before .before .before .before .before .before .before .length-ok .ensures) ∙ not-false (c .before .before .before .before .before .before .before .before .length-ok .result) (c .before .before .before .before .before .before .before .if1 .left))
-    (λ es o. ap (λ (x : Spot). isSome (spot x)) (sym (c .before .before .before .before .enum-told .given .1)) ∙ created-is (now (a .s)) (a .end) (now (a .domain)) (c .before .before .before .before .before .before .find-domain .result) (c .before .before .before .before .before .before .find-domain .ensures) es o)
-    (c .before .before .file-answer .result) (c .before .before .file-answer .ensures)
+    let c1 = c .before .before in
+    let file-answer = c1 .file-answer in
+    let c2 = c1 .before .before in
+    let c3 = c2 .before .before in
+    let find-domain = c3 .find-domain in
+    let c4 = c3 .before in
+    let c5 = c4 .before in
+    let length-ok = c5 .length-ok in
+    let a = c5 .before .before .before .before .before .before .before .args in
+    loading.load-file (now (a .s)) (a .end) (now (a .domain)) (now (a .file)) (sym (length-ok .ensures) ∙ not-false (length-ok .result) (c4 .if1 .left))
+    (λ es o. ap (λ (x : Spot). isSome (spot x)) (sym (c2 .enum-told .given .1)) ∙ created-is (now (a .s)) (a .end) (now (a .domain)) (find-domain .result)
+    (find-domain .ensures) es o)
+    (file-answer .result) (file-answer .ensures)
 
 returns-3 : tie.Need-returns-3
 returns-3 c =
-    let a = c .before .before .before .before .before .before .before .before .before .before .before .args in
-    loading.load-5 (now (a .s)) (a .end) (now (a .domain)) (now (a .file)) (sym (c .before .before .before .before .length-ok .ensures) ∙ not-false (c .before .before .before .before .length-ok .result) (c .before .before .before .if1 .left))
-    (λ es o. ap (λ (x : Spot). isSome (spot x)) (sym (c .enum-told2 .given .1)) ∙ created-is (now (a .s)) (a .end) (now (a .domain)) (c .before .before .find-domain .result) (c .before .before .find-domain .ensures) es o)
+    let c1 = c .before .before in
+    let find-domain = c1 .find-domain in
+    let c2 = c1 .before in
+    let c3 = c2 .before in
+    let length-ok = c3 .length-ok in
+    let a = c3 .before .before .before .before .before .before .before .args in
+    loading.load-5 (now (a .s)) (a .end) (now (a .domain)) (now (a .file)) (sym (length-ok .ensures) ∙ not-false (length-ok .result) (c2 .if1 .left))
+    (λ es o. ap (λ (x : Spot). isSome (spot x)) (sym (c .enum-told2 .given .1)) ∙ created-is (now (a .s)) (a .end) (now (a .domain)) (find-domain .result)
+    (find-domain .ensures) es o)
 
 pub load-answer-spec : {M : Type 1} → statement M
 load-answer-spec =

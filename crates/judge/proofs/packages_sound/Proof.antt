@@ -1,3 +1,4 @@
+-- `judge::packages_sound` meets its contract. Assumes nothing.
 use Rattle.rules.specs.Store.{loaded}
 use Rattle.store.specs.Entries.{part}
 use Rattle.judge.specs.Says.{EntrySays}
@@ -14,7 +15,6 @@ use Prim.Native.Nat.{ℕ, _-_}
 use native.Mathlib.Omega.{arith}
 use denote.Ref.{now}
 use Rattle.judge.proofs.Packages as packages
--- `judge::packages_sound` meets its contract. Assumes nothing.
 use Rattle.judge.proofs.packages_sound.Statement.{statement}
 use Rattle.judge.proofs.packages_sound.Tie as tie
 use Rattle.judge.proofs.packages_sound.Reads as reads
@@ -23,19 +23,25 @@ use Rattle.judge.proofs.package_sound.Reads as package-sound-reads
 use Rattle.store.proofs.entry_at.Reads as entry-at-reads
 
 abbrev Inv-loop : tie.InvT-loop
-Inv-loop s end index₀ depths₀ seen₀ at₀ index depths seen at = packages.Going s end at × IndexIs s at index × DepthsKept s at depths × (length index ≡ length index₀) × (length depths ≡ length depths₀) × (length seen ≡ length seen₀)
+Inv-loop s end index₀ depths₀ seen₀ at₀ index depths seen at = packages.Going s end at × IndexIs s at index × DepthsKept s at depths ×
+    (length index ≡ length index₀) × (length depths ≡ length depths₀) × (length seen ≡ length seen₀)
 
 abbrev μ-loop : tie.MeasureT-loop
 μ-loop s end index₀ depths₀ seen₀ at₀ index depths seen at = end - at
 
 loop-holds : tie.Need-loop-holds Inv-loop μ-loop
-loop-holds c = (packages.going-start (now (c .before .before .before .before .args .s)) (c .before .before .before .before .args .end), c .before .before .before .before .pre .1 .0 .0, c .before .before .before .before .pre .1 .0 .1, refl, refl, refl)
+loop-holds c =
+    let start = c .before .before .before .before in
+    let a = start .args in
+    let pre = start .pre in
+    (packages.going-start (now (a .s)) (a .end), pre .1 .0 .0, pre .1 .0 .1, refl, refl, refl)
 
 entry-at-requires : tie.Need-entry-at-requires Inv-loop μ-loop
 entry-at-requires c κs =
-    let a = c .before .before .before .before .before .args in
+    let start = c .before .before .before .before .before in
+    let a = start .args in
     let turn = c .loop in
-    let st = c .before .before .before .before .before .pre .0 .0 in
+    let st = start .pre .0 .0 in
     packages.going-from (now (a .s)) (a .end) (turn .at) (turn .inv .0) st
 
 enum-known-next : tie.Need-enum-known-next Inv-loop μ-loop
@@ -43,20 +49,31 @@ enum-known-next c = search needs
 
 loop-less : tie.Need-loop-less Inv-loop μ-loop
 loop-less c =
-    let a = c .before .before .before .before .before .before .before .before .before .args in
-    let turn = c .before .before .before .before .loop in
-    let st = c .before .before .before .before .before .before .before .before .before .pre .0 .0 in
-    let in-store = packages.domain-in (now (a .s)) (a .end) (turn .at) (turn .inv .0) (c .before .next .given .0 .0) (c .before .next .given .0 .1 .0) (subst (PartAt (now (a .s)) (turn .at) (a .end)) (c .before .next .given .1) (c .before .before .before .entry-at .ensures)) st in
+    let c1 = c .before .before .before in
+    let c2 = c1 .before in
+    let turn = c2 .loop in
+    let start = c2 .before .before .before .before .before in
+    let a = start .args in
+    let st = start .pre .0 .0 in
+    let in-store = packages.domain-in (now (a .s)) (a .end) (turn .at) (turn .inv .0) (c .before .next .given .0 .0) (c .before .next .given .0 .1 .0)
+    (subst (PartAt (now (a .s)) (turn .at) (a .end)) (c .before .next .given .1) (c1 .entry-at .ensures)) st in
     omega (arith, in-store .0, in-store .1)
 
 loop-again : tie.Need-loop-again Inv-loop μ-loop
 loop-again c =
-    let a = c .before .before .before .before .before .before .before .before .before .args in
-    let turn = c .before .before .before .before .loop in
-    let st = c .before .before .before .before .before .before .before .before .before .pre .0 .0 in
-    let one = packages.domain-entry (now (a .s)) (a .end) (turn .at) (turn .inv .0) (c .before .next .given .0 .0) (c .before .next .given .0 .1 .0) (subst (PartAt (now (a .s)) (turn .at) (a .end)) (c .before .next .given .1) (c .before .before .before .entry-at .ensures)) st in
+    let c1 = c .before .before .before in
+    let entry-at = c1 .entry-at in
+    let c2 = c1 .before in
+    let turn = c2 .loop in
+    let start = c2 .before .before .before .before .before in
+    let a = start .args in
+    let pre = start .pre in
+    let st = pre .0 .0 in
+    let one = packages.domain-entry (now (a .s)) (a .end) (turn .at) (turn .inv .0) (c .before .next .given .0 .0) (c .before .next .given .0 .1 .0)
+    (subst (PartAt (now (a .s)) (turn .at) (a .end)) (c .before .next .given .1) (entry-at .ensures)) st in
     let over = packages.going-over (now (a .s)) (a .end) (turn .at) (turn .inv .0) st in (
-      packages.domain-on (now (a .s)) (a .end) (turn .at) (turn .inv .0) (c .before .next .given .0 .0) (c .before .next .given .0 .1 .0) (subst (PartAt (now (a .s)) (turn .at) (a .end)) (c .before .next .given .1) (c .before .before .before .entry-at .ensures)) (c .before .before .before .before .before .before .before .before .before .pre .0 .1),
+      packages.domain-on (now (a .s)) (a .end) (turn .at) (turn .inv .0) (c .before .next .given .0 .0) (c .before .next .given .0 .1 .0)
+          (subst (PartAt (now (a .s)) (turn .at) (a .end)) (c .before .next .given .1) (entry-at .ensures)) (pre .0 .1),
       index-domain (now (a .s)) (turn .at) _ _ _ (turn .inv .1) one,
       depths-domain (now (a .s)) (turn .at) _ _ _ (turn .inv .2) one (over .0, over .1 .stand),
       turn .inv .3,
@@ -69,71 +86,135 @@ enum-known-from c = search needs
 
 package-sound-requires : tie.Need-package-sound-requires Inv-loop μ-loop
 package-sound-requires c κs =
-    let a = c .before .before .before .before .before .before .before .before .before .before .before .before .args in
-    let turn = c .before .before .before .before .before .before .before .loop in
-    let st = c .before .before .before .before .before .before .before .before .before .before .before .before .pre .0 .0 in (
-      (packages.going-over (now (a .s)) (a .end) (turn .at) (turn .inv .0) st, packages.package-there (now (a .s)) (a .end) (turn .at) (turn .inv .0) (c .before .before .before .before .from .given .0 .0) (c .before .before .before .before .from .given .0 .1 .0) (c .before .before .before .before .from .given .0 .1 .1 .0) (subst (PartAt (now (a .s)) (turn .at) (a .end)) (c .before .before .before .before .from .given .1) (c .before .before .before .before .before .before .entry-at .ensures)) (c .before .before .before .before .before .before .before .before .before .before .before .before .pre .0 .1) st),
-      ((turn .inv .1, turn .inv .2), (c .before .before .before .before .before .before .before .before .before .before .before .before .pre .1 .1 .0, omega (arith, c .before .before .before .before .before .before .before .before .before .before .before .before .pre .1 .1 .1, turn .inv .5))),
+    let c1 = c .before .before .before .before in
+    let from = c1 .from in
+    let c2 = c1 .before .before in
+    let c3 = c2 .before in
+    let turn = c3 .loop in
+    let start = c3 .before .before .before .before .before in
+    let a = start .args in
+    let pre = start .pre in
+    let st = pre .0 .0 in (
+      (
+        packages.going-over (now (a .s)) (a .end) (turn .at) (turn .inv .0) st,
+        packages.package-there (now (a .s)) (a .end) (turn .at) (turn .inv .0)
+            (from .given .0 .0) (from .given .0 .1 .0) (from .given .0 .1 .1 .0)
+            (subst (PartAt (now (a .s)) (turn .at) (a .end)) (from .given .1) (c2 .entry-at .ensures)) (pre .0 .1) st,
+      ),
+      ((turn .inv .1, turn .inv .2), (pre .1 .1 .0, omega (arith, pre .1 .1 .1, turn .inv .5))),
     )
 
 same-length : tie.Need-same-length Inv-loop μ-loop
-same-length c = omega (arith, c .before .before .before .before .before .before .before .before .before .before .before .before .before .before .before .loop .inv .3, c .before .before .before .before .before .before .before .package-sound .kept .1 .1 .0)
+same-length c =
+    let c1 = c .before .before .before .before .before .before .before in
+    let loop = c1 .before .before .before .before .before .before .before .before .loop in
+    omega (arith, loop .inv .3, c1 .package-sound .kept .1 .1 .0)
 
 same-length-2 : tie.Need-same-length-2 Inv-loop μ-loop
-same-length-2 c = omega (arith, c .before .before .before .before .before .before .before .before .before .before .before .before .before .before .before .loop .inv .4, c .before .before .before .before .before .before .before .package-sound .kept .1 .1 .1 .0)
+same-length-2 c =
+    let c1 = c .before .before .before .before .before .before .before in
+    let loop = c1 .before .before .before .before .before .before .before .before .loop in
+    omega (arith, loop .inv .4, c1 .package-sound .kept .1 .1 .1 .0)
 
 same-length-3 : tie.Need-same-length-3 Inv-loop μ-loop
-same-length-3 c = omega (arith, c .before .before .before .before .before .before .before .before .before .before .before .before .before .before .before .loop .inv .5, c .before .before .before .before .before .before .before .package-sound .kept .1 .1 .1 .1 .0)
+same-length-3 c =
+    let c1 = c .before .before .before .before .before .before .before in
+    let loop = c1 .before .before .before .before .before .before .before .before .loop in
+    omega (arith, loop .inv .5, c1 .package-sound .kept .1 .1 .1 .1 .0)
 
 returns : tie.Need-returns Inv-loop μ-loop
 returns c =
-    let a = c .before .before .before .before .before .before .before .before .before .before .before .before .before .before .before .before .before .before .before .before .args in
-    let turn = c .before .before .before .before .before .before .before .before .before .before .before .before .before .before .before .loop in
-    let st = c .before .before .before .before .before .before .before .before .before .before .before .before .before .before .before .before .before .before .before .before .pre .0 .0 in
-    (packages.package-bad (now (a .s)) (a .end) (turn .at) (turn .inv .0) (c .before .before .before .before .before .before .before .before .before .before .before .before .from .given .0 .0) (c .before .before .before .before .before .before .before .before .before .before .before .before .from .given .0 .1 .0) (c .before .before .before .before .before .before .before .before .before .before .before .before .from .given .0 .1 .1 .0) (subst (PartAt (now (a .s)) (turn .at) (a .end)) (c .before .before .before .before .before .before .before .before .before .before .before .before .from .given .1) (c .before .before .before .before .before .before .before .before .before .before .before .before .before .before .entry-at .ensures)) (subst (EntrySays (now (a .s)) (turn .at) (loaded (part (now (a .s)) (c .before .before .before .before .before .before .before .before .before .before .before .before .from .given .0 .0) (c .before .before .before .before .before .before .before .before .before .before .before .before .from .given .0 .1 .0)) (part (now (a .s)) (c .before .before .before .before .before .before .before .before .before .before .before .before .from .given .0 .1 .0) (c .before .before .before .before .before .before .before .before .before .before .before .before .from .given .0 .1 .1 .0)))) (not-true _ (c .if1 .taken)) (c .before .before .before .before .before .before .before .package-sound .ensures .0)), λ e. let z : _≡_ {A = ℕ} 0 1 = cc in absurd (omega arith))
+    let c1 = c .before .before .before .before .before .before .before in
+    let c2 = c1 .before .before .before .before .before in
+    let from = c2 .from in
+    let c3 = c2 .before .before in
+    let c4 = c3 .before in
+    let turn = c4 .loop in
+    let start = c4 .before .before .before .before .before in
+    let a = start .args in
+    let st = start .pre .0 .0 in (
+      packages.package-bad (now (a .s)) (a .end) (turn .at) (turn .inv .0) (from .given .0 .0) (from .given .0 .1 .0) (from .given .0 .1 .1 .0)
+          (subst (PartAt (now (a .s)) (turn .at) (a .end)) (from .given .1) (c3 .entry-at .ensures))
+          (subst (EntrySays (now (a .s)) (turn .at) (loaded (part (now (a .s)) (from .given .0 .0) (from .given .0 .1 .0))
+          (part (now (a .s)) (from .given .0 .1 .0) (from .given .0 .1 .1 .0)))) (not-true _ (c .if1 .taken)) (c1 .package-sound .ensures .0)),
+      λ e. let z :
+          _≡_ {A = ℕ} 0 1 = cc in absurd (omega arith),
+    )
 
 loop-less-2 : tie.Need-loop-less-2 Inv-loop μ-loop
 loop-less-2 c =
-    let a = c .before .before .before .before .before .before .before .before .before .before .before .before .before .before .before .before .before .before .before .before .args in
-    let turn = c .before .before .before .before .before .before .before .before .before .before .before .before .before .before .before .loop in
-    let st = c .before .before .before .before .before .before .before .before .before .before .before .before .before .before .before .before .before .before .before .before .pre .0 .0 in
-    let in-store = packages.package-in (now (a .s)) (a .end) (turn .at) (turn .inv .0) (c .before .before .before .before .before .before .before .before .before .before .before .before .from .given .0 .0) (c .before .before .before .before .before .before .before .before .before .before .before .before .from .given .0 .1 .0) (c .before .before .before .before .before .before .before .before .before .before .before .before .from .given .0 .1 .1 .0) (subst (PartAt (now (a .s)) (turn .at) (a .end)) (c .before .before .before .before .before .before .before .before .before .before .before .before .from .given .1) (c .before .before .before .before .before .before .before .before .before .before .before .before .before .before .entry-at .ensures)) st in
+    let c1 = c .before .before .before .before .before .before .before .before .before .before .before .before in
+    let from = c1 .from in
+    let c2 = c1 .before .before in
+    let c3 = c2 .before in
+    let turn = c3 .loop in
+    let start = c3 .before .before .before .before .before in
+    let a = start .args in
+    let st = start .pre .0 .0 in
+    let in-store = packages.package-in (now (a .s)) (a .end) (turn .at) (turn .inv .0) (from .given .0 .0) (from .given .0 .1 .0)
+    (from .given .0 .1 .1 .0) (subst (PartAt (now (a .s)) (turn .at) (a .end)) (from .given .1) (c2 .entry-at .ensures)) st in
     omega (arith, in-store .0, in-store .1)
 
 loop-again-2 : tie.Need-loop-again-2 Inv-loop μ-loop
 loop-again-2 c =
-    let a = c .before .before .before .before .before .before .before .before .before .before .before .before .before .before .before .before .before .before .before .before .args in
-    let turn = c .before .before .before .before .before .before .before .before .before .before .before .before .before .before .before .loop in
-    let st = c .before .before .before .before .before .before .before .before .before .before .before .before .before .before .before .before .before .before .before .before .pre .0 .0 in
-    let kept = c .before .before .before .before .before .before .before .package-sound .ensures .1 (not-false _ (c .if1 .left)) in (
-      packages.package-on (now (a .s)) (a .end) (turn .at) (turn .inv .0) (c .before .before .before .before .before .before .before .before .before .before .before .before .from .given .0 .0) (c .before .before .before .before .before .before .before .before .before .before .before .before .from .given .0 .1 .0) (c .before .before .before .before .before .before .before .before .before .before .before .before .from .given .0 .1 .1 .0) (subst (PartAt (now (a .s)) (turn .at) (a .end)) (c .before .before .before .before .before .before .before .before .before .before .before .before .from .given .1) (c .before .before .before .before .before .before .before .before .before .before .before .before .before .before .entry-at .ensures)) (subst (EntrySays (now (a .s)) (turn .at) (loaded (part (now (a .s)) (c .before .before .before .before .before .before .before .before .before .before .before .before .from .given .0 .0) (c .before .before .before .before .before .before .before .before .before .before .before .before .from .given .0 .1 .0)) (part (now (a .s)) (c .before .before .before .before .before .before .before .before .before .before .before .before .from .given .0 .1 .0) (c .before .before .before .before .before .before .before .before .before .before .before .before .from .given .0 .1 .1 .0)))) (not-false _ (c .if1 .left)) (c .before .before .before .before .before .before .before .package-sound .ensures .0)),
+    let c1 = c .before .before .before .before .before .before .before in
+    let package-sound = c1 .package-sound in
+    let c2 = c1 .before .before .before .before .before in
+    let from = c2 .from in
+    let c3 = c2 .before .before in
+    let c4 = c3 .before in
+    let turn = c4 .loop in
+    let start = c4 .before .before .before .before .before in
+    let a = start .args in
+    let st = start .pre .0 .0 in
+    let kept = package-sound .ensures .1 (not-false _ (c .if1 .left)) in (
+      packages.package-on (now (a .s)) (a .end) (turn .at) (turn .inv .0) (from .given .0 .0) (from .given .0 .1 .0) (from .given .0 .1 .1 .0)
+          (subst (PartAt (now (a .s)) (turn .at) (a .end)) (from .given .1) (c3 .entry-at .ensures))
+          (subst (EntrySays (now (a .s)) (turn .at) (loaded (part (now (a .s)) (from .given .0 .0) (from .given .0 .1 .0))
+          (part (now (a .s)) (from .given .0 .1 .0) (from .given .0 .1 .1 .0)))) (not-false _ (c .if1 .left)) (package-sound .ensures .0)),
       kept .0,
       kept .1,
-      omega (arith, turn .inv .3, c .before .before .before .before .before .before .before .package-sound .kept .1 .1 .0),
-      omega (arith, turn .inv .4, c .before .before .before .before .before .before .before .package-sound .kept .1 .1 .1 .0),
-      omega (arith, turn .inv .5, c .before .before .before .before .before .before .before .package-sound .kept .1 .1 .1 .1 .0),
+      omega (arith, turn .inv .3, package-sound .kept .1 .1 .0),
+      omega (arith, turn .inv .4, package-sound .kept .1 .1 .1 .0),
+      omega (arith, turn .inv .5, package-sound .kept .1 .1 .1 .1 .0),
     )
 
 enum-told : tie.Need-enum-told Inv-loop μ-loop
 enum-told c = search needs
 
 same-length-4 : tie.Need-same-length-4 Inv-loop μ-loop
-same-length-4 c = c .before .before .before .loop .inv .3
+same-length-4 c =
+    let loop = c .before .before .before .loop in
+    loop .inv .3
 
 same-length-5 : tie.Need-same-length-5 Inv-loop μ-loop
-same-length-5 c = c .before .before .before .loop .inv .4
+same-length-5 c =
+    let loop = c .before .before .before .loop in
+    loop .inv .4
 
 same-length-6 : tie.Need-same-length-6 Inv-loop μ-loop
-same-length-6 c = c .before .before .before .loop .inv .5
+same-length-6 c =
+    let loop = c .before .before .before .loop in
+    loop .inv .5
 
 returns-2 : tie.Need-returns-2 Inv-loop μ-loop
 returns-2 c =
-    let a = c .before .before .before .before .before .before .before .before .args in
-    let turn = c .before .before .before .loop in
-    let st = c .before .before .before .before .before .before .before .before .pre .0 .0 in
-    let at-end = packages.done-at (now (a .s)) (a .end) (turn .at) (turn .inv .0) (subst (PartAt (now (a .s)) (turn .at) (a .end)) (c .enum-told .given .1) (c .before .before .entry-at .ensures)) st in (
-      packages.all-done (now (a .s)) (a .end) (turn .at) (turn .inv .0) (subst (PartAt (now (a .s)) (turn .at) (a .end)) (c .enum-told .given .1) (c .before .before .entry-at .ensures)),
-      λ e. (subst (λ (k : ℕ). IndexIs (now (a .s)) k (turn .index)) at-end (turn .inv .1), subst (λ (k : ℕ). DepthsKept (now (a .s)) k (turn .depths)) at-end (turn .inv .2)),
+    let c1 = c .before .before in
+    let entry-at = c1 .entry-at in
+    let c2 = c1 .before in
+    let turn = c2 .loop in
+    let start = c2 .before .before .before .before .before in
+    let a = start .args in
+    let st = start .pre .0 .0 in
+    let at-end = packages.done-at (now (a .s)) (a .end) (turn .at) (turn .inv .0)
+    (subst (PartAt (now (a .s)) (turn .at) (a .end)) (c .enum-told .given .1) (entry-at .ensures)) st in (
+      packages.all-done (now (a .s)) (a .end) (turn .at) (turn .inv .0) (subst (PartAt (now (a .s)) (turn .at) (a .end)) (c .enum-told .given .1)
+          (entry-at .ensures)),
+      λ e. (
+        subst (λ (k : ℕ). IndexIs (now (a .s)) k (turn .index)) at-end (turn .inv .1),
+        subst (λ (k : ℕ). DepthsKept (now (a .s)) k (turn .depths))
+            at-end (turn .inv .2),
+      ),
     )
 
 pub packages-sound-spec : {M : Type 1} → statement M

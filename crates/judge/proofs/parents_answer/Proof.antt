@@ -1,13 +1,13 @@
+-- `judge::parents_answer` meets its contract. Assumes nothing.
 use Rattle.cursor.specs.Limits.{limitsOf}
 use denote.Ref.{now}
 use Rattle.judge.proofs.Loading as loading
--- `judge::parents_answer` meets its contract. Assumes nothing.
 use borrow.Author.Needs.{needs}
 use Rattle.judge.proofs.parents_answer.Statement.{statement}
 use Rattle.judge.proofs.parents_answer.Tie as tie
 use Rattle.judge.proofs.parents_answer.Reads as reads
 use Rattle.judge.proofs.parents_answer.Lts as lts
-use Rattle.cursor.proofs.limits_of.Reads as limits-of-reads
+use Rattle.store.proofs.limits_of.Reads as limits-of-reads
 use Rattle.judge.proofs.package_answer.Reads as package-answer-reads
 use Rattle.reader.proofs.read_package.Reads as read-package-reads
 
@@ -28,19 +28,40 @@ enum-told-3 c = search needs
 
 package-answer-requires : tie.Need-package-answer-requires
 package-answer-requires c κs =
-    let a = c .before .before .before .before .before .before .before .before .before .before .before .args in
-    let read = loading.said-0 (now (a .s)) (limitsOf (c .before .before .before .before .before .limits-of .result)) (c .before .before .before .before .before .limits-of .ensures) (now (a .file)) (c .before .before .before .before .read-package .result) (c .before .before .before .before .read-package .ensures) (c .before .before .enum-told3 .given .0 .0) (c .before .before .enum-told3 .given .1) in
-    ((c .before .before .before .before .before .before .before .before .before .before .before .pre .0, read .0, read .1), c .before .before .before .before .before .before .before .before .before .before .before .pre .1)
+    let c1 = c .before .before in
+    let enum-told3 = c1 .enum-told3 in
+    let c2 = c1 .before .before in
+    let read-package = c2 .read-package in
+    let c3 = c2 .before in
+    let limits-of = c3 .limits-of in
+    let start = c3 .before .before .before .before .before .before in
+    let a = start .args in
+    let pre = start .pre in
+    let read = loading.said-0 (now (a .s)) (limitsOf (limits-of .result)) (limits-of .ensures) (now (a .file)) (read-package .result)
+    (read-package .ensures) (enum-told3 .given .0 .0) (enum-told3 .given .1) in
+    ((pre .0, read .0, read .1), pre .1)
 
 returns : tie.Need-returns
 returns c =
-    let a = c .before .before .before .before .before .before .before .before .before .args in
-    (loading.parents-10 (now (a .s)) (a .end) (now (a .file)) (loading.said-10 (now (a .s)) (limitsOf (c .before .before .before .limits-of .result)) (c .before .before .before .limits-of .ensures) (now (a .file)) (c .before .before .read-package .result) (c .before .before .read-package .ensures) (c .enum-told .given .1)), tt)
+    let c1 = c .before .before in
+    let read-package = c1 .read-package in
+    let c2 = c1 .before in
+    let limits-of = c2 .limits-of in
+    let a = c2 .before .before .before .before .before .before .args in (
+      loading.parents-10 (now (a .s)) (a .end) (now (a .file)) (loading.said-10 (now (a .s)) (limitsOf (limits-of .result)) (limits-of .ensures)
+          (now (a .file)) (read-package .result) (read-package .ensures) (c .enum-told .given .1)),
+      tt,
+    )
 
 returns-2 : tie.Need-returns-2
 returns-2 c =
-    let a = c .before .before .before .before .before .before .before .before .before .args in
-    let read = loading.said-11 (now (a .s)) (limitsOf (c .before .before .before .limits-of .result)) (c .before .before .before .limits-of .ensures) (now (a .file)) (c .before .before .read-package .result) (c .before .before .read-package .ensures) (c .enum-told2 .given .1) in
+    let c1 = c .before .before in
+    let read-package = c1 .read-package in
+    let c2 = c1 .before in
+    let limits-of = c2 .limits-of in
+    let a = c2 .before .before .before .before .before .before .args in
+    let read = loading.said-11 (now (a .s)) (limitsOf (limits-of .result)) (limits-of .ensures) (now (a .file)) (read-package .result)
+    (read-package .ensures) (c .enum-told2 .given .1) in
     (loading.parents-11 (now (a .s)) (a .end) (now (a .file)) (read .0) (read .1), tt)
 
 same-length : tie.Need-same-length

@@ -1,3 +1,4 @@
+-- `judge::running_number` meets its contract. Assumes nothing.
 use Rattle.rules.specs.Store.{loaded}
 use Rattle.store.proofs.Sound.{over-to}
 use Rattle.store.specs.Answers.{Fits}
@@ -7,7 +8,6 @@ use borrow.Author.Tests.{not-true, not-false}
 use mathlib.Core.Path.{_≡_, sym, _∙_, subst}
 use denote.Ref.{now}
 use Rattle.judge.proofs.Stages as stages
--- `judge::running_number` meets its contract. Assumes nothing.
 use borrow.Author.Needs.{needs}
 use Rattle.judge.proofs.running_number.Statement.{statement}
 use Rattle.judge.proofs.running_number.Tie as tie
@@ -18,30 +18,38 @@ use Rattle.store.proofs.package_fits.Reads as package-fits-reads
 
 running-ok-requires : tie.Need-running-ok-requires
 running-ok-requires c κs =
-    let a = c .before .before .before .before .before .before .args in
-    (stages.judged-there (now (a .s)) (a .end) (now (a .domain)) (now (a .file)) (c .before .before .before .before .before .before .pre .0 .0), ((c .before .before .before .before .before .before .pre .0 .1, c .before .before .before .before .before .before .pre .1 .0), c .before .before .before .before .before .before .pre .1 .1))
+    let start = c .before .before .before .before .before .before in
+    let a = start .args in
+    let pre = start .pre in
+    (stages.judged-there (now (a .s)) (a .end) (now (a .domain)) (now (a .file)) (pre .0 .0), ((pre .0 .1, pre .1 .0), pre .1 .1))
 
 same-length : tie.Need-same-length
 same-length c = search needs
 
 returns : tie.Need-returns
 returns c =
-    let a = c .before .before .before .before .before .before .before .before .before .before .args in
-    stages.number-20 (now (a .s)) (a .end) (now (a .domain)) (now (a .file)) (subst (RunningIs (now (a .file)) (now (a .s)) (a .end)) (not-true _ (c .if1 .taken)) (c .before .before .before .running-ok .ensures))
+    let c1 = c .before .before .before in
+    let a = c1 .before .before .before .before .before .before .before .args in
+    stages.number-20 (now (a .s)) (a .end) (now (a .domain)) (now (a .file))
+    (subst (RunningIs (now (a .file)) (now (a .s)) (a .end)) (not-true _ (c .if1 .taken)) (c1 .running-ok .ensures))
 
 package-fits-requires : tie.Need-package-fits-requires
 package-fits-requires c κs =
-    let some = c .before .before .before .before .before .before .before .before .before .before .pre .0 .0 in
-    over-to (now (c .before .before .before .before .before .before .before .before .before .before .args .s)) (c .before .before .before .before .before .before .before .before .before .before .args .end) (some .0, some .2 .read .over)
+    let start = c .before .before .before .before .before .before .before .before .before .before in
+    let a = start .args in
+    let some = start .pre .0 .0 in
+    over-to (now (a .s)) (a .end) (some .0, some .2 .read .over)
 
 same-length-2 : tie.Need-same-length-2
 same-length-2 c = search needs
 
 returns-2 : tie.Need-returns-2
 returns-2 c =
-    let a = c .before .before .before .before .before .before .before .before .before .before .before .before .args in
+    let c1 = c .before .before in
+    let c2 = c1 .before .before .before in
+    let a = c2 .before .before .before .before .before .before .before .args in
     stages.number-21 (now (a .s)) (a .end) (now (a .domain)) (now (a .file)) false
-    (subst (RunningIs (now (a .file)) (now (a .s)) (a .end)) (not-false _ (c .before .before .if1 .left)) (c .before .before .before .before .before .running-ok .ensures))
+    (subst (RunningIs (now (a .file)) (now (a .s)) (a .end)) (not-false _ (c1 .if1 .left)) (c2 .running-ok .ensures))
     (subst (Fits (now (a .s)) (a .end) (loaded (now (a .domain)) (now (a .file)))) (not-true _ (c .if2 .taken)) (c .before .package-fits .ensures))
 
 same-length-3 : tie.Need-same-length-3
@@ -49,9 +57,11 @@ same-length-3 c = search needs
 
 returns-3 : tie.Need-returns-3
 returns-3 c =
-    let a = c .before .before .before .before .before .before .before .before .before .before .before .before .args in
+    let c1 = c .before .before in
+    let c2 = c1 .before .before .before in
+    let a = c2 .before .before .before .before .before .before .before .args in
     stages.number-21 (now (a .s)) (a .end) (now (a .domain)) (now (a .file)) true
-    (subst (RunningIs (now (a .file)) (now (a .s)) (a .end)) (not-false _ (c .before .before .if1 .left)) (c .before .before .before .before .before .running-ok .ensures))
+    (subst (RunningIs (now (a .file)) (now (a .s)) (a .end)) (not-false _ (c1 .if1 .left)) (c2 .running-ok .ensures))
     (subst (Fits (now (a .s)) (a .end) (loaded (now (a .domain)) (now (a .file)))) (not-false _ (c .if2 .left)) (c .before .package-fits .ensures))
 
 pub running-number-spec : {M : Type 1} → statement M

@@ -34,8 +34,9 @@ digit-requires-2 c κs = search needs
 
 returns-3 : tie.Need-returns-3
 returns-3 c =
-    let args = c .before .before .before .before .before .before .before .before .args in
-    let digit = c .before .before .before .before .digit in
+    let c1 = c .before .before .before .before in
+    let digit = c1 .digit in
+    let args = c1 .before .before .before .before .args in
     let digit2 = c .before .digit2 in (
       no-low (now (args .digits)) (args .at) (omega arith) (digit .result) (digit2 .result) (digit .ensures .0)
           (omega arith) (digit2 .ensures .0) (omega arith),
@@ -50,8 +51,9 @@ add-result c = search needs
 
 returns-4 : tie.Need-returns-4
 returns-4 c =
-    let args = c .before .before .before .before .before .before .before .before .args in
-    let digit = c .before .before .before .before .digit in
+    let c1 = c .before .before .before .before in
+    let digit = c1 .digit in
+    let args = c1 .before .before .before .before .args in
     let digit2 = c .before .digit2 in (
       two-digits (now (args .digits)) (args .at) (omega arith) (digit .result) (digit2 .result) (digit .ensures .0)
           (omega arith) (digit2 .ensures .0) (omega arith),

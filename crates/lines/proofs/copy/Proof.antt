@@ -39,8 +39,10 @@ loop-less c = omega arith
 
 loop-again : tie.Need-loop-again Inv-loop μ-loop
 loop-again c =
-    let loop = c .before .before .loop in
-    let args = c .before .before .before .args in (
+    let c1 = c .before .before in
+    let loop = c1 .loop in
+    let a = c1 .before .args in
+    let args = a in (
       omega arith,
       simp length-set (loop .inv .1),
       copy-step (now (args .line)) (loop .line) (now (args .chunk))

@@ -13,7 +13,8 @@ use Rattle.lines.proofs.decode.Statement.{statement}
 use Rattle.lines.proofs.decode.Tie as tie
 
 abbrev Inv-loop : tie.InvT-loop
-Inv-loop digits out₀ at n₀ out n = (2 * n ≤ length digits) × (length out ≡ length out₀) × (take at out ≡ take at out₀) × (bytesOf digits ≡ joined (take n (drop at out)) (bytesOf (drop (2 * n) digits)))
+Inv-loop digits out₀ at n₀ out n = (2 * n ≤ length digits) × (length out ≡ length out₀) × (take at out ≡ take at out₀) ×
+    (bytesOf digits ≡ joined (take n (drop at out)) (bytesOf (drop (2 * n) digits)))
 
 abbrev μ-loop : tie.MeasureT-loop
 μ-loop digits out₀ at n₀ out n = length digits - n
@@ -31,12 +32,15 @@ byte-at-requires : tie.Need-byte-at-requires Inv-loop μ-loop
 byte-at-requires c κs = omega arith
 
 same-length : tie.Need-same-length Inv-loop μ-loop
-same-length c = c .before .before .before .loop .inv .1
+same-length c =
+    let loop = c .before .before .before .loop in
+    loop .inv .1
 
 returns : tie.Need-returns Inv-loop μ-loop
 returns c =
-    let args = c .before .before .before .before .before .before .args in
-    let loop = c .before .before .before .loop in
+    let c1 = c .before .before .before in
+    let loop = c1 .loop in
+    let args = c1 .before .before .before .args in
     let byte-at = c .before .byte-at in (
       decode-stop (now (args .digits)) (take (loop .n) (drop (args .at) (loop .out))) (2 * (loop .n)) (omega arith)
           (limit-none 256 (byte-at .result) (byte-at .ensures .0) (omega arith)) (loop .inv .3),
@@ -63,14 +67,16 @@ loop-less c = omega arith
 
 loop-again : tie.Need-loop-again Inv-loop μ-loop
 loop-again c =
-    let args = c .before .before .before .before .before .before .args in
-    let loop = c .before .before .before .loop in
+    let c1 = c .before .before .before in
+    let loop = c1 .loop in
+    let args = c1 .before .before .before .args in
     let byte-at = c .before .byte-at in (
       decode-two (now (args .digits)) (loop .n) (byte-at .result) (limit-some 256 (byte-at .result) (byte-at .ensures .0) (omega arith)),
       simp length-set (loop .inv .1),
       take-set-le (args .at) (loop .out) ((args .at) + (loop .n))
           (byte-at .result) (omega arith) ∙ loop .inv .2,
-      decode-step (now (args .digits)) (loop .out) (args .at) (loop .n) (byte-at .result) (omega arith) (limit-some 256 (byte-at .result) (byte-at .ensures .0) (omega arith)) (loop .inv .3),
+      decode-step (now (args .digits)) (loop .out) (args .at) (loop .n) (byte-at .result) (omega arith)
+          (limit-some 256 (byte-at .result) (byte-at .ensures .0) (omega arith)) (loop .inv .3),
     )
 
 same-length-2 : tie.Need-same-length-2 Inv-loop μ-loop

@@ -12,22 +12,30 @@ returns : tie.Need-returns
 returns c = (digit-under (c .before .before .args .c) (omega arith), omega arith)
 
 returns-2 : tie.Need-returns-2
-returns-2 c = (rw (c .before .before .wide .ensures .0) (digit-figure (c .before .before .before .args .c) (omega arith) (omega arith)), omega arith)
+returns-2 c =
+    let c1 = c .before .before in
+    let a = c1 .before .args in
+    (rw (c1 .wide .ensures .0) (digit-figure (a .c) (omega arith) (omega arith)), omega arith)
 
 returns-3 : tie.Need-returns-3
-returns-3 c = (digit-between (c .before .before .before .before .args .c) (omega arith) (omega arith), omega arith)
+returns-3 c =
+    let a = c .before .before .before .before .args in
+    (digit-between (a .c) (omega arith) (omega arith), omega arith)
 
 add-result : tie.Need-add-result
 add-result c = search needs
 
 returns-4 : tie.Need-returns-4
 returns-4 c =
-    let wide = c .before .before .before .before .wide in
-    let args = c .before .before .before .before .before .args in
+    let c1 = c .before .before .before .before in
+    let wide = c1 .wide in
+    let args = c1 .before .args in
     (rw (wide .ensures .0) (digit-capital (args .c) (omega arith) (omega arith)), omega arith)
 
 returns-5 : tie.Need-returns-5
-returns-5 c = (digit-over (c .before .before .before .before .before .args .c) (omega arith), omega arith)
+returns-5 c =
+    let a = c .before .before .before .before .before .args in
+    (digit-over (a .c) (omega arith), omega arith)
 
 pub digit-spec : {M : Type 1} → statement M
 digit-spec =

@@ -23,8 +23,10 @@ shared-slice-read-if1 c = omega arith
 
 returns : tie.Need-returns Inv-loop μ-loop
 returns c =
-    let loop = c .before .before .before .loop in
-    let args = c .before .before .before .before .args in (
+    let c1 = c .before .before .before in
+    let loop = c1 .loop in
+    let a = c1 .before .args in
+    let args = a in (
       sym (loop .inv .1 ∙ before-stop (args .b) (now (args .s)) (loop .i) (omega arith) (c .if1 .taken)),
       loop .inv .0,
     )
@@ -37,8 +39,9 @@ loop-less c = omega arith
 
 loop-again : tie.Need-loop-again Inv-loop μ-loop
 loop-again c =
-    let loop = c .before .before .before .loop in
-    let args = c .before .before .before .before .args in
+    let c1 = c .before .before .before in
+    let loop = c1 .loop in
+    let args = c1 .before .args in
     (omega arith, loop .inv .1 ∙ before-step (args .b) (now (args .s)) (loop .i) (omega arith) (c .if1 .left))
 
 returns-2 : tie.Need-returns-2 Inv-loop μ-loop

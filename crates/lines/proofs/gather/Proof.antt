@@ -32,10 +32,13 @@ same-length c = search needs
 
 returns : tie.Need-returns
 returns c =
-    let args = c .before .before .before .before .before .before .before .before .args in
-    let least = c .before .before .before .before .least in
-    let copy = c .before .before .copy in
-    let find = c .before .before .before .before .before .find in (
+    let c1 = c .before .before in
+    let copy = c1 .copy in
+    let c2 = c1 .before .before in
+    let least = c2 .least in
+    let c3 = c2 .before in
+    let args = c3 .before .before .before .args in
+    let find = c3 .find in (
       ap (take (args .held + least .result)) (copy .ensures) ∙ gathered (now (args .line)) (drop (args .from) (now
           (args .chunk))) (args .held) (least .result) (omega arith) (omega arith) (omega arith),
       (

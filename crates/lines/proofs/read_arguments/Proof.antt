@@ -15,8 +15,9 @@ find-requires c κs = search needs
 
 slice-aggregate-read-two : tie.Need-slice-aggregate-read-two
 slice-aggregate-read-two c =
-    let find = c .before .before .find in
-    let args = c .before .before .before .before .before .args in
+    let c1 = c .before .before in
+    let find = c1 .find in
+    let args = c1 .before .before .before .args in
     sym (length-take-le (find .result) (now (args .rest)) (find .ensures .1))
 
 add-read-two : tie.Need-add-read-two
@@ -39,10 +40,13 @@ same-length c = search needs
 
 returns : tie.Need-returns
 returns c =
-    let read-two = c .before .before .read-two in
-    let args = c .before .before .before .before .before .before .before .before .before .before .args in
-    let find = c .before .before .before .before .before .before .before .find in
-    let if1 = c .before .before .before .before .before .before .if1 in (
+    let c1 = c .before .before in
+    let read-two = c1 .read-two in
+    let c2 = c1 .before .before .before .before in
+    let c3 = c2 .before in
+    let find = c3 .find in
+    let args = c3 .before .before .before .args in
+    let if1 = c2 .if1 in (
       read-two .ensures .0 ∙ two-parts (args .letter) (find .result) (now (args .rest)) (find .ensures .0) (if1 .taken),
       read-two .ensures .1,
     )
@@ -55,9 +59,11 @@ same-length-2 c = search needs
 
 returns-2 : tie.Need-returns-2
 returns-2 c =
-    let args = c .before .before .before .before .before .before .before .before .before .args in
-    let decode = c .before .before .before .decode in (
-      sym (one-argument (args .letter) (now (args .rest)) (omega arith) ∙ rw (found-none (decode .result) 0 (decode .last .1 .0) (decode .ensures .0) (c .if2 .taken))),
+    let c1 = c .before .before .before in
+    let args = c1 .before .before .before .before .before .before .args in
+    let decode = c1 .decode in (
+      sym (one-argument (args .letter) (now (args .rest)) (omega arith) ∙ rw
+          (found-none (decode .result) 0 (decode .last .1 .0) (decode .ensures .0) (c .if2 .taken))),
       (omega arith, omega arith),
     )
 
@@ -69,10 +75,12 @@ same-length-3 c = search needs
 
 returns-3 : tie.Need-returns-3
 returns-3 c =
-    let decode = c .before .before .before .before .decode in
-    let args = c .before .before .before .before .before .before .before .before .before .before .args in
+    let c1 = c .before .before .before .before in
+    let decode = c1 .decode in
+    let args = c1 .before .before .before .before .before .before .args in
     let if2 = c .before .if2 in (
-      c .with-one .ensures .0 (decode .last .1 .0) ∙ sym (one-argument (args .letter) (now (args .rest)) (omega arith) ∙ rw (found-some (decode .result) 0 (decode .last .1 .0) (decode .ensures .0) (if2 .left))),
+      c .with-one .ensures .0 (decode .last .1 .0) ∙ sym (one-argument (args .letter) (now (args .rest)) (omega arith) ∙ rw
+          (found-some (decode .result) 0 (decode .last .1 .0) (decode .ensures .0) (if2 .left))),
       (
         omega arith,
         omega arith,

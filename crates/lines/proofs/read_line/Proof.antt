@@ -10,16 +10,22 @@ use Rattle.lines.proofs.read_line.Statement.{statement}
 use Rattle.lines.proofs.read_line.Tie as tie
 
 returns : tie.Need-returns
-returns c = (line-long (now (c .before .before .before .args .line)) (omega arith), (omega arith, omega arith))
+returns c =
+    let a = c .before .before .before .args in
+    (line-long (now (a .line)) (omega arith), (omega arith, omega arith))
 
 find-requires : tie.Need-find-requires
 find-requires c κs = search needs
 
 returns-2 : tie.Need-returns-2
-returns-2 c = (line-unspaced (now (c .before .before .before .before .before .args .line)) (λ e. c .if2 .taken (omega arith)), (omega arith, omega arith))
+returns-2 c =
+    let a = c .before .before .before .before .before .args in
+    (line-unspaced (now (a .line)) (λ e. c .if2 .taken (omega arith)), (omega arith, omega arith))
 
 returns-3 : tie.Need-returns-3
-returns-3 c = (line-alone (now (c .before .before .before .before .before .before .args .line)) (omega arith) (c .if3 .taken), (omega arith, omega arith))
+returns-3 c =
+    let a = c .before .before .before .before .before .before .args in
+    (line-alone (now (a .line)) (omega arith) (c .if3 .taken), (omega arith, omega arith))
 
 shared-slice-read-read-arguments : tie.Need-shared-slice-read-read-arguments
 shared-slice-read-read-arguments c = search needs
@@ -41,8 +47,10 @@ same-length c = search needs
 
 returns-4 : tie.Need-returns-4
 returns-4 c =
-    let read-arguments = c .before .before .read-arguments in
-    let args = c .before .before .before .before .before .before .before .before .before .before .before .before .args in (
+    let c1 = c .before .before in
+    let read-arguments = c1 .read-arguments in
+    let a = c1 .before .before .before .before .before .before .before .before .before .before .args in
+    let args = a in (
       read-arguments .ensures .0 ∙ line-rest (now (args .line)) (omega arith) (omega arith) (omega arith),
       read-arguments .ensures .1,
     )

@@ -9,7 +9,8 @@ use Rattle.lines.proofs.read_two.Tie as tie
 
 returns : tie.Need-returns
 returns c =
-    let args = c .before .before .before .before .args in (
+    let a = c .before .before .before .before .args in
+    let args = a in (
       not-load (args .letter) (argument (now (args .first))) (argument (now (args .second))) (c .if1 .taken),
       (
         omega arith,
@@ -25,9 +26,11 @@ same-length c = search needs
 
 returns-2 : tie.Need-returns-2
 returns-2 c =
-    let args = c .before .before .before .before .before .before .before .before .before .args in
-    let decode = c .before .before .before .decode in (
-      no-first (args .letter) (argument (now (args .first))) (argument (now (args .second))) (found-none (decode .result) 0 (decode .last .1 .0) (decode .ensures .0) (c .if2 .taken)),
+    let c1 = c .before .before .before in
+    let args = c1 .before .before .before .before .before .before .args in
+    let decode = c1 .decode in (
+      no-first (args .letter) (argument (now (args .first))) (argument (now (args .second)))
+          (found-none (decode .result) 0 (decode .last .1 .0) (decode .ensures .0) (c .if2 .taken)),
       (omega arith, omega arith),
     )
 
@@ -39,10 +42,13 @@ same-length-2 c = search needs
 
 returns-3 : tie.Need-returns-3
 returns-3 c =
-    let args = c .before .before .before .before .before .before .before .before .before .before .before .before .before .before .args in
-    let decode2 = c .before .before .before .decode2 in
-    let decode = c .before .before .before .before .before .before .before .before .decode in (
-      no-second (args .letter) (argument (now (args .first))) (argument (now (args .second))) (found-none (decode2 .result) (decode .result) (decode2 .last .1 .0) (decode2 .ensures .0) (c .if3 .taken)),
+    let c1 = c .before .before .before in
+    let decode2 = c1 .decode2 in
+    let c2 = c1 .before .before .before .before .before in
+    let args = c2 .before .before .before .before .before .before .args in
+    let decode = c2 .decode in (
+      no-second (args .letter) (argument (now (args .first))) (argument (now (args .second)))
+          (found-none (decode2 .result) (decode .result) (decode2 .last .1 .0) (decode2 .ensures .0) (c .if3 .taken)),
       (
         omega arith,
         omega arith,
@@ -57,14 +63,19 @@ same-length-3 c = search needs
 
 returns-4 : tie.Need-returns-4
 returns-4 c =
-    let args = c .before .before .before .before .before .before .before .before .before .before .before .before .before .before .args in
-    let decode = c .before .before .before .before .before .before .before .before .decode in
-    let decode2 = c .before .before .before .decode2 in
-    let if1 = c .before .before .before .before .before .before .before .before .before .before .if1 in
-    let if2 = c .before .before .before .before .before .if2 in (
+    let c1 = c .before .before .before in
+    let decode2 = c1 .decode2 in
+    let c2 = c1 .before .before in
+    let c3 = c2 .before .before .before in
+    let decode = c3 .decode in
+    let c4 = c3 .before .before in
+    let if1 = c4 .if1 in
+    let args = c4 .before .before .before .before .args in
+    let if2 = c2 .if2 in (
       load-said (args .letter) (decode .result) (decode2 .result) (decode .last .1 .0) (decode2 .last .1 .0)
           (argument (now (args .first))) (argument (now (args .second))) (if1 .left) (found-some (decode .result) 0
-          (decode .last .1 .0) (decode .ensures .0) (if2 .left)) (found-some (decode2 .result) (decode .result) (decode2 .last .1 .0) (decode2 .ensures .0) (c .if3 .left)) (decode2 .ensures .1 .0),
+          (decode .last .1 .0) (decode .ensures .0) (if2 .left)) (found-some (decode2 .result) (decode .result) (decode2 .last .1 .0)
+          (decode2 .ensures .0) (c .if3 .left)) (decode2 .ensures .1 .0),
       (omega arith, omega arith),
     )
 

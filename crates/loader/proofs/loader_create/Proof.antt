@@ -19,9 +19,11 @@ enum-known-used c = search needs
 
 create-on-requires : tie.Need-create-on-requires
 create-on-requires c κs =
-    let start = c .before .before .before .before .before .before .before .before in
-    let opened = c .before .before .before .before .open-store in
-    let known = c .before .before .used in
+    let c1 = c .before .before in
+    let known = c1 .used in
+    let c2 = c1 .before .before in
+    let opened = c2 .open-store in
+    let start = c2 .before .before .before .before in
     subst (OpenedSays (now (start .args .store))) (known .given .1) (opened .ensures)
 
 same-length : tie.Need-same-length
@@ -29,10 +31,12 @@ same-length c = search needs
 
 returns : tie.Need-returns
 returns c =
-    let start = c .before .before .before .before .before .before .before in
-    let opened = c .before .before .before .open-store in
+    let c1 = c .before .before .before in
+    let opened = c1 .open-store in
+    let start = c1 .before .before .before .before in
     let known = c .before .n in
-    numbers.refused-number (now (start .args .store)) (create (now (start .args .domain))) (opened .result) (known .given .0 .0) (known .given .1) (opened .ensures)
+    numbers.refused-number (now (start .args .store)) (create (now (start .args .domain))) (opened .result) (known .given .0 .0) (known .given .1)
+    (opened .ensures)
 
 same-length-2 : tie.Need-same-length-2
 same-length-2 c = search needs

@@ -21,8 +21,9 @@ returns c =
 
 write-fresh-requires : tie.Need-write-fresh-requires
 write-fresh-requires c κs =
-    let start = c .before .before .before .before .before in
-    let size = c .before .before .size-ok in
+    let c1 = c .before .before in
+    let size = c1 .size-ok in
+    let start = c1 .before .before .before in
     additions.fresh-room (now (start .args .store)) (sym (size .ensures) ∙ not-false (size .result) (c .before .if1 .left))
 
 same-length-2 : tie.Need-same-length-2
@@ -30,10 +31,13 @@ same-length-2 c = search needs
 
 returns-2 : tie.Need-returns-2
 returns-2 c =
-    let start = c .before .before .before .before .before .before .before .before in
-    let size = c .before .before .before .before .before .size-ok in
-    let test = c .before .before .before .before .if1 in
-    let written = c .before .before .write-fresh in
+    let c1 = c .before .before in
+    let written = c1 .write-fresh in
+    let c2 = c1 .before .before in
+    let test = c2 .if1 in
+    let c3 = c2 .before in
+    let size = c3 .size-ok in
+    let start = c3 .before .before .before in
     additions.fresh-done (now (start .args .store)) _ (sym (size .ensures) ∙ not-false (size .result) (test .left)) (written .ensures)
 
 pub loader-fresh-spec : {M : Type 1} → statement M

@@ -1,8 +1,8 @@
+-- `loader::loader_load` meets its contract. Assumes nothing.
 use Rattle.loader.proofs.Additions as additions
 use Rattle.sound.specs.Says.{LoadingSays}
 use mathlib.Core.Path.{subst}
 use denote.Ref.{now}
--- `loader::loader_load` meets its contract. Assumes nothing.
 use borrow.Author.Needs.{needs}
 use Rattle.loader.proofs.loader_load.Statement.{statement}
 use Rattle.loader.proofs.loader_load.Tie as tie
@@ -22,17 +22,20 @@ enum-known-used c = search needs
 
 load-on-requires : tie.Need-load-on-requires
 load-on-requires c κs =
-    let a = c .before .before .before .before .before .before .before .before .before .args in
-    subst (LoadingSays (now (a .store)) (now (a .domain)) (now (a .file))) (c .before .before .used .given .1) (c .before .before .before .before .judge-load .ensures)
+    let c1 = c .before .before in
+    let c2 = c1 .before .before in
+    let a = c2 .before .before .before .before .before .args in
+    subst (LoadingSays (now (a .store)) (now (a .domain)) (now (a .file))) (c1 .used .given .1) (c2 .judge-load .ensures)
 
 same-length : tie.Need-same-length
 same-length c = search needs
 
 returns : tie.Need-returns
 returns c =
-    let a = c .before .before .before .before .before .before .before .before .args in
+    let c1 = c .before .before .before in
+    let a = c1 .before .before .before .before .before .args in
     additions.load-refused (now (a .store)) (now (a .domain)) (now (a .file)) (c .before .n .given .0 .0)
-    (subst (LoadingSays (now (a .store)) (now (a .domain)) (now (a .file))) (c .before .n .given .1) (c .before .before .before .judge-load .ensures))
+    (subst (LoadingSays (now (a .store)) (now (a .domain)) (now (a .file))) (c .before .n .given .1) (c1 .judge-load .ensures))
 
 same-length-2 : tie.Need-same-length-2
 same-length-2 c = search needs

@@ -23,23 +23,28 @@ wide-requires c κs = search needs
 
 query-on-requires : tie.Need-query-on-requires
 query-on-requires c κs =
-    let start = c .before .before .before .before .before .before .before .before in
-    let opened = c .before .before .before .before .open-store in
-    let known = c .before .before .used in
+    let c1 = c .before .before in
+    let known = c1 .used in
+    let c2 = c1 .before .before in
+    let opened = c2 .open-store in
+    let start = c2 .before .before .before .before in
     subst (OpenedSays (now (start .args .store))) (known .given .1) (opened .ensures)
 
 returns : tie.Need-returns
 returns c =
-    let start = c .before .before .before .before .before .before .before in
-    let opened = c .before .before .before .open-store in
+    let c1 = c .before .before .before in
+    let opened = c1 .open-store in
+    let start = c1 .before .before .before .before in
     let known = c .before .n in
-    numbers.refused-query (now (start .args .store)) (now (start .args .domain)) (now (start .args .«package»)) (start .args .class) (start .args .name) (opened .result) (known .given .0 .0) (known .given .1) (opened .ensures)
+    numbers.refused-query (now (start .args .store)) (now (start .args .domain)) (now (start .args .«package»)) (start .args .class) (start .args .name)
+    (opened .result) (known .given .0 .0) (known .given .1) (opened .ensures)
 
 returns-2 : tie.Need-returns-2
 returns-2 c =
     let start = c .before .before .before .before .before .before .before .before .before in
     let queried = c .query-on in
-    subst (λ (k : ℕ). QueryPromise (now (start .args .store)) (now (start .args .domain)) (now (start .args .«package»)) k (start .args .name) (queried .result)) (c .before .wide .ensures .0) (queried .ensures)
+    subst (λ (k : ℕ). QueryPromise (now (start .args .store)) (now (start .args .domain)) (now (start .args .«package»)) k (start .args .name)
+    (queried .result)) (c .before .wide .ensures .0) (queried .ensures)
 
 pub loader-query-spec : {M : Type 1} → statement M
 loader-query-spec =

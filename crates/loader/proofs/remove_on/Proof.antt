@@ -20,34 +20,44 @@ enum-known-at c = search needs
 
 cut-entry-requires : tie.Need-cut-entry-requires
 cut-entry-requires c κs =
-    let start = c .before .before .before .before .before .before .before .before in
+    let c1 = c .before .before in
+    let known = c1 .at in
+    let c2 = c1 .before .before in
+    let answer = c2 .remove-answer in
+    let start = c2 .before .before .before .before in
     let aid = now (start .args .«package») in
-    let answer = c .before .before .before .before .remove-answer in
-    let known = c .before .before .at in
-    cuts.cut-at (now (start .args .store)) (start .args .used) (start .pre) (remove aid) (isPackage (storeLimits (now (start .args .store))) aid) (answer .result) (answer .ensures) (known .given .0 .0) (known .given .0 .1 .0) (known .given .1)
+    cuts.cut-at (now (start .args .store)) (start .args .used) (start .pre) (remove aid) (isPackage (storeLimits (now (start .args .store))) aid)
+    (answer .result) (answer .ensures) (known .given .0 .0) (known .given .0 .1 .0) (known .given .1)
 
 same-length : tie.Need-same-length
 same-length c = search needs
 
 returns : tie.Need-returns
 returns c =
-    let start = c .before .before .before .before .before .before .before in
+    let c1 = c .before .before .before in
+    let answer = c1 .remove-answer in
+    let start = c1 .before .before .before .before in
     let aid = now (start .args .«package») in
-    let answer = c .before .before .before .remove-answer in
     let known = c .before .n in
-    cuts.cut-refused (now (start .args .store)) (start .args .used) (start .pre) (remove aid) (isPackage (storeLimits (now (start .args .store))) aid) (answer .result) (answer .ensures) (known .given .0 .0) (known .given .1)
+    cuts.cut-refused (now (start .args .store)) (start .args .used) (start .pre) (remove aid) (isPackage (storeLimits (now (start .args .store))) aid)
+    (answer .result) (answer .ensures) (known .given .0 .0) (known .given .1)
 
 same-length-2 : tie.Need-same-length-2
 same-length-2 c = search needs
 
 returns-2 : tie.Need-returns-2
 returns-2 c =
-    let start = c .before .before .before .before .before .before .before .before .before .before .before in
+    let c1 = c .before .before in
+    let cut = c1 .cut-entry in
+    let c2 = c1 .before .before .before in
+    let known = c2 .at in
+    let c3 = c2 .before .before in
+    let answer = c3 .remove-answer in
+    let start = c3 .before .before .before .before in
     let aid = now (start .args .«package») in
-    let answer = c .before .before .before .before .before .before .before .remove-answer in
-    let known = c .before .before .before .before .before .at in
-    let cut = c .before .before .cut-entry in
-    cuts.cut-done (now (start .args .store)) (start .args .used) (start .pre) (remove aid) (isPackage (storeLimits (now (start .args .store))) aid) (answer .result) (answer .ensures) (known .given .0 .0) (known .given .0 .1 .0) _ (known .given .1) (λ es. ap (λ (l : Limits). without (isPackage l aid) es) (sym (store-limits (now (start .args .store))))) (cut .ensures)
+    cuts.cut-done (now (start .args .store)) (start .args .used) (start .pre) (remove aid) (isPackage (storeLimits (now (start .args .store))) aid)
+    (answer .result) (answer .ensures) (known .given .0 .0) (known .given .0 .1 .0) _ (known .given .1)
+    (λ es. ap (λ (l : Limits). without (isPackage l aid) es) (sym (store-limits (now (start .args .store))))) (cut .ensures)
 
 pub remove-on-spec : {M : Type 1} → statement M
 remove-on-spec =

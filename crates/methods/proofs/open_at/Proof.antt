@@ -37,7 +37,12 @@ loop-less : tie.Need-loop-less Inv-loop μ-loop
 loop-less c = search needs
 
 loop-again : tie.Need-loop-again Inv-loop μ-loop
-loop-again c = entering.moved-step (now (c .before .before .before .args .places)) (c .before .before .before .args .e) (c .before .before .before .args .r) (c .before .before .before .pre .1) (c .before .before .loop .places) (c .before .before .loop .k) (c .before .before .loop .inv) (c .before .loop-test .taken)
+loop-again c =
+    let c1 = c .before .before in
+    let loop = c1 .loop in
+    let start = c1 .before in
+    let a = start .args in
+    entering.moved-step (now (a .places)) (a .e) (a .r) (start .pre .1) (loop .places) (loop .k) (loop .inv) (c .before .loop-test .taken)
 
 cast-places : tie.Need-cast-places Inv-loop μ-loop
 cast-places c = search needs
@@ -52,7 +57,8 @@ same-length : tie.Need-same-length Inv-loop μ-loop
 same-length c = search needs
 
 returns : tie.Need-returns Inv-loop μ-loop
-returns c = entering.moved-end (now (c .before .before .args .places)) (c .before .before .args .e) (c .before .before .args .r) (c .before .before .pre .1) (c .before .loop .places) (c .before .loop .k) (c .before .loop .inv) (c .before .before .args .p) (c .loop-test .left)
+returns c = entering.moved-end (now (c .before .before .args .places)) (c .before .before .args .e) (c .before .before .args .r)
+    (c .before .before .pre .1) (c .before .loop .places) (c .before .loop .k) (c .before .loop .inv) (c .before .before .args .p) (c .loop-test .left)
 
 pub open-at-spec : {M : Type 1} → statement M
 open-at-spec =

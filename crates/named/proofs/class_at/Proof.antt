@@ -12,7 +12,11 @@ same-length : tie.Need-same-length
 same-length c = search needs
 
 returns : tie.Need-returns
-returns c = (rows.stands-placed (now (c .before .before .before .before .before .before .args .g)) (c .before .before .before .before .before .before .args .c) (c .before .before .stands-at .result) (c .before .before .stands-at .ensures .0), c .before .before .stands-at .ensures .1)
+returns c =
+    let c1 = c .before .before in
+    let stands-at = c1 .stands-at in
+    let a = c1 .before .before .before .before .args in
+    (rows.stands-placed (now (a .g)) (a .c) (stands-at .result) (stands-at .ensures .0), stands-at .ensures .1)
 
 pub class-at-spec : {M : Type 1} → statement M
 class-at-spec = tie.close (tie.spec stands-at-requires same-length returns)

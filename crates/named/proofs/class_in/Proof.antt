@@ -11,22 +11,62 @@ use Rattle.named.proofs.class_in.Statement.{statement}
 use Rattle.named.proofs.class_in.Tie as tie
 
 home-at-requires : tie.Need-home-at-requires
-home-at-requires c κs = ((c .before .before .before .pre .0 .1) .size, (numbers.number-few (now (c .before .before .before .args .f)) (now (c .before .before .before .args .s)) (c .before .before .before .args .end) (c .before .before .before .args .p) (c .before .before .before .pre .0 .0) (c .before .before .before .pre .1 .0)))
+home-at-requires c κs =
+    let start = c .before .before .before in
+    let a = start .args in
+    let pre = start .pre in
+    ((pre .0 .1) .size, (numbers.number-few (now (a .f)) (now (a .s)) (a .end) (a .p) (pre .0 .0) (pre .1 .0)))
 
 file-of-requires : tie.Need-file-of-requires
-file-of-requires c κs = there-bounds (now (c .before .before .before .before .args .f)) (now (c .before .before .before .before .args .s)) (c .home-at .result) (numbers.number-at (now (c .before .before .before .before .args .f)) (now (c .before .before .before .before .args .s)) (c .before .before .before .before .args .end) (now (c .before .before .before .before .args .homes)) (c .before .before .before .before .pre .0 .1) (c .before .before .before .before .args .p) (c .home-at .result) (c .home-at .ensures) (c .before .before .before .before .pre .1 .0) (c .before .before .before .before .pre .0 .0))
+file-of-requires c κs =
+    let start = c .before .before .before .before in
+    let a = start .args in
+    let pre = start .pre in
+    there-bounds (now (a .f)) (now (a .s)) (c .home-at .result) (numbers.number-at (now (a .f)) (now (a .s)) (a .end) (now (a .homes)) (pre .0 .1) (a .p)
+    (c .home-at .result) (c .home-at .ensures) (pre .1 .0) (pre .0 .0))
 
 mul-class-at : tie.Need-mul-class-at
-mul-class-at c = omega (arith, (numbers.number-few (now (c .before .before .before .before .before .before .args .f)) (now (c .before .before .before .before .before .before .args .s)) (c .before .before .before .before .before .before .args .end) (c .before .before .before .before .before .before .args .p) (c .before .before .before .before .before .before .pre .0 .0) (c .before .before .before .before .before .before .pre .1 .0)))
+mul-class-at c =
+    let start = c .before .before .before .before .before .before in
+    let a = start .args in
+    let pre = start .pre in
+    omega (arith, (numbers.number-few (now (a .f)) (now (a .s)) (a .end) (a .p) (pre .0 .0) (pre .1 .0)))
 
 class-at-requires : tie.Need-class-at-requires
-class-at-requires c κs = (there-reads (now (c .before .before .before .before .before .before .args .f)) (now (c .before .before .before .before .before .before .args .s)) (c .before .before .home-at .result) (now (c .before .file-of .result)) (c .before .file-of .ensures) (numbers.number-at (now (c .before .before .before .before .before .before .args .f)) (now (c .before .before .before .before .before .before .args .s)) (c .before .before .before .before .before .before .args .end) (now (c .before .before .before .before .before .before .args .homes)) (c .before .before .before .before .before .before .pre .0 .1) (c .before .before .before .before .before .before .args .p) (c .before .before .home-at .result) (c .before .before .home-at .ensures) (c .before .before .before .before .before .before .pre .1 .0) (c .before .before .before .before .before .before .pre .0 .0)), numbers.row-of (now (c .before .before .before .before .before .before .args .f)) (now (c .before .before .before .before .before .before .args .s)) (c .before .before .before .before .before .before .args .end) (now (c .before .before .before .before .before .before .args .homes)) (now (c .before .before .before .before .before .before .args .rows)) (c .before .before .before .before .before .before .args .p) (c .before .before .home-at .result) (now (c .before .file-of .result)) (c .before .before .home-at .ensures) (c .before .file-of .ensures) (numbers.number-few (now (c .before .before .before .before .before .before .args .f)) (now (c .before .before .before .before .before .before .args .s)) (c .before .before .before .before .before .before .args .end) (c .before .before .before .before .before .before .args .p) (c .before .before .before .before .before .before .pre .0 .0) (c .before .before .before .before .before .before .pre .1 .0)) (c .before .before .before .before .before .before .pre .1 .1))
+class-at-requires c κs =
+    let c1 = c .before .before in
+    let home-at = c1 .home-at in
+    let start = c1 .before .before .before .before in
+    let a = start .args in
+    let pre = start .pre in (
+      there-reads (now (a .f)) (now (a .s)) (home-at .result) (now (c .before .file-of .result)) (c .before .file-of .ensures)
+          (numbers.number-at (now (a .f)) (now (a .s)) (a .end) (now (a .homes)) (pre .0 .1) (a .p) (home-at .result) (home-at .ensures) (pre .1 .0)
+          (pre .0 .0)),
+      numbers.row-of (now (a .f)) (now (a .s)) (a .end) (now (a .homes)) (now (a .rows)) (a .p) (home-at .result)
+          (now (c .before .file-of .result)) (home-at .ensures) (c .before .file-of .ensures)
+          (numbers.number-few (now (a .f)) (now (a .s)) (a .end) (a .p) (pre .0 .0) (pre .1 .0)) (pre .1 .1),
+    )
 
 same-length : tie.Need-same-length
 same-length c = search needs
 
 returns : tie.Need-returns
-returns c = (subst (λ (h : Home). ClassPlaced (now (c .before .before .before .before .before .before .before .before .before .args .f)) (now (c .before .before .before .before .before .before .before .before .before .args .s)) h (c .before .before .before .before .before .before .before .before .before .args .c) (c .before .before .class-at .result)) (c .before .before .before .before .before .home-at .ensures) (class-placed (now (c .before .before .before .before .before .before .before .before .before .args .f)) (now (c .before .before .before .before .before .before .before .before .before .args .s)) (c .before .before .before .before .before .home-at .result) (now (c .before .before .before .before .file-of .result)) (c .before .before .before .before .file-of .ensures) (c .before .before .before .before .before .before .before .before .before .args .c) (c .before .before .class-at .result) (c .before .before .class-at .ensures .0)), numbers.rows-written (now (c .before .before .before .before .before .before .before .before .before .args .f)) (now (c .before .before .before .before .before .before .before .before .before .args .s)) (c .before .before .before .before .before .before .before .before .before .args .end) (now (c .before .before .before .before .before .before .before .before .before .args .homes)) (now (c .before .before .before .before .before .before .before .before .before .args .rows)) (c .before .before .class-at .last .1 .0) (c .before .before .before .before .before .before .before .before .before .args .p) (c .before .before .class-at .kept .1 .0) (c .before .before .before .before .before .before .before .before .before .pre .1 .1) (numbers.row-back (now (c .before .before .before .before .before .before .before .before .before .args .f)) (now (c .before .before .before .before .before .before .before .before .before .args .s)) (c .before .before .before .before .before .before .before .before .before .args .end) (now (c .before .before .before .before .before .before .before .before .before .args .homes)) (c .before .before .class-at .last .1 .0) (c .before .before .before .before .before .before .before .before .before .args .p) (c .before .before .before .before .before .home-at .result) (now (c .before .before .before .before .file-of .result)) (c .before .before .before .before .before .home-at .ensures) (c .before .before .before .before .file-of .ensures) (c .before .before .class-at .ensures .1 .0)) (c .before .before .class-at .ensures .1 .1))
+returns c =
+    let c1 = c .before .before in
+    let class-at = c1 .class-at in
+    let c2 = c1 .before .before in
+    let file-of = c2 .file-of in
+    let c3 = c2 .before in
+    let home-at = c3 .home-at in
+    let start = c3 .before .before .before .before in
+    let a = start .args in (
+      subst (λ (h : Home). ClassPlaced (now (a .f)) (now (a .s)) h (a .c) (class-at .result)) (home-at .ensures)
+          (class-placed (now (a .f)) (now (a .s)) (home-at .result) (now (file-of .result)) (file-of .ensures) (a .c) (class-at .result)
+          (class-at .ensures .0)),
+      numbers.rows-written (now (a .f)) (now (a .s)) (a .end) (now (a .homes)) (now (a .rows)) (class-at .last .1 .0) (a .p)
+          (class-at .kept .1 .0) (start .pre .1 .1) (numbers.row-back (now (a .f)) (now (a .s)) (a .end) (now (a .homes)) (class-at .last .1 .0) (a .p)
+          (home-at .result) (now (file-of .result)) (home-at .ensures) (file-of .ensures) (class-at .ensures .1 .0)) (class-at .ensures .1 .1),
+    )
 
 pub class-in-spec : {M : Type 1} → statement M
 class-in-spec =

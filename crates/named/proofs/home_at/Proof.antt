@@ -39,7 +39,10 @@ element-copy-out-t19 : tie.Need-element-copy-out-t19
 element-copy-out-t19 c = search needs
 
 returns-2 : tie.Need-returns-2
-returns-2 c = numbers.home-import (c .before .before .before .before .args .end) (now (c .before .before .before .before .args .homes)) (c .before .before .before .before .args .p) (c .before .before .before .if1 .left)
+returns-2 c =
+    let c1 = c .before .before .before in
+    let a = c1 .before .args in
+    numbers.home-import (a .end) (now (a .homes)) (a .p) (c1 .if1 .left)
 
 pub home-at-spec : {M : Type 1} → statement M
 home-at-spec =

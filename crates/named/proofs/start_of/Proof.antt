@@ -14,10 +14,14 @@ classes-at-requires : tie.Need-classes-at-requires
 classes-at-requires c κs = search needs
 
 add-result : tie.Need-add-result
-add-result c = omega (arith, rows.classes-inside (now (c .before .before .before .args .g)) (c .classes-at .result) (c .before .before .before .pre) (c .classes-at .ensures))
+add-result c =
+    let start = c .before .before .before in
+    omega (arith, rows.classes-inside (now (start .args .g)) (c .classes-at .result) (start .pre) (c .classes-at .ensures))
 
 returns-2 : tie.Need-returns-2
-returns-2 c = (λ e. rows.from-start (now (c .before .before .before .args .g)) (c .classes-at .result) (c .classes-at .ensures), λ h. absurd (omega arith))
+returns-2 c =
+    let a = c .before .before .before .args in
+    (λ e. rows.from-start (now (a .g)) (c .classes-at .result) (c .classes-at .ensures), λ h. absurd (omega arith))
 
 pub start-of-spec : {M : Type 1} → statement M
 start-of-spec = tie.close (tie.spec returns classes-at-requires add-result returns-2)

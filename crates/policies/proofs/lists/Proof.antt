@@ -38,7 +38,13 @@ wide-requires-2 : tie.Need-wide-requires-2 Inv-loop μ-loop
 wide-requires-2 c κs = search needs
 
 returns : tie.Need-returns Inv-loop μ-loop
-returns c = sym (c .before .before .before .before .loop .inv .1 ∙ indexes.byte-hit (now (c .before .before .before .before .before .before .before .before .args .s)) (eqb (c .before .before .before .before .before .before .before .before .args .k)) (c .before .before .before .before .loop .left) (c .before .before .before .before .loop .c) (c .before .before .before .loop-test .taken) (omega arith) (eq-eqb _ _ (sym (sym (c .before .wide2 .ensures .0) ∙ c .if1 .taken))))
+returns c =
+    let c1 = c .before .before .before in
+    let c2 = c1 .before in
+    let o = c2 .loop in
+    let a = c2 .before .before .before .before .args in
+    let e = eq-eqb _ _ (sym (sym (c .before .wide2 .ensures .0) ∙ c .if1 .taken)) in
+    sym (o .inv .1 ∙ indexes.byte-hit (now (a .s)) (eqb (a .k)) (o .left) (o .c) (c1 .loop-test .taken) (omega arith) e)
 
 add-c-2 : tie.Need-add-c-2 Inv-loop μ-loop
 add-c-2 c = omega arith
@@ -50,10 +56,20 @@ loop-less : tie.Need-loop-less Inv-loop μ-loop
 loop-less c = omega arith
 
 loop-again : tie.Need-loop-again Inv-loop μ-loop
-loop-again c = (omega arith, c .before .before .before .before .loop .inv .1 ∙ indexes.byte-miss (now (c .before .before .before .before .before .before .before .before .args .s)) (eqb (c .before .before .before .before .before .before .before .before .args .k)) (c .before .before .before .before .loop .left) (c .before .before .before .before .loop .c) (c .before .before .before .loop-test .taken) (omega arith) (ne-eqb _ _ (λ e. c .if1 .left (c .before .wide2 .ensures .0 ∙ sym e))))
+loop-again c =
+    let c1 = c .before .before .before in
+    let c2 = c1 .before in
+    let a = c2 .before .before .before .before .args in
+    let o = c2 .loop in (
+      omega arith,
+      o .inv .1 ∙ indexes.byte-miss (now (a .s)) (eqb (a .k)) (o .left) (o .c) (c1 .loop-test .taken) (omega arith)
+          (ne-eqb _ _ (λ e. c .if1 .left (c .before .wide2 .ensures .0 ∙ sym e))),
+    )
 
 returns-2 : tie.Need-returns-2 Inv-loop μ-loop
-returns-2 c = sym (c .before .loop .inv .1 ∙ indexes.byte-none (now (c .before .before .before .before .before .args .s)) (eqb (c .before .before .before .before .before .args .k)) (c .before .loop .left) (c .before .loop .c) (c .loop-test .left))
+returns-2 c =
+    let a = c .before .before .before .before .before .args in
+    sym (c .before .loop .inv .1 ∙ indexes.byte-none (now (a .s)) (eqb (a .k)) (c .before .loop .left) (c .before .loop .c) (c .loop-test .left))
 
 pub lists-spec : {M : Type 1} → statement M
 lists-spec =

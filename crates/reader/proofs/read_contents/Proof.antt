@@ -19,8 +19,9 @@ enum-told c = c .match .keys2
 
 returns : tie.Need-returns
 returns c =
-    let start = c .before .before .before .before in
-    let at-aid = c .before .before .aid in
+    let c1 = c .before .before in
+    let at-aid = c1 .aid in
+    let start = c1 .before .before in
     let at-enum-told = c .enum-told in
     contents-bad (named-none (limitsOf (start .args .limits)) (aid-bad (at-enum-told .given .1) (at-aid .ensures)))
 
@@ -35,10 +36,13 @@ enum-told-2 c = c .match2 .keys2
 
 returns-2 : tie.Need-returns-2
 returns-2 c =
-    let start = c .before .before .before .before .before .before .before .before in
-    let at-aid = c .before .before .before .before .before .before .aid in
-    let at-domains = c .before .before .before .before .domains in
-    let at-aids = c .before .before .aids in
+    let c1 = c .before .before in
+    let at-aids = c1 .aids in
+    let c2 = c1 .before .before in
+    let at-domains = c2 .domains in
+    let c3 = c2 .before .before in
+    let at-aid = c3 .aid in
+    let start = c3 .before .before in
     let at-enum-told2 = c .enum-told2 in
     let named = aid-is (at-domains .given .1) (at-aid .ensures) in
     contents-bad (domains-none (limitsOf (start .args .limits)) named (field-bad (at-enum-told2 .given .1) (at-aids .ensures)))
@@ -54,12 +58,17 @@ enum-told-3 c = c .match3 .keys2
 
 returns-3 : tie.Need-returns-3
 returns-3 c =
-    let start = c .before .before .before .before .before .before .before .before .before .before .before .before in
-    let at-aid = c .before .before .before .before .before .before .before .before .before .before .aid in
-    let at-domains = c .before .before .before .before .before .before .before .before .domains in
-    let at-aids = c .before .before .before .before .before .before .aids in
-    let at-count = c .before .before .before .before .count in
-    let at-aids2 = c .before .before .aids2 in
+    let c1 = c .before .before in
+    let at-aids2 = c1 .aids2 in
+    let c2 = c1 .before .before in
+    let at-count = c2 .count in
+    let c3 = c2 .before .before in
+    let at-aids = c3 .aids in
+    let c4 = c3 .before .before in
+    let at-domains = c4 .domains in
+    let c5 = c4 .before .before in
+    let at-aid = c5 .aid in
+    let start = c5 .before .before in
     let at-enum-told3 = c .enum-told3 in
     let named = aid-is (at-domains .given .1) (at-aid .ensures) in
     let domains = field-is (at-count .given .1) (at-aids .ensures) in
@@ -76,14 +85,21 @@ enum-told-4 c = c .match4 .keys2
 
 returns-4 : tie.Need-returns-4
 returns-4 c =
-    let start = c .before .before .before .before .before .before .before .before .before .before .before .before .before .before .before .before in
-    let at-aid = c .before .before .before .before .before .before .before .before .before .before .before .before .before .before .aid in
-    let at-domains = c .before .before .before .before .before .before .before .before .before .before .before .before .domains in
-    let at-aids = c .before .before .before .before .before .before .before .before .before .before .aids in
-    let at-count = c .before .before .before .before .before .before .before .before .count in
-    let at-aids2 = c .before .before .before .before .before .before .aids2 in
-    let at-references = c .before .before .before .before .references in
-    let at-skip-references = c .before .before .skip-references in
+    let c1 = c .before .before in
+    let at-skip-references = c1 .skip-references in
+    let c2 = c1 .before .before in
+    let at-references = c2 .references in
+    let c3 = c2 .before .before in
+    let at-aids2 = c3 .aids2 in
+    let c4 = c3 .before .before in
+    let at-count = c4 .count in
+    let c5 = c4 .before .before in
+    let at-aids = c5 .aids in
+    let c6 = c5 .before .before in
+    let at-domains = c6 .domains in
+    let c7 = c6 .before .before in
+    let at-aid = c7 .aid in
+    let start = c7 .before .before in
     let at-enum-told4 = c .enum-told4 in
     let named = aid-is (at-domains .given .1) (at-aid .ensures) in
     let domains = field-is (at-count .given .1) (at-aids .ensures) in
@@ -101,41 +117,61 @@ enum-told-5 c = c .match5 .keys2
 
 returns-5 : tie.Need-returns-5
 returns-5 c =
-    let start = c .before .before .before .before .before .before .before .before .before .before .before .before .before .before .before .before .before .before .before .before in
-    let at-aid = c .before .before .before .before .before .before .before .before .before .before .before .before .before .before .before .before .before .before .aid in
-    let at-domains = c .before .before .before .before .before .before .before .before .before .before .before .before .before .before .before .before .domains in
-    let at-aids = c .before .before .before .before .before .before .before .before .before .before .before .before .before .before .aids in
-    let at-count = c .before .before .before .before .before .before .before .before .before .before .before .before .count in
-    let at-aids2 = c .before .before .before .before .before .before .before .before .before .before .aids2 in
-    let at-references = c .before .before .before .before .before .before .before .before .references in
-    let at-skip-references = c .before .before .before .before .before .before .skip-references in
-    let at-classes = c .before .before .before .before .classes in
-    let at-skip-classes = c .before .before .skip-classes in
+    let c1 = c .before .before in
+    let at-skip-classes = c1 .skip-classes in
+    let c2 = c1 .before .before in
+    let at-classes = c2 .classes in
+    let c3 = c2 .before .before in
+    let at-skip-references = c3 .skip-references in
+    let c4 = c3 .before .before in
+    let at-references = c4 .references in
+    let c5 = c4 .before .before in
+    let at-aids2 = c5 .aids2 in
+    let c6 = c5 .before .before in
+    let at-count = c6 .count in
+    let c7 = c6 .before .before in
+    let at-aids = c7 .aids in
+    let c8 = c7 .before .before in
+    let at-domains = c8 .domains in
+    let c9 = c8 .before .before in
+    let at-aid = c9 .aid in
+    let start = c9 .before .before in
     let at-enum-told5 = c .enum-told5 in
     let named = aid-is (at-domains .given .1) (at-aid .ensures) in
     let domains = field-is (at-count .given .1) (at-aids .ensures) in
     let imports = field-is (at-references .given .1) (at-aids2 .ensures) in
     let references = skip-is (at-classes .given .1) (at-skip-references .ensures) in
-    contents-bad (contents-stop (limitsOf (start .args .limits)) named domains imports references none (λ ds e. skip-bad (at-enum-told5 .given .1) (at-skip-classes .ensures ds e)))
+    contents-bad (contents-stop (limitsOf (start .args .limits)) named domains imports references none
+    (λ ds e. skip-bad (at-enum-told5 .given .1) (at-skip-classes .ensures ds e)))
 
 returns-6 : tie.Need-returns-6
 returns-6 c =
-    let start = c .before .before .before .before .before .before .before .before .before .before .before .before .before .before .before .before .before .before .before .before .before in
-    let at-aid = c .before .before .before .before .before .before .before .before .before .before .before .before .before .before .before .before .before .before .before .aid in
-    let at-domains = c .before .before .before .before .before .before .before .before .before .before .before .before .before .before .before .before .before .domains in
-    let at-aids = c .before .before .before .before .before .before .before .before .before .before .before .before .before .before .before .aids in
-    let at-count = c .before .before .before .before .before .before .before .before .before .before .before .before .before .count in
-    let at-aids2 = c .before .before .before .before .before .before .before .before .before .before .before .aids2 in
-    let at-references = c .before .before .before .before .before .before .before .before .before .references in
-    let at-skip-references = c .before .before .before .before .before .before .before .skip-references in
-    let at-classes = c .before .before .before .before .before .classes in
-    let at-skip-classes = c .before .before .before .skip-classes in
+    let c1 = c .before .before .before in
+    let at-skip-classes = c1 .skip-classes in
+    let c2 = c1 .before .before in
+    let at-classes = c2 .classes in
+    let c3 = c2 .before .before in
+    let at-skip-references = c3 .skip-references in
+    let c4 = c3 .before .before in
+    let at-references = c4 .references in
+    let c5 = c4 .before .before in
+    let at-aids2 = c5 .aids2 in
+    let c6 = c5 .before .before in
+    let at-count = c6 .count in
+    let c7 = c6 .before .before in
+    let at-aids = c7 .aids in
+    let c8 = c7 .before .before in
+    let at-domains = c8 .domains in
+    let c9 = c8 .before .before in
+    let at-aid = c9 .aid in
+    let start = c9 .before .before in
     let at-end = c .before .end in
     let named = aid-is (at-domains .given .1) (at-aid .ensures) in
     let domains = field-is (at-count .given .1) (at-aids .ensures) in
     let imports = field-is (at-references .given .1) (at-aids2 .ensures) in
     let references = skip-is (at-classes .given .1) (at-skip-references .ensures) in
-    contents-are _ _ (contents-stop (limitsOf (start .args .limits)) named domains imports references _ (λ ds e. skip-is (at-end .given .1) (at-skip-classes .ensures ds e)))
+    contents-are _ _ (contents-stop (limitsOf (start .args .limits)) named domains imports references _
+    (λ ds e. skip-is (at-end .given .1) (at-skip-classes .ensures ds e)))
     (record { named = stop-of named; domains = stop-of domains; imports = stop-of imports; references = references })
 
 pub read-contents-spec : {M : Type 1} → statement M

@@ -19,16 +19,19 @@ enum-told c = c .match .keys2
 
 returns : tie.Need-returns
 returns c =
-    let start = c .before .before .before .before in
-    let at-u1 = c .before .before .u1 in
+    let c1 = c .before .before in
+    let at-u1 = c1 .u1 in
+    let start = c1 .before .before in
     let at-enum-told = c .enum-told in
     λ ds e. class-none (limitsOf (start .args .limits)) ds (field-bad (at-enum-told .given .1) (at-u1 .ensures))
 
 returns-2 : tie.Need-returns-2
 returns-2 c =
-    let start = c .before .before .before .before .before .before in
-    let at-u1 = c .before .before .before .before .u1 in
-    let at-kind = c .before .before .kind in
+    let c1 = c .before .before in
+    let at-kind = c1 .kind in
+    let c2 = c1 .before .before in
+    let at-u1 = c2 .u1 in
+    let start = c2 .before .before in
     let kind = field-is (at-kind .given .1) (at-u1 .ensures) in
     λ ds e. class-kind (limitsOf (start .args .limits)) ds kind (omega arith)
 
@@ -43,10 +46,13 @@ enum-told-2 c = c .match2 .keys2
 
 returns-3 : tie.Need-returns-3
 returns-3 c =
-    let start = c .before .before .before .before .before .before .before .before .before in
-    let at-u1 = c .before .before .before .before .before .before .before .u1 in
-    let at-kind = c .before .before .before .before .before .kind in
-    let at-skip-parents = c .before .before .skip-parents in
+    let c1 = c .before .before in
+    let at-skip-parents = c1 .skip-parents in
+    let c2 = c1 .before .before .before in
+    let at-kind = c2 .kind in
+    let c3 = c2 .before .before in
+    let at-u1 = c3 .u1 in
+    let start = c3 .before .before in
     let at-enum-told2 = c .enum-told2 in
     let kind = field-is (at-kind .given .1) (at-u1 .ensures) in
     λ ds e. class-parents-none (limitsOf (start .args .limits)) ds kind (omega arith) (skip-bad (at-enum-told2 .given .1) (at-skip-parents .ensures))
@@ -56,14 +62,19 @@ skip-methods-requires c κs = search needs
 
 returns-4 : tie.Need-returns-4
 returns-4 c =
-    let start = c .before .before .before .before .before .before .before .before .before .before .before in
-    let at-u1 = c .before .before .before .before .before .before .before .before .before .u1 in
-    let at-kind = c .before .before .before .before .before .before .before .kind in
-    let at-skip-parents = c .before .before .before .before .skip-parents in
-    let at-methods = c .before .before .methods in
+    let c1 = c .before .before in
+    let at-methods = c1 .methods in
+    let c2 = c1 .before .before in
+    let at-skip-parents = c2 .skip-parents in
+    let c3 = c2 .before .before .before in
+    let at-kind = c3 .kind in
+    let c4 = c3 .before .before in
+    let at-u1 = c4 .u1 in
+    let start = c4 .before .before in
     let at-skip-methods = c .skip-methods in
     let kind = field-is (at-kind .given .1) (at-u1 .ensures) in
-    λ ds e. class-leads (limitsOf (start .args .limits)) ds kind (omega arith) (skip-is (at-methods .given .1) (at-skip-parents .ensures)) _ (at-skip-methods .ensures ds e)
+    λ ds e. class-leads (limitsOf (start .args .limits)) ds kind (omega arith) (skip-is (at-methods .given .1) (at-skip-parents .ensures)) _
+    (at-skip-methods .ensures ds e)
 
 pub skip-class-spec : {M : Type 1} → statement M
 skip-class-spec =

@@ -16,7 +16,8 @@ use Rattle.reader.proofs.skip_classes.Statement.{statement}
 use Rattle.reader.proofs.skip_classes.Tie as tie
 
 abbrev Inv-loop : tie.InvT-loop
-Inv-loop f domains limits count c₀ left₀ c left = (c .at .0 ≤ length f) × ((ds : List Aid) → length ds ≡ domains → Leads (many count (class (limitsOf limits) ds)) (many left (class (limitsOf limits) ds)) f (c₀ .at .0) (c .at .0))
+Inv-loop f domains limits count c₀ left₀ c left = (c .at .0 ≤ length f) ×
+    ((ds : List Aid) → length ds ≡ domains → Leads (many count (class (limitsOf limits) ds)) (many left (class (limitsOf limits) ds)) f (c₀ .at .0) (c .at .0))
 
 abbrev μ-loop : tie.MeasureT-loop
 μ-loop f domains limits count c₀ left₀ c left = left
@@ -32,23 +33,27 @@ enum-told c = c .match .keys2
 
 returns : tie.Need-returns Inv-loop μ-loop
 returns c =
-    let start = c .before .before .before .before in
-    let at-u1 = c .before .before .u1 in
+    let c1 = c .before .before in
+    let at-u1 = c1 .u1 in
+    let start = c1 .before .before in
     let at-enum-told = c .enum-told in
     λ ds e. count-none mostClasses (class (limitsOf (start .args .limits)) ds) (field-bad (at-enum-told .given .1) (at-u1 .ensures))
 
 returns-2 : tie.Need-returns-2 Inv-loop μ-loop
 returns-2 c =
-    let start = c .before .before .before .before .before .before in
-    let at-u1 = c .before .before .before .before .u1 in
-    let at-count = c .before .before .count in
+    let c1 = c .before .before in
+    let at-count = c1 .count in
+    let c2 = c1 .before .before in
+    let at-u1 = c2 .u1 in
+    let start = c2 .before .before in
     let field = field-is (at-count .given .1) (at-u1 .ensures) in
     λ ds e. count-many mostClasses (class (limitsOf (start .args .limits)) ds) field (omega arith)
 
 loop-holds : tie.Need-loop-holds Inv-loop μ-loop
 loop-holds c =
-    let at-u1 = c .before .before .before .before .u1 in
-    let at-count = c .before .before .count in
+    let c1 = c .before .before in
+    let at-count = c1 .count in
+    let at-u1 = c1 .before .before .u1 in
     let field = field-is (at-count .given .1) (at-u1 .ensures) in
     (said-inside field, λ ds e o p. p)
 
@@ -63,16 +68,21 @@ enum-told-2 c = c .match2 .keys2
 
 returns-3 : tie.Need-returns-3 Inv-loop μ-loop
 returns-3 c =
-    let start = c .before .before .before .before .before .before .before .before .before .before .before in
-    let at-u1 = c .before .before .before .before .before .before .before .before .before .u1 in
-    let at-count = c .before .before .before .before .before .before .before .count in
-    let at-loop = c .before .before .before .before .loop in
-    let at-skip-class = c .before .before .skip-class in
+    let c1 = c .before .before in
+    let at-skip-class = c1 .skip-class in
+    let c2 = c1 .before .before in
+    let at-loop = c2 .loop in
+    let c3 = c2 .before .before .before in
+    let at-count = c3 .count in
+    let c4 = c3 .before .before in
+    let at-u1 = c4 .u1 in
+    let start = c4 .before .before in
     let at-enum-told2 = c .enum-told2 in
     let limits = limitsOf (start .args .limits) in
     let field = field-is (at-count .given .1) (at-u1 .ensures) in
     λ ds e.
-    let bad = loop-none (class limits ds) (at-loop .left) (at-loop .inv .1 ds e) (omega arith) (skip-bad (at-enum-told2 .given .1) (at-skip-class .ensures ds e)) in
+    let bad = loop-none (class limits ds) (at-loop .left) (at-loop .inv .1 ds e) (omega arith)
+    (skip-bad (at-enum-told2 .given .1) (at-skip-class .ensures ds e)) in
     count-leads mostClasses (class limits ds) field (omega arith) none bad
 
 sub-left : tie.Need-sub-left Inv-loop μ-loop
@@ -83,9 +93,11 @@ loop-less c = omega arith
 
 loop-again : tie.Need-loop-again Inv-loop μ-loop
 loop-again c =
-    let start = c .before .before .before .before .before .before .before .before .before .before .before .before in
-    let at-loop = c .before .before .before .before .before .loop in
-    let at-skip-class = c .before .before .before .skip-class in
+    let c1 = c .before .before .before in
+    let at-skip-class = c1 .skip-class in
+    let c2 = c1 .before .before in
+    let at-loop = c2 .loop in
+    let start = c2 .before .before .before .before .before .before .before in
     let at-next = c .before .next in
     let limits = limitsOf (start .args .limits) in (
       inside-any {r = class limits} (start .args .domains) (λ ds e. skip-is (at-next .given .1) (at-skip-class .ensures ds e)),
@@ -94,9 +106,11 @@ loop-again c =
 
 returns-4 : tie.Need-returns-4 Inv-loop μ-loop
 returns-4 c =
-    let start = c .before .before .before .before .before .before .before .before in
-    let at-u1 = c .before .before .before .before .before .before .u1 in
-    let at-count = c .before .before .before .before .count in
+    let c1 = c .before .before .before .before in
+    let at-count = c1 .count in
+    let c2 = c1 .before .before in
+    let at-u1 = c2 .u1 in
+    let start = c2 .before .before in
     let at-loop = c .before .loop in
     let limits = limitsOf (start .args .limits) in
     let field = field-is (at-count .given .1) (at-u1 .ensures) in

@@ -29,46 +29,58 @@ enum-told c = c .match .keys2
 
 returns-2 : tie.Need-returns-2
 returns-2 c =
-    let start = c .before .before .before .before .before in
-    let at-if1 = c .before .before .before .if1 in
-    let at-u2 = c .before .before .u2 in
+    let c1 = c .before .before in
+    let at-u2 = c1 .u2 in
+    let c2 = c1 .before in
+    let at-if1 = c2 .if1 in
+    let start = c2 .before .before in
     let at-enum-told = c .enum-told in
     let implemented : start .args .implemented ≡ true = not-false (start .args .implemented) (at-if1 .left) in
     rw implemented (code-none (limitsOf (start .args .limits)) (field-bad (at-enum-told .given .1) (at-u2 .ensures)))
 
 returns-3 : tie.Need-returns-3
 returns-3 c =
-    let start = c .before .before .before .before .before .before .before in
-    let at-if1 = c .before .before .before .before .before .if1 in
-    let at-u2 = c .before .before .before .before .u2 in
-    let at-size = c .before .before .size in
+    let c1 = c .before .before in
+    let at-size = c1 .size in
+    let c2 = c1 .before .before in
+    let at-u2 = c2 .u2 in
+    let c3 = c2 .before in
+    let at-if1 = c3 .if1 in
+    let start = c3 .before .before in
     let implemented : start .args .implemented ≡ true = not-false (start .args .implemented) (at-if1 .left) in
     let field = field-is (at-size .given .1) (at-u2 .ensures) in
     rw implemented (code-empty (limitsOf (start .args .limits)) field (omega arith))
 
 returns-4 : tie.Need-returns-4
 returns-4 c =
-    let start = c .before .before .before .before .before .before .before .before in
-    let at-if1 = c .before .before .before .before .before .before .if1 in
-    let at-u2 = c .before .before .before .before .before .u2 in
-    let at-size = c .before .before .before .size in
+    let c1 = c .before .before .before in
+    let at-size = c1 .size in
+    let c2 = c1 .before .before in
+    let at-u2 = c2 .u2 in
+    let c3 = c2 .before in
+    let at-if1 = c3 .if1 in
+    let start = c3 .before .before in
     let implemented : start .args .implemented ≡ true = not-false (start .args .implemented) (at-if1 .left) in
     let field = field-is (at-size .given .1) (at-u2 .ensures) in
     rw implemented (code-long (limitsOf (start .args .limits)) field (omega arith) (omega arith))
 
 skip-requires : tie.Need-skip-requires
 skip-requires c κs =
-    let at-u2 = c .before .before .before .before .before .u2 in
-    let at-size = c .before .before .before .size in
+    let c1 = c .before .before .before in
+    let at-size = c1 .size in
+    let at-u2 = c1 .before .before .u2 in
     let field = field-is (at-size .given .1) (at-u2 .ensures) in
     said-inside field
 
 returns-5 : tie.Need-returns-5
 returns-5 c =
-    let start = c .before .before .before .before .before .before .before .before .before in
-    let at-if1 = c .before .before .before .before .before .before .before .if1 in
-    let at-u2 = c .before .before .before .before .before .before .u2 in
-    let at-size = c .before .before .before .before .size in
+    let c1 = c .before .before .before .before in
+    let at-size = c1 .size in
+    let c2 = c1 .before .before in
+    let at-u2 = c2 .u2 in
+    let c3 = c2 .before in
+    let at-if1 = c3 .if1 in
+    let start = c3 .before .before in
     let at-skip = c .skip in
     let implemented : start .args .implemented ≡ true = not-false (start .args .implemented) (at-if1 .left) in
     let field = field-is (at-size .given .1) (at-u2 .ensures) in

@@ -14,7 +14,8 @@ use Rattle.reader.proofs.skip_indexes.Statement.{statement}
 use Rattle.reader.proofs.skip_indexes.Tie as tie
 
 abbrev Inv-loop : tie.InvT-loop
-Inv-loop f count domains c₀ left₀ c left = (c .at .0 ≤ length f) × ((ds : List Aid) → length ds ≡ domains → Leads (many count (domainIndex ds)) (many left (domainIndex ds)) f (c₀ .at .0) (c .at .0))
+Inv-loop f count domains c₀ left₀ c left = (c .at .0 ≤ length f) × ((ds : List Aid) → length ds ≡ domains → Leads (many count (domainIndex ds))
+    (many left (domainIndex ds)) f (c₀ .at .0) (c .at .0))
 
 abbrev μ-loop : tie.MeasureT-loop
 μ-loop f count domains c₀ left₀ c left = left
@@ -35,16 +36,20 @@ enum-told c = c .match .keys2
 
 returns : tie.Need-returns Inv-loop μ-loop
 returns c =
-    let at-loop = c .before .before .before .before .loop in
-    let at-u1 = c .before .before .u1 in
+    let c1 = c .before .before in
+    let at-u1 = c1 .u1 in
+    let at-loop = c1 .before .before .loop in
     let at-enum-told = c .enum-told in
-    λ ds e. loop-none (domainIndex ds) (at-loop .left) (at-loop .inv .1 ds e) (omega arith) (index-none ds (field-bad (at-enum-told .given .1) (at-u1 .ensures)))
+    λ ds e. loop-none (domainIndex ds) (at-loop .left) (at-loop .inv .1 ds e) (omega arith)
+    (index-none ds (field-bad (at-enum-told .given .1) (at-u1 .ensures)))
 
 returns-2 : tie.Need-returns-2 Inv-loop μ-loop
 returns-2 c =
-    let at-loop = c .before .before .before .before .before .before .loop in
-    let at-u1 = c .before .before .before .before .u1 in
-    let at-index = c .before .before .index in
+    let c1 = c .before .before in
+    let at-index = c1 .index in
+    let c2 = c1 .before .before in
+    let at-u1 = c2 .u1 in
+    let at-loop = c2 .before .before .loop in
     let field = field-is (at-index .given .1) (at-u1 .ensures) in
     λ ds e. loop-none (domainIndex ds) (at-loop .left) (at-loop .inv .1 ds e) (omega arith) (index-great ds field (omega arith))
 
@@ -56,9 +61,11 @@ loop-less c = omega arith
 
 loop-again : tie.Need-loop-again Inv-loop μ-loop
 loop-again c =
-    let at-loop = c .before .before .before .before .before .before .loop in
-    let at-u1 = c .before .before .before .before .u1 in
-    let at-index = c .before .before .index in
+    let c1 = c .before .before in
+    let at-index = c1 .index in
+    let c2 = c1 .before .before in
+    let at-u1 = c2 .u1 in
+    let at-loop = c2 .before .before .loop in
     let field = field-is (at-index .given .1) (at-u1 .ensures) in
     (said-inside field, λ ds e. loop-next (domainIndex ds) (at-loop .left) (at-loop .inv .1 ds e) (omega arith) (index-stops ds field (omega arith)))
 

@@ -22,16 +22,19 @@ enum-told c = c .match .keys2
 
 returns : tie.Need-returns
 returns c =
-    let start = c .before .before .before .before in
-    let at-u1 = c .before .before .u1 in
+    let c1 = c .before .before in
+    let at-u1 = c1 .u1 in
+    let start = c1 .before .before in
     let at-enum-told = c .enum-told in
     λ ds e. method-none (limitsOf (start .args .limits)) ds (field-bad (at-enum-told .given .1) (at-u1 .ensures))
 
 returns-2 : tie.Need-returns-2
 returns-2 c =
-    let start = c .before .before .before .before .before .before in
-    let at-u1 = c .before .before .before .before .u1 in
-    let at-bits = c .before .before .bits in
+    let c1 = c .before .before in
+    let at-bits = c1 .bits in
+    let c2 = c1 .before .before in
+    let at-u1 = c2 .u1 in
+    let start = c2 .before .before in
     let bits = field-is (at-bits .given .1) (at-u1 .ensures) in
     λ ds e. method-spare (limitsOf (start .args .limits)) ds bits (ne-eqb (at-bits .given .0 .0 % 32) 0 (λ z. omega arith))
 
@@ -46,11 +49,15 @@ enum-told-2 c = c .match2 .keys2
 
 returns-3 : tie.Need-returns-3
 returns-3 c =
-    let start = c .before .before .before .before .before .before .before .before .before in
-    let at-u1 = c .before .before .before .before .before .before .before .u1 in
-    let at-bits = c .before .before .before .before .before .bits in
-    let at-if1 = c .before .before .before .if1 in
-    let at-u2 = c .before .before .u2 in
+    let c1 = c .before .before in
+    let at-u2 = c1 .u2 in
+    let c2 = c1 .before in
+    let at-if1 = c2 .if1 in
+    let c3 = c2 .before .before in
+    let at-bits = c3 .bits in
+    let c4 = c3 .before .before in
+    let at-u1 = c4 .u1 in
+    let start = c4 .before .before in
     let at-enum-told2 = c .enum-told2 in
     let bits = field-is (at-bits .given .1) (at-u1 .ensures) in
     let zero-spare = eq-eqb (at-bits .given .0 .0 % 32) 0 (omega (arith, at-if1 .left)) in
@@ -67,13 +74,19 @@ enum-told-3 c = c .match3 .keys2
 
 returns-4 : tie.Need-returns-4
 returns-4 c =
-    let start = c .before .before .before .before .before .before .before .before .before .before .before .before .before in
-    let at-u1 = c .before .before .before .before .before .before .before .before .before .before .before .u1 in
-    let at-bits = c .before .before .before .before .before .before .before .before .before .bits in
-    let at-if1 = c .before .before .before .before .before .before .before .if1 in
-    let at-u2 = c .before .before .before .before .before .before .u2 in
-    let at-allowed = c .before .before .before .before .allowed in
-    let at-skip-policy = c .before .before .skip-policy in
+    let c1 = c .before .before in
+    let at-skip-policy = c1 .skip-policy in
+    let c2 = c1 .before .before in
+    let at-allowed = c2 .allowed in
+    let c3 = c2 .before .before in
+    let at-u2 = c3 .u2 in
+    let c4 = c3 .before in
+    let at-if1 = c4 .if1 in
+    let c5 = c4 .before .before in
+    let at-bits = c5 .bits in
+    let c6 = c5 .before .before in
+    let at-u1 = c6 .u1 in
+    let start = c6 .before .before in
     let at-enum-told3 = c .enum-told3 in
     let bits = field-is (at-bits .given .1) (at-u1 .ensures) in
     let zero-spare = eq-eqb (at-bits .given .0 .0 % 32) 0 (omega (arith, at-if1 .left)) in
@@ -82,26 +95,35 @@ returns-4 c =
 
 skip-code-requires : tie.Need-skip-code-requires
 skip-code-requires c κs =
-    let start = c .before .before .before .before .before .before .before .before .before .before .before .before .before .before in
-    let at-skip-policy = c .before .before .before .skip-policy in
+    let c1 = c .before .before .before in
+    let at-skip-policy = c1 .skip-policy in
+    let start = c1 .before .before .before .before .before .before .before .before .before .before .before in
     let at-code = c .before .code in
     inside-any {r = policy} (start .args .domains) (λ ds e. skip-is (at-code .given .1) (at-skip-policy .ensures ds e))
 
 returns-5 : tie.Need-returns-5
 returns-5 c =
-    let start = c .before .before .before .before .before .before .before .before .before .before .before .before .before .before .before in
-    let at-u1 = c .before .before .before .before .before .before .before .before .before .before .before .before .before .u1 in
-    let at-bits = c .before .before .before .before .before .before .before .before .before .before .before .bits in
-    let at-if1 = c .before .before .before .before .before .before .before .before .before .if1 in
-    let at-u2 = c .before .before .before .before .before .before .before .before .u2 in
-    let at-allowed = c .before .before .before .before .before .before .allowed in
-    let at-skip-policy = c .before .before .before .before .skip-policy in
-    let at-code = c .before .before .code in
+    let c1 = c .before .before in
+    let at-code = c1 .code in
+    let c2 = c1 .before .before in
+    let at-skip-policy = c2 .skip-policy in
+    let c3 = c2 .before .before in
+    let at-allowed = c3 .allowed in
+    let c4 = c3 .before .before in
+    let at-u2 = c4 .u2 in
+    let c5 = c4 .before in
+    let at-if1 = c5 .if1 in
+    let c6 = c5 .before .before in
+    let at-bits = c6 .bits in
+    let c7 = c6 .before .before in
+    let at-u1 = c7 .u1 in
+    let start = c7 .before .before in
     let at-skip-code = c .skip-code in
     let bits = field-is (at-bits .given .1) (at-u1 .ensures) in
     let zero-spare = eq-eqb (at-bits .given .0 .0 % 32) 0 (omega (arith, at-if1 .left)) in
     let name = field-is (at-allowed .given .1) (at-u2 .ensures) in
-    λ ds e. method-leads (limitsOf (start .args .limits)) ds bits zero-spare name (skip-is (at-code .given .1) (at-skip-policy .ensures ds e)) _ (at-skip-code .ensures)
+    λ ds e. method-leads (limitsOf (start .args .limits)) ds bits zero-spare name (skip-is (at-code .given .1) (at-skip-policy .ensures ds e)) _
+    (at-skip-code .ensures)
 
 pub skip-method-spec : {M : Type 1} → statement M
 skip-method-spec =

@@ -23,32 +23,38 @@ enum-told c = c .match .keys2
 
 returns : tie.Need-returns
 returns c =
-    let start = c .before .before .before .before in
-    let at-u1 = c .before .before .u1 in
+    let c1 = c .before .before in
+    let at-u1 = c1 .u1 in
+    let start = c1 .before .before in
     let at-enum-told = c .enum-told in
     count-none (start .args .most) classNumber (field-bad (at-enum-told .given .1) (at-u1 .ensures))
 
 returns-2 : tie.Need-returns-2
 returns-2 c =
-    let start = c .before .before .before .before .before .before in
-    let at-u1 = c .before .before .before .before .u1 in
-    let at-count = c .before .before .count in
+    let c1 = c .before .before in
+    let at-count = c1 .count in
+    let c2 = c1 .before .before in
+    let at-u1 = c2 .u1 in
+    let start = c2 .before .before in
     let field = field-is (at-count .given .1) (at-u1 .ensures) in
     count-many (start .args .most) classNumber field (omega arith)
 
 sub-if2 : tie.Need-sub-if2
 sub-if2 c =
-    let at-u1 = c .before .before .before .before .u1 in
-    let at-count = c .before .before .count in
+    let c1 = c .before .before in
+    let at-count = c1 .count in
+    let at-u1 = c1 .before .before .u1 in
     let field = field-is (at-count .given .1) (at-u1 .ensures) in
     let inside = said-inside field in
     omega arith
 
 returns-3 : tie.Need-returns-3
 returns-3 c =
-    let start = c .before .before .before .before .before .before .before in
-    let at-u1 = c .before .before .before .before .before .u1 in
-    let at-count = c .before .before .before .count in
+    let c1 = c .before .before .before in
+    let at-count = c1 .count in
+    let c2 = c1 .before .before in
+    let at-u1 = c2 .u1 in
+    let start = c2 .before .before in
     let field = field-is (at-count .given .1) (at-u1 .ensures) in
     let inside = said-inside field in
     count-leads (start .args .most) classNumber field (omega arith) none
@@ -62,9 +68,11 @@ add-t10 c = search needs
 
 returns-4 : tie.Need-returns-4
 returns-4 c =
-    let start = c .before .before .before .before .before .before .before in
-    let at-u1 = c .before .before .before .before .before .u1 in
-    let at-count = c .before .before .before .count in
+    let c1 = c .before .before .before in
+    let at-count = c1 .count in
+    let c2 = c1 .before .before in
+    let at-u1 = c2 .u1 in
+    let start = c2 .before .before in
     let field = field-is (at-count .given .1) (at-u1 .ensures) in
     let inside = said-inside field in
     count-leads (start .args .most) classNumber field (omega arith) _

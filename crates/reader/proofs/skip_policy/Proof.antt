@@ -24,31 +24,36 @@ returns c =
 
 returns-2 : tie.Need-returns-2
 returns-2 c =
-    let at-u1 = c .before .before .before .before .u1 in
-    let at-count = c .before .before .count in
+    let c1 = c .before .before in
+    let at-count = c1 .count in
+    let at-u1 = c1 .before .before .u1 in
     let field = field-is (at-count .given .1) (at-u1 .ensures) in
     λ ds e. policy-every ds field (omega arith)
 
 returns-3 : tie.Need-returns-3
 returns-3 c =
-    let at-u1 = c .before .before .before .before .before .u1 in
-    let at-count = c .before .before .before .count in
+    let c1 = c .before .before .before in
+    let at-count = c1 .count in
+    let at-u1 = c1 .before .before .u1 in
     let at-if1 = c .before .if1 in
     let field = field-is (at-count .given .1) (at-u1 .ensures) in
     λ ds e. policy-many ds field (at-if1 .left) (omega arith)
 
 skip-indexes-requires : tie.Need-skip-indexes-requires
 skip-indexes-requires c κs =
-    let at-u1 = c .before .before .before .before .before .u1 in
-    let at-count = c .before .before .before .count in
+    let c1 = c .before .before .before in
+    let at-count = c1 .count in
+    let at-u1 = c1 .before .before .u1 in
     let field = field-is (at-count .given .1) (at-u1 .ensures) in
     said-inside field
 
 returns-4 : tie.Need-returns-4
 returns-4 c =
-    let at-u1 = c .before .before .before .before .before .before .u1 in
-    let at-count = c .before .before .before .before .count in
-    let at-if1 = c .before .before .if1 in
+    let c1 = c .before .before in
+    let at-if1 = c1 .if1 in
+    let c2 = c1 .before .before in
+    let at-count = c2 .count in
+    let at-u1 = c2 .before .before .u1 in
     let at-skip-indexes = c .skip-indexes in
     let field = field-is (at-count .given .1) (at-u1 .ensures) in
     λ ds e. policy-leads ds field (at-if1 .left) (omega arith) _ (at-skip-indexes .ensures ds e)

@@ -29,24 +29,28 @@ returns c =
 
 returns-2 : tie.Need-returns-2
 returns-2 c =
-    let at-u2 = c .before .before .before .before .u2 in
-    let at-count = c .before .before .count in
+    let c1 = c .before .before in
+    let at-count = c1 .count in
+    let at-u2 = c1 .before .before .u2 in
     let field = field-is (at-count .given .1) (at-u2 .ensures) in
     count-many mostReferences reference field (omega arith)
 
 sub-if2 : tie.Need-sub-if2
 sub-if2 c =
-    let at-u2 = c .before .before .before .before .u2 in
-    let at-count = c .before .before .count in
+    let c1 = c .before .before in
+    let at-count = c1 .count in
+    let at-u2 = c1 .before .before .u2 in
     let field = field-is (at-count .given .1) (at-u2 .ensures) in
     let inside = said-inside field in
     omega arith
 
 returns-3 : tie.Need-returns-3
 returns-3 c =
-    let start = c .before .before .before .before .before .before .before in
-    let at-u2 = c .before .before .before .before .before .u2 in
-    let at-count = c .before .before .before .count in
+    let c1 = c .before .before .before in
+    let at-count = c1 .count in
+    let c2 = c1 .before .before in
+    let at-u2 = c2 .u2 in
+    let start = c2 .before .before in
     let field = field-is (at-count .given .1) (at-u2 .ensures) in
     let inside = said-inside field in
     count-leads mostReferences reference field (omega arith) none
@@ -60,9 +64,11 @@ add-t9 c = search needs
 
 returns-4 : tie.Need-returns-4
 returns-4 c =
-    let start = c .before .before .before .before .before .before .before in
-    let at-u2 = c .before .before .before .before .before .u2 in
-    let at-count = c .before .before .before .count in
+    let c1 = c .before .before .before in
+    let at-count = c1 .count in
+    let c2 = c1 .before .before in
+    let at-u2 = c2 .u2 in
+    let start = c2 .before .before in
     let field = field-is (at-count .given .1) (at-u2 .ensures) in
     let inside = said-inside field in
     count-leads mostReferences reference field (omega arith) _

@@ -17,10 +17,14 @@ rank-requires-2 : tie.Need-rank-requires-2
 rank-requires-2 c κs = search needs
 
 returns-2 : tie.Need-returns-2
-returns-2 c = let a = c .before .before .before .before .args in sym (first-right (a .a) (a .b) (omega arith))
+returns-2 c =
+    let a-told = c .before .before .before .before .args in
+    let a = a-told in sym (first-right (a .a) (a .b) (omega arith))
 
 returns-3 : tie.Need-returns-3
-returns-3 c = let a = c .before .before .before .before .args in sym (first-left (a .a) (a .b) (omega arith))
+returns-3 c =
+    let a-told = c .before .before .before .before .args in
+    let a = a-told in sym (first-left (a .a) (a .b) (omega arith))
 
 pub first-no-spec : {M : Type 1} → statement M
 first-no-spec = tie.close (tie.spec returns rank-requires rank-requires-2 returns-2 returns-3)

@@ -11,13 +11,21 @@ returns-2 : tie.Need-returns-2
 returns-2 c = sym (rank-17 (c .before .before .args .n) (c .if2 .taken))
 
 returns-3 : tie.Need-returns-3
-returns-3 c = sym (rank-18 (c .before .before .before .args .n) (c .if3 .taken))
+returns-3 c =
+    let a = c .before .before .before .args in
+    sym (rank-18 (a .n) (c .if3 .taken))
 
 returns-4 : tie.Need-returns-4
-returns-4 c = sym (rank-19 (c .before .before .before .before .args .n) (c .if4 .taken))
+returns-4 c =
+    let a = c .before .before .before .before .args in
+    sym (rank-19 (a .n) (c .if4 .taken))
 
 returns-5 : tie.Need-returns-5
-returns-5 c = sym (rank-else (c .before .before .before .before .args .n) (c .before .before .before .if1 .left) (c .before .before .if2 .left) (c .before .if3 .left) (c .if4 .left))
+returns-5 c =
+    let c1 = c .before .before in
+    let c2 = c1 .before in
+    let a = c2 .before .args in
+    sym (rank-else (a .n) (c2 .if1 .left) (c1 .if2 .left) (c .before .if3 .left) (c .if4 .left))
 
 pub rank-spec : {M : Type 1} → statement M
 rank-spec = tie.close (tie.spec returns returns-2 returns-3 returns-4 returns-5)

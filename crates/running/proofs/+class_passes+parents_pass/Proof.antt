@@ -1,4 +1,5 @@
--- `running::class_passes` and `running::parents_pass` meet their contracts. The measure is twice the rank of the class, and one more for the class itself. What is seen passes. Assumes nothing.
+-- `running::class_passes` and `running::parents_pass` meet their contracts. The measure is twice the rank of the class, and one more for
+-- the class itself; what is seen passes. Assumes nothing.
 use native.Mathlib.Omega.{arith}
 use Prim.Native.Nat.{ℕ, _+_, _-_, _*_, _≤_, _<_}
 use mathlib.Core.Path.{_≡_, refl, subst, sym, _∙_}
@@ -12,15 +13,15 @@ use Rattle.bits.proofs.get.Reads as get-reads
 use Rattle.bits.proofs.set.Reads as set-reads
 use Rattle.slots.specs.Slots.{SlotsTrue}
 use Rattle.running.specs.Say.{MethodsPass, ClassPasses}
-use Rattle.running.specs.Walk.{FirstPass, SeenPass, ParentsPass}
+use Rattle.running.specs.Walk.{visitHome, FirstPass, SeenPass, ParentsPass}
 use Rattle.running.proofs.Visits as visits
 use Rattle.running.proofs.Walk as walk
 use Rattle.running.proofs.Steps as steps
 use Rattle.running.proofs.Steps.{Passing}
-use Rattle.running.proofs.methods_pass.Reads as methods-pass-reads
-use Rattle.running.proofs.parent_visit.Reads as parent-visit-reads
-use Rattle.running.proofs.parents_in.Reads as parents-in-reads
-use Rattle.running.proofs.placed.Reads as placed-reads
+use Rattle.running.proofs.methods_apart.Reads as methods-apart-reads
+use Rattle.running.proofs.visited.parent_apart.Reads as parent-apart-reads
+use Rattle.running.proofs.visited.parents_in.Reads as parents-in-reads
+use Rattle.running.proofs.visited.placed.Reads as placed-reads
 use Rattle.running.proofs.class_passes.Reads as class-passes
 use Rattle.running.proofs.class_passes.Kinds as class-passes-kinds
 use Rattle.running.proofs.+class_passes+parents_pass.Lts-class_passes as class-passes-lts
@@ -31,10 +32,10 @@ use Rattle.running.proofs.+class_passes+parents_pass.{statement}
 use Rattle.running.proofs.+class_passes+parents_pass.Tie.{close}
 
 abbrev μ-class-passes : Measures 5 class-passes-kinds.ps ℕ
-μ-class-passes κs a = 2 * (256 * a .1 .1 .1 .1 .1 .1 .0 .home .before + a .1 .1 .1 .1 .1 .1 .0 .number) + 1
+μ-class-passes κs a = let v = a .1 .1 .1 .1 .1 .1 .0 in 2 * (256 * v .before + v .number) + 1
 
 abbrev μ-parents-pass : Measures 5 parents-pass-kinds.ps ℕ
-μ-parents-pass κs a = 2 * (256 * a .1 .1 .1 .1 .1 .1 .0 .home .before + a .1 .1 .1 .1 .1 .1 .0 .number)
+μ-parents-pass κs a = let v = a .1 .1 .1 .1 .1 .1 .0 in 2 * (256 * v .before + v .number)
 
 abbrev class-passes-at : ℕ → In 5 class-passes-kinds.ps
 class-passes-at t = and 5 class-passes-kinds.ps (is 5 class-passes-kinds.ps μ-class-passes t) class-passes.Pre
@@ -55,8 +56,8 @@ class-passes-claims t = (
   get-reads.Learnt,
   placed-reads.Asked,
   placed-reads.Learnt,
-  methods-pass-reads.Asked,
-  methods-pass-reads.Learnt,
+  methods-apart-reads.Asked,
+  methods-apart-reads.Learnt,
   parents-pass-below t,
   parents-pass.Post,
   set-reads.Asked,
@@ -68,260 +69,334 @@ abbrev parents-pass-claims : ℕ → parents-pass-lts.Claims
 parents-pass-claims t = (
   parents-in-reads.Asked,
   parents-in-reads.Learnt,
-  parent-visit-reads.Asked,
-  parent-visit-reads.Learnt,
+  parent-apart-reads.Asked,
+  parent-apart-reads.Learnt,
   class-passes-below t,
   class-passes.Post,
 )
 
 abbrev parents-pass-Inv-loop : parents-pass-lts.InvT-loop
-parents-pass-Inv-loop f s index names seen₀ slots₀ v count i₀ seen slots i = FirstPass f s (v .names .end) (v .names .own) (v .home) (v .number) i × SeenPass f s (v .names .end) (v .names .own) seen × SlotsTrue f s slots × (length seen ≡ length seen₀) × (length slots ≡ length slots₀)
+parents-pass-Inv-loop f s index names seen₀ slots₀ v count i₀ seen slots i =
+    FirstPass f s (v .end) (v .own) (visitHome v) (v .number) i × SeenPass f s (v .end) (v .own) seen × SlotsTrue f s slots × (length seen ≡ length seen₀)
 
 abbrev parents-pass-μ-loop : parents-pass-lts.MeasureT-loop
 parents-pass-μ-loop f s index names seen₀ slots₀ v count i₀ seen slots i = count - i
 
-class-passes-add-bit : (t : ℕ) → class-passes-lts.Need-add-bit (class-passes-claims t) (class-passes-at t) class-passes.Post
+class-passes-cast-bit : (t : ℕ) →
+    class-passes-lts.Need-cast-bit (class-passes-claims t) (class-passes-at t) class-passes.Post
+class-passes-cast-bit t c = search needs
+
+class-passes-cast-bit-2 : (t : ℕ) →
+    class-passes-lts.Need-cast-bit-2 (class-passes-claims t) (class-passes-at t) class-passes.Post
+class-passes-cast-bit-2 t c = search needs
+
+class-passes-add-bit : (t : ℕ) →
+    class-passes-lts.Need-add-bit (class-passes-claims t) (class-passes-at t) class-passes.Post
 class-passes-add-bit t c =
+    let b = c .before .before .before .before .before .before in
+    let f = now (b .args .f) in
+    let s = now (b .args .s) in
+    let v = b .args .v in
+    omega (arith, walk.key-few f s (v .end) (v .own) (visitHome v) (v .number) (b .pre .1 .0 .there) (b .pre .1 .0 .small))
+
+class-passes-get-requires : (t : ℕ) →
+    class-passes-lts.Need-get-requires (class-passes-claims t) (class-passes-at t) class-passes.Post
+class-passes-get-requires t c κs =
+    let b = c .before .before .before .before .before .before .before in
+    let f = now (b .args .f) in
+    let s = now (b .args .s) in
+    let v = b .args .v in
+    walk.key-inside f s (v .end) (v .own) (visitHome v) (v .number) (b .pre .1 .0 .there) _ (b .pre .1 .1 .0 .room)
+
+class-passes-same-length : (t : ℕ) →
+    class-passes-lts.Need-same-length (class-passes-claims t) (class-passes-at t) class-passes.Post
+class-passes-same-length t c = search needs
+
+class-passes-returns : (t : ℕ) →
+    class-passes-lts.Need-returns (class-passes-claims t) (class-passes-at t) class-passes.Post
+class-passes-returns t c =
     let b = c .before .before .before .before .before .before .before .before .before in
     let f = now (b .args .f) in
     let s = now (b .args .s) in
     let v = b .args .v in
-    omega (arith, walk.key-few f s (v .names .end) (v .names .own) (v .home) (v .number) (b .pre .1 .0 .there) (b .pre .1 .0 .small))
+    let m = b .pre .1 .1 .0 in (
+      walk.class-seen f s (v .end) (v .own) (visitHome v) (v .number) (now (b .args .seen)) m (sym (c .before .get .ensures) ∙ c .if1 .taken),
+      (
+        m,
+        b .pre .1
+            .1 .1,
+      ),
+    )
 
-class-passes-get-requires : (t : ℕ) → class-passes-lts.Need-get-requires (class-passes-claims t) (class-passes-at t) class-passes.Post
-class-passes-get-requires t c κs =
-    let b = c .before .before .before .before .before .before .before .before .before .before in
-    let f = now (b .args .f) in
-    let s = now (b .args .s) in
-    let v = b .args .v in
-    walk.key-inside f s (v .names .end) (v .names .own) (v .home) (v .number) (b .pre .1 .0 .there) _ (b .pre .1 .1 .0 .room)
-
-class-passes-same-length : (t : ℕ) → class-passes-lts.Need-same-length (class-passes-claims t) (class-passes-at t) class-passes.Post
-class-passes-same-length t c = search needs
-
-class-passes-returns : (t : ℕ) → class-passes-lts.Need-returns (class-passes-claims t) (class-passes-at t) class-passes.Post
-class-passes-returns t c =
-    let b = c .before .before .before .before .before .before .before .before .before .before .before .before in
-    let f = now (b .args .f) in
-    let s = now (b .args .s) in
-    let v = b .args .v in
-    let m = b .pre .1 .1 .0 in
-    (walk.class-seen f s (v .names .end) (v .names .own) (v .home) (v .number) (now (b .args .seen)) m (sym (c .before .get .ensures) ∙ c .if1 .taken), (m, b .pre .1 .1 .1))
-
-class-passes-placed-requires : (t : ℕ) → class-passes-lts.Need-placed-requires (class-passes-claims t) (class-passes-at t) class-passes.Post
+class-passes-placed-requires : (t : ℕ) →
+    class-passes-lts.Need-placed-requires (class-passes-claims t) (class-passes-at t) class-passes.Post
 class-passes-placed-requires t c κs =
-    let b = c .before .before .before .before .before .before .before .before .before .before .before .before .before in ((b .pre .1 .0 .there, b .pre .1 .0 .small), b .pre .1 .1 .1)
+    let b = c .before .before .before .before .before .before .before .before .before .before in
+    ((b .pre .1 .0 .there, b .pre .1 .0 .small), b .pre .1 .1 .1)
 
-class-passes-methods-pass-requires : (t : ℕ) → class-passes-lts.Need-methods-pass-requires (class-passes-claims t) (class-passes-at t) class-passes.Post
-class-passes-methods-pass-requires t c κs =
-    let b = c .before .before .before .before .before .before .before .before .before .before .before .before .before .before .before .before in
+class-passes-methods-apart-requires : (t : ℕ) →
+    class-passes-lts.Need-methods-apart-requires (class-passes-claims t) (class-passes-at t) class-passes.Post
+class-passes-methods-apart-requires t c κs =
+    let b = c .before .before .before .before .before .before .before .before .before .before .before in
+    let f = now (b .args .f) in
+    let s = now (b .args .s) in
+    let v = b .args .v in
+    let w = c .placed .result in
+    let p = c .placed .ensures .0 in
+    let from = steps.placed-from f s v w p (now (b .args .index)) (now (b .args .names)) (b .pre .1 .0) in
+    (visits.visit-placed f s v (b .pre .1 .0 .there) w p, (from .chain, from .size))
+
+class-passes-same-length-2 : (t : ℕ) →
+    class-passes-lts.Need-same-length-2 (class-passes-claims t) (class-passes-at t) class-passes.Post
+class-passes-same-length-2 t c = search needs
+
+class-passes-returns-2 : (t : ℕ) →
+    class-passes-lts.Need-returns-2 (class-passes-claims t) (class-passes-at t) class-passes.Post
+class-passes-returns-2 t c =
+    let b = c .before .before .before .before .before .before .before .before .before .before .before .before .before in
     let f = now (b .args .f) in
     let s = now (b .args .s) in
     let v = b .args .v in
     let w = c .before .before .placed .result in
     let p = c .before .before .placed .ensures .0 in
-    (visits.visit-placed f s v (b .pre .1 .0 .there) w p, (steps.placed-from f s v w p (now (b .args .index)) (now (b .args .names)) (b .pre .1 .0)) .chain)
+    let m = c .before .methods-apart in
+    let fails = subst (Passing MethodsPass f s w) (not-true (m .result) (c .if2 .taken)) (m .ensures) in
+    (steps.methods-no f s v w p fails, (b .pre .1 .1 .0, c .before .before .placed .ensures .1))
 
-class-passes-same-length-2 : (t : ℕ) → class-passes-lts.Need-same-length-2 (class-passes-claims t) (class-passes-at t) class-passes.Post
-class-passes-same-length-2 t c = search needs
-
-class-passes-same-length-3 : (t : ℕ) → class-passes-lts.Need-same-length-3 (class-passes-claims t) (class-passes-at t) class-passes.Post
-class-passes-same-length-3 t c = search needs
-
-class-passes-returns-2 : (t : ℕ) → class-passes-lts.Need-returns-2 (class-passes-claims t) (class-passes-at t) class-passes.Post
-class-passes-returns-2 t c =
-    let b = c .before .before .before .before .before .before .before .before .before .before .before .before .before .before .before .before .before .before in
+class-passes-parents-pass-requires : (t : ℕ) →
+    class-passes-lts.Need-parents-pass-requires (class-passes-claims t) (class-passes-at t) class-passes.Post
+class-passes-parents-pass-requires t c κs =
+    let b = c .before .before .before .before .before .before .before .before .before .before .before .before .before .before .before in
     let f = now (b .args .f) in
     let s = now (b .args .s) in
     let v = b .args .v in
     let w = c .before .before .before .before .placed .result in
     let p = c .before .before .before .before .placed .ensures .0 in
-    let m = c .before .methods-pass in
-    (steps.methods-no f s v w p (subst (Passing MethodsPass f s w) (not-true (m .result) (c .if2 .taken)) (m .ensures)), (b .pre .1 .1 .0, c .before .before .before .before .placed .ensures .1))
+    let from = steps.placed-from f s v w p (now (b .args .index)) (now (b .args .names)) (b .pre .1 .0) in
+    let seen = steps.placed-seen f s v w p (now (b .args .seen)) (b .pre .1 .1 .0) in
+    let placed = visits.visit-placed f s v (b .pre .1 .0 .there) w p in
+    (omega (arith, b .pre .0, steps.placed-rank f s v w p), ((from, placed), (seen, c .before .before .before .before .placed .ensures .1)))
 
-class-passes-parents-pass-requires : (t : ℕ) → class-passes-lts.Need-parents-pass-requires (class-passes-claims t) (class-passes-at t) class-passes.Post
-class-passes-parents-pass-requires t c κs =
-    let b = c .before .before .before .before .before .before .before .before .before .before .before .before .before .before .before .before .before .before .before .before in
+class-passes-same-length-3 : (t : ℕ) →
+    class-passes-lts.Need-same-length-3 (class-passes-claims t) (class-passes-at t) class-passes.Post
+class-passes-same-length-3 t c = search needs
+
+class-passes-returns-3 : (t : ℕ) →
+    class-passes-lts.Need-returns-3 (class-passes-claims t) (class-passes-at t) class-passes.Post
+class-passes-returns-3 t c =
+    let b = c .before .before .before .before .before .before .before .before .before .before .before .before .before .before .before .before .before
+    .before .before in
     let f = now (b .args .f) in
     let s = now (b .args .s) in
     let v = b .args .v in
-    let w = c .before .before .before .before .before .before .placed .result in
-    let p = c .before .before .before .before .before .before .placed .ensures .0 in
-    let from = steps.placed-from f s v w p (now (b .args .index)) (now (b .args .names)) (b .pre .1 .0) in (
-      omega (arith, b .pre .0, steps.placed-rank f s v w p),
-      ((from, visits.visit-placed f s v (b .pre .1 .0 .there) w p), (steps.placed-seen f s v w p (now (b .args .seen)) (b .pre .1 .1 .0), c .before .before .before .before .before .before .placed .ensures .1)),
-    )
+    let w = c .before .before .before .before .before .before .before .before .placed .result in
+    let p = c .before .before .before .before .before .before .before .before .placed .ensures .0 in
+    let n = c .before .before .before .parents-pass in
+    let fails = subst (Passing ParentsPass f s w) (not-true (n .result) (c .if3 .taken)) (n .ensures .0) in
+    (steps.parents-no f s v w p fails, (steps.seen-placed f s v w p _ (n .ensures .1 .0), n .ensures .1 .1))
 
-class-passes-same-length-4 : (t : ℕ) → class-passes-lts.Need-same-length-4 (class-passes-claims t) (class-passes-at t) class-passes.Post
+class-passes-set-requires : (t : ℕ) →
+    class-passes-lts.Need-set-requires (class-passes-claims t) (class-passes-at t) class-passes.Post
+class-passes-set-requires t c κs =
+    let b = c .before .before .before .before .before .before .before .before .before .before .before .before .before .before .before .before .before
+    .before .before .before in
+    let f = now (b .args .f) in
+    let s = now (b .args .s) in
+    let v = b .args .v in
+    walk.key-inside f s (v .end) (v .own) (visitHome v) (v .number) (b .pre .1 .0 .there) _ (c .before .before .before .before .parents-pass .ensures .1 .0
+    .room)
+
+class-passes-same-length-4 : (t : ℕ) →
+    class-passes-lts.Need-same-length-4 (class-passes-claims t) (class-passes-at t) class-passes.Post
 class-passes-same-length-4 t c = search needs
 
-class-passes-same-length-5 : (t : ℕ) → class-passes-lts.Need-same-length-5 (class-passes-claims t) (class-passes-at t) class-passes.Post
-class-passes-same-length-5 t c = search needs
-
-class-passes-returns-3 : (t : ℕ) → class-passes-lts.Need-returns-3 (class-passes-claims t) (class-passes-at t) class-passes.Post
-class-passes-returns-3 t c =
-    let b = c .before .before .before .before .before .before .before .before .before .before .before .before .before .before .before .before .before .before .before .before .before .before .before .before .before .before in
+class-passes-returns-4 : (t : ℕ) →
+    class-passes-lts.Need-returns-4 (class-passes-claims t) (class-passes-at t) class-passes.Post
+class-passes-returns-4 t c =
+    let b = c .before .before .before .before .before .before .before .before .before .before .before .before .before .before .before .before .before
+    .before .before .before .before .before .before in
     let f = now (b .args .f) in
     let s = now (b .args .s) in
     let v = b .args .v in
     let w = c .before .before .before .before .before .before .before .before .before .before .before .before .placed .result in
     let p = c .before .before .before .before .before .before .before .before .before .before .before .before .placed .ensures .0 in
-    let n = c .before .before .before .before .before .parents-pass in (
-      steps.parents-no f s v w p (subst (Passing ParentsPass f s w) (not-true (n .result) (c .if3 .taken)) (n .ensures .0)),
-      (steps.seen-placed f s v w p _ (n .ensures .1 .0), n .ensures .1 .1),
+    let m = c .before .before .before .before .before .before .before .before .before .before .before .methods-apart in
+    let n = c .before .before .before .before .before .before .before .parents-pass in
+    let methods = subst (Passing MethodsPass f s w) (not-false (m .result) (c .before .before .before .before .before .before .before .before .before
+    .before .if2 .left)) (m .ensures) in
+    let parents = subst (Passing ParentsPass f s w) (not-false (n .result) (c .before .before .before .before .if3 .left)) (n .ensures .0) in
+    let passes = steps.both-yes f s v w p methods parents in
+    let seen = steps.seen-placed f s v w p _ (n .ensures .1 .0) in (
+      passes,
+      (
+        walk.seen-more f s (v .end) (v .own) (visitHome v) (v .number) _ seen (b .pre .1 .0 .there) passes _ (omega arith) (c .before .before .set
+            .ensures),
+        n .ensures .1 .1,
+      ),
     )
 
-class-passes-set-requires : (t : ℕ) → class-passes-lts.Need-set-requires (class-passes-claims t) (class-passes-at t) class-passes.Post
-class-passes-set-requires t c κs =
-    let b = c .before .before .before .before .before .before .before .before .before .before .before .before .before .before .before .before .before .before .before .before .before .before .before .before .before .before .before in
-    let f = now (b .args .f) in
-    let s = now (b .args .s) in
-    let v = b .args .v in
-    walk.key-inside f s (v .names .end) (v .names .own) (v .home) (v .number) (b .pre .1 .0 .there) _ (c .before .before .before .before .before .before .parents-pass .ensures .1 .0 .room)
+parents-pass-parents-in-requires : (t : ℕ) →
+    parents-pass-lts.Need-parents-in-requires (parents-pass-claims t) (parents-pass-at t) parents-pass.Post parents-pass-Inv-loop parents-pass-μ-loop
+parents-pass-parents-in-requires t c κs = c .before .before .before .before .pre .1 .0 .1
 
-class-passes-same-length-6 : (t : ℕ) → class-passes-lts.Need-same-length-6 (class-passes-claims t) (class-passes-at t) class-passes.Post
-class-passes-same-length-6 t c = search needs
-
-class-passes-same-length-7 : (t : ℕ) → class-passes-lts.Need-same-length-7 (class-passes-claims t) (class-passes-at t) class-passes.Post
-class-passes-same-length-7 t c = search needs
-
-class-passes-returns-4 : (t : ℕ) → class-passes-lts.Need-returns-4 (class-passes-claims t) (class-passes-at t) class-passes.Post
-class-passes-returns-4 t c =
-    let b = c .before .before .before .before .before .before .before .before .before .before .before .before .before .before .before .before .before .before .before .before .before .before .before .before .before .before .before .before .before .before in
-    let f = now (b .args .f) in
-    let s = now (b .args .s) in
-    let v = b .args .v in
-    let w = c .before .before .before .before .before .before .before .before .before .before .before .before .before .before .before .before .placed .result in
-    let p = c .before .before .before .before .before .before .before .before .before .before .before .before .before .before .before .before .placed .ensures .0 in
-    let m = c .before .before .before .before .before .before .before .before .before .before .before .before .before .methods-pass in
-    let n = c .before .before .before .before .before .before .before .before .before .parents-pass in
-    let passes = steps.both-yes f s v w p (subst (Passing MethodsPass f s w) (not-false (m .result) (c .before .before .before .before .before .before .before .before .before .before .before .before .if2 .left)) (m .ensures)) (subst (Passing ParentsPass f s w) (not-false (n .result) (c .before .before .before .before .if3 .left)) (n .ensures .0)) in
-    (passes, (walk.seen-more f s (v .names .end) (v .names .own) (v .home) (v .number) _ (steps.seen-placed f s v w p _ (n .ensures .1 .0)) (b .pre .1 .0 .there) passes _ (omega arith) (c .before .before .set .ensures), n .ensures .1 .1))
-
-parents-pass-parents-in-requires : (t : ℕ) → parents-pass-lts.Need-parents-in-requires (parents-pass-claims t) (parents-pass-at t) parents-pass.Post parents-pass-Inv-loop parents-pass-μ-loop
-parents-pass-parents-in-requires t c κs = c .before .before .before .before .before .before .pre .1 .0 .1
-
-parents-pass-loop-holds : (t : ℕ) → parents-pass-lts.Need-loop-holds (parents-pass-claims t) (parents-pass-at t) parents-pass.Post parents-pass-Inv-loop parents-pass-μ-loop
+parents-pass-loop-holds : (t : ℕ) →
+    parents-pass-lts.Need-loop-holds (parents-pass-claims t) (parents-pass-at t) parents-pass.Post parents-pass-Inv-loop parents-pass-μ-loop
 parents-pass-loop-holds t c =
-    let b = c .before .before .before .before .before .before .before in
+    let b = c .before .before .before .before .before in
     let f = now (b .args .f) in
     let s = now (b .args .s) in
     let v = b .args .v in
-    (walk.first-none f s (v .names .end) (v .names .own) (v .home) (v .number), b .pre .1 .1 .0, b .pre .1 .1 .1, refl, refl)
+    (walk.first-none f s (v .end) (v .own) (visitHome v) (v .number), b .pre .1 .1 .0, b .pre .1 .1 .1, refl)
 
-parents-pass-parent-visit-requires : (t : ℕ) → parents-pass-lts.Need-parent-visit-requires (parents-pass-claims t) (parents-pass-at t) parents-pass.Post parents-pass-Inv-loop parents-pass-μ-loop
-parents-pass-parent-visit-requires t c κs =
-    let b = c .before .before .before .before .before .before .before .before .before .before in
+parents-pass-parent-apart-requires : (t : ℕ) →
+    parents-pass-lts.Need-parent-apart-requires (parents-pass-claims t) (parents-pass-at t) parents-pass.Post parents-pass-Inv-loop parents-pass-μ-loop
+parents-pass-parent-apart-requires t c κs =
+    let b = c .before .before .before .before .before .before .before .before in
     let f = now (b .args .f) in
     let s = now (b .args .s) in
     let v = b .args .v in
     let n = c .before .before .before .parents-in in
-    ((steps.parent-placed f s v (n .result) (c .before .before .loop .i) (n .ensures .0) (c .before .loop-test .taken) (b .pre .1 .0 .1), b .pre .1 .0 .0 .small), (b .pre .1 .0 .0 .indexed, c .before .before .loop .inv .2))
+    let placed = steps.parent-placed f s v (n .result) (c .before .before .loop .i) (n .ensures .0) (c .before .loop-test .taken) (b .pre .1 .0 .1) in
+    ((placed, b .pre .1 .0 .0 .small), (b .pre .1 .0 .0 .indexed, c .before .before .loop .inv .2))
 
-parents-pass-class-passes-requires : (t : ℕ) → parents-pass-lts.Need-class-passes-requires (parents-pass-claims t) (parents-pass-at t) parents-pass.Post parents-pass-Inv-loop parents-pass-μ-loop
+parents-pass-class-passes-requires : (t : ℕ) →
+    parents-pass-lts.Need-class-passes-requires (parents-pass-claims t) (parents-pass-at t) parents-pass.Post parents-pass-Inv-loop parents-pass-μ-loop
 parents-pass-class-passes-requires t c κs =
+    let b = c .before .before .before .before .before .before .before .before .before .before .before in
+    let f = now (b .args .f) in
+    let s = now (b .args .s) in
+    let v = b .args .v in
+    let n = c .before .before .before .before .before .before .parents-in in
+    let i = c .before .before .before .before .before .loop .i in
+    let z = c .before .before .before .before .loop-test .taken in
+    let w = c .before .before .parent-apart .result in
+    let p = c .before .before .parent-apart .ensures .0 in
+    let index = now (b .args .index) in
+    let names = now (b .args .names) in
+    let less = steps.parent-less f s v (n .result) i (n .ensures .0) z w p index names (b .pre .1 .0 .0) in
+    let from = steps.parent-from f s v (n .result) i (n .ensures .0) z w p index names (b .pre .1 .0 .0) in (
+      omega (arith, b .pre .0, less),
+      (
+        from,
+        (
+          steps.parent-seen f s v (n .result) i (n .ensures .0) z w p _ (c .before .before .before .before .before .loop
+              .inv .1),
+          c .before .before .parent-apart .ensures .1,
+        ),
+      ),
+    )
+
+parents-pass-same-length : (t : ℕ) →
+    parents-pass-lts.Need-same-length (parents-pass-claims t) (parents-pass-at t) parents-pass.Post parents-pass-Inv-loop parents-pass-μ-loop
+parents-pass-same-length t c = omega (arith, c .before .before .before .before .before .before .before .before .before .loop .inv .3)
+
+parents-pass-returns : (t : ℕ) →
+    parents-pass-lts.Need-returns (parents-pass-claims t) (parents-pass-at t) parents-pass.Post parents-pass-Inv-loop parents-pass-μ-loop
+parents-pass-returns t c =
     let b = c .before .before .before .before .before .before .before .before .before .before .before .before .before .before .before in
     let f = now (b .args .f) in
     let s = now (b .args .s) in
     let v = b .args .v in
-    let n = c .before .before .before .before .before .before .before .before .parents-in in
-    let w = c .before .before .before .before .parent-visit .result in
-    let p = c .before .before .before .before .parent-visit .ensures .0 in
-    let index = now (b .args .index) in
-    let names = now (b .args .names) in (
-      omega (arith, b .pre .0, steps.parent-less f s v (n .result) (c .before .before .before .before .before .before .before .loop .i) (n .ensures .0) (c .before .before .before .before .before .before .loop-test .taken) w p index names (b .pre .1 .0 .0)),
-      (steps.parent-from f s v (n .result) (c .before .before .before .before .before .before .before .loop .i) (n .ensures .0) (c .before .before .before .before .before .before .loop-test .taken) w p index names (b .pre .1 .0 .0), (steps.parent-seen f s v (n .result) (c .before .before .before .before .before .before .before .loop .i) (n .ensures .0) (c .before .before .before .before .before .before .loop-test .taken) w p _ (c .before .before .before .before .before .before .before .loop .inv .1), c .before .before .before .before .parent-visit .ensures .1)),
+    let n = c .before .before .before .before .before .before .before .before .before .before .parents-in in
+    let i = c .before .before .before .before .before .before .before .before .before .loop .i in
+    let z = c .before .before .before .before .before .before .before .before .loop-test .taken in
+    let w = c .before .before .before .before .before .before .parent-apart .result in
+    let p = c .before .before .before .before .before .before .parent-apart .ensures .0 in
+    let r = c .before .before .before .class-passes in
+    let fails = subst (Passing ClassPasses f s w) (not-true (r .result) (c .if1 .taken)) (r .ensures .0) in (
+      steps.parent-no f s v (n .result) i (n .ensures .0) z w p fails,
+      (
+        steps.seen-parent f s v (n .result) i (n .ensures .0) z w p _ (r .ensures .1 .0),
+        r
+            .ensures .1 .1,
+      ),
     )
 
-parents-pass-same-length : (t : ℕ) → parents-pass-lts.Need-same-length (parents-pass-claims t) (parents-pass-at t) parents-pass.Post parents-pass-Inv-loop parents-pass-μ-loop
-parents-pass-same-length t c = omega (arith, c .before .before .before .before .before .before .before .before .before .before .before .before .before .loop .inv .3)
-
-parents-pass-same-length-2 : (t : ℕ) → parents-pass-lts.Need-same-length-2 (parents-pass-claims t) (parents-pass-at t) parents-pass.Post parents-pass-Inv-loop parents-pass-μ-loop
-parents-pass-same-length-2 t c = omega (arith, c .before .before .before .before .before .before .before .before .before .before .before .before .before .loop .inv .4)
-
-parents-pass-returns : (t : ℕ) → parents-pass-lts.Need-returns (parents-pass-claims t) (parents-pass-at t) parents-pass.Post parents-pass-Inv-loop parents-pass-μ-loop
-parents-pass-returns t c =
-    let b = c .before .before .before .before .before .before .before .before .before .before .before .before .before .before .before .before .before .before .before .before .before in
-    let f = now (b .args .f) in
-    let s = now (b .args .s) in
-    let v = b .args .v in
-    let n = c .before .before .before .before .before .before .before .before .before .before .before .before .before .before .parents-in in
-    let w = c .before .before .before .before .before .before .before .before .before .before .parent-visit .result in
-    let p = c .before .before .before .before .before .before .before .before .before .before .parent-visit .ensures .0 in
-    let r = c .before .before .before .before .before .class-passes in (
-      steps.parent-no f s v (n .result) (c .before .before .before .before .before .before .before .before .before .before .before .before .before .loop .i) (n .ensures .0) (c .before .before .before .before .before .before .before .before .before .before .before .before .loop-test .taken) w p (subst (Passing ClassPasses f s w) (not-true (r .result) (c .if1 .taken)) (r .ensures .0)),
-      (steps.seen-parent f s v (n .result) (c .before .before .before .before .before .before .before .before .before .before .before .before .before .loop .i) (n .ensures .0) (c .before .before .before .before .before .before .before .before .before .before .before .before .loop-test .taken) w p _ (r .ensures .1 .0), r .ensures .1 .1),
+parents-pass-add-i : (t : ℕ) →
+    parents-pass-lts.Need-add-i (parents-pass-claims t) (parents-pass-at t) parents-pass.Post parents-pass-Inv-loop parents-pass-μ-loop
+parents-pass-add-i t c =
+    omega (
+      arith,
+      c .before .before .before .before .before .before .before .before .loop-test .taken,
+      c .before .before .before .before .before .before
+          .before .before .before .before .parents-in .ensures .1,
     )
 
-parents-pass-add-i : (t : ℕ) → parents-pass-lts.Need-add-i (parents-pass-claims t) (parents-pass-at t) parents-pass.Post parents-pass-Inv-loop parents-pass-μ-loop
-parents-pass-add-i t c = omega (arith, c .before .before .before .before .before .before .before .before .before .before .before .before .loop-test .taken, c .before .before .before .before .before .before .before .before .before .before .before .before .before .before .parents-in .ensures .1)
+parents-pass-loop-less : (t : ℕ) →
+    parents-pass-lts.Need-loop-less (parents-pass-claims t) (parents-pass-at t) parents-pass.Post parents-pass-Inv-loop parents-pass-μ-loop
+parents-pass-loop-less t c = omega (arith, c .before .before .before .before .before .before .before .before .loop-test .taken)
 
-parents-pass-loop-less : (t : ℕ) → parents-pass-lts.Need-loop-less (parents-pass-claims t) (parents-pass-at t) parents-pass.Post parents-pass-Inv-loop parents-pass-μ-loop
-parents-pass-loop-less t c = omega (arith, c .before .before .before .before .before .before .before .before .before .before .before .before .loop-test .taken)
-
-parents-pass-loop-again : (t : ℕ) → parents-pass-lts.Need-loop-again (parents-pass-claims t) (parents-pass-at t) parents-pass.Post parents-pass-Inv-loop parents-pass-μ-loop
+parents-pass-loop-again : (t : ℕ) →
+    parents-pass-lts.Need-loop-again (parents-pass-claims t) (parents-pass-at t) parents-pass.Post parents-pass-Inv-loop parents-pass-μ-loop
 parents-pass-loop-again t c =
-    let b = c .before .before .before .before .before .before .before .before .before .before .before .before .before .before .before .before .before .before .before .before .before in
+    let b = c .before .before .before .before .before .before .before .before .before .before .before .before .before .before .before in
     let f = now (b .args .f) in
     let s = now (b .args .s) in
     let v = b .args .v in
-    let n = c .before .before .before .before .before .before .before .before .before .before .before .before .before .before .parents-in in
-    let w = c .before .before .before .before .before .before .before .before .before .before .parent-visit .result in
-    let p = c .before .before .before .before .before .before .before .before .before .before .parent-visit .ensures .0 in
-    let r = c .before .before .before .before .before .class-passes in (
-      steps.parent-yes f s v (n .result) (c .before .before .before .before .before .before .before .before .before .before .before .before .before .loop .i) (n .ensures .0) (c .before .before .before .before .before .before .before .before .before .before .before .before .loop-test .taken) w p (subst (Passing ClassPasses f s w) (not-false (r .result) (c .if1 .left)) (r .ensures .0)) (c .before .before .before .before .before .before .before .before .before .before .before .before .before .loop .inv .0),
-      steps.seen-parent f s v (n .result) (c .before .before .before .before .before .before .before .before .before .before .before .before .before .loop .i) (n .ensures .0) (c .before .before .before .before .before .before .before .before .before .before .before .before .loop-test .taken) w p _ (r .ensures .1 .0),
+    let n = c .before .before .before .before .before .before .before .before .before .before .parents-in in
+    let i = c .before .before .before .before .before .before .before .before .before .loop .i in
+    let z = c .before .before .before .before .before .before .before .before .loop-test .taken in
+    let w = c .before .before .before .before .before .before .parent-apart .result in
+    let p = c .before .before .before .before .before .before .parent-apart .ensures .0 in
+    let r = c .before .before .before .class-passes in
+    let passes = subst (Passing ClassPasses f s w) (not-false (r .result) (c .if1 .left)) (r .ensures .0) in
+    let more = steps.parent-yes f s v (n .result) i (n .ensures .0) z w p passes (c .before .before .before .before .before .before .before .before .before
+    .loop .inv .0) in (
+      more,
+      steps.seen-parent f s v (n .result) i (n .ensures .0) z w p _ (r .ensures .1 .0),
       r .ensures .1 .1,
-      omega (arith, c .before .before .before .before .before .before .before .before .before .before .before .before .before .loop .inv .3),
-      omega (arith, c .before .before .before .before .before .before .before .before .before .before .before .before .before .loop .inv .4),
+      omega (
+        arith,
+        c .before .before .before
+            .before .before .before .before .before .before .loop .inv .3,
+      ),
     )
 
-parents-pass-same-length-3 : (t : ℕ) → parents-pass-lts.Need-same-length-3 (parents-pass-claims t) (parents-pass-at t) parents-pass.Post parents-pass-Inv-loop parents-pass-μ-loop
-parents-pass-same-length-3 t c = c .before .loop .inv .3
+parents-pass-same-length-2 : (t : ℕ) →
+    parents-pass-lts.Need-same-length-2 (parents-pass-claims t) (parents-pass-at t) parents-pass.Post parents-pass-Inv-loop parents-pass-μ-loop
+parents-pass-same-length-2 t c = c .before .loop .inv .3
 
-parents-pass-same-length-4 : (t : ℕ) → parents-pass-lts.Need-same-length-4 (parents-pass-claims t) (parents-pass-at t) parents-pass.Post parents-pass-Inv-loop parents-pass-μ-loop
-parents-pass-same-length-4 t c = c .before .loop .inv .4
-
-parents-pass-returns-2 : (t : ℕ) → parents-pass-lts.Need-returns-2 (parents-pass-claims t) (parents-pass-at t) parents-pass.Post parents-pass-Inv-loop parents-pass-μ-loop
+parents-pass-returns-2 : (t : ℕ) →
+    parents-pass-lts.Need-returns-2 (parents-pass-claims t) (parents-pass-at t) parents-pass.Post parents-pass-Inv-loop parents-pass-μ-loop
 parents-pass-returns-2 t c =
-    let b = c .before .before .before .before .before .before .before .before .before in
+    let b = c .before .before .before .before .before .before .before in
     let f = now (b .args .f) in
     let s = now (b .args .s) in
     let v = b .args .v in
-    let n = c .before .before .parents-in in
-    (walk.first-all f s (v .names .end) (v .names .own) (v .home) (v .number) (n .result) (c .before .loop .i) (n .ensures .0) (c .loop-test .left) (c .before .loop .inv .0), (c .before .loop .inv .1, c .before .loop .inv .2))
+    let n = c .before .before .parents-in in (
+      walk.first-all f s (v .end) (v .own) (visitHome v) (v .number) (n .result) (c .before .loop .i) (n .ensures .0) (c .loop-test .left) (c .before .loop
+          .inv .0),
+      (c .before .loop .inv .1, c .before .loop .inv .2),
+    )
 
 pub +class-passes+parents-pass-spec : {M : Type 1} → statement M
 +class-passes+parents-pass-spec = close μ-class-passes μ-parents-pass
     (λ t. class-passes-lts.spec (class-passes-claims t) (class-passes-at t) class-passes.Post
+    (class-passes-cast-bit t)
+    (class-passes-cast-bit-2 t)
     (class-passes-add-bit t)
     (class-passes-get-requires t)
     (class-passes-same-length t)
     (class-passes-returns t)
     (class-passes-placed-requires t)
-    (class-passes-methods-pass-requires t)
+    (class-passes-methods-apart-requires t)
     (class-passes-same-length-2 t)
-    (class-passes-same-length-3 t)
     (class-passes-returns-2 t)
     (class-passes-parents-pass-requires t)
-    (class-passes-same-length-4 t)
-    (class-passes-same-length-5 t)
+    (class-passes-same-length-3 t)
     (class-passes-returns-3 t)
     (class-passes-set-requires t)
-    (class-passes-same-length-6 t)
-    (class-passes-same-length-7 t)
+    (class-passes-same-length-4 t)
     (class-passes-returns-4 t))
     (λ t. parents-pass-lts.spec (parents-pass-claims t) (parents-pass-at t) parents-pass.Post parents-pass-Inv-loop parents-pass-μ-loop
     (parents-pass-parents-in-requires t)
     (parents-pass-loop-holds t)
-    (parents-pass-parent-visit-requires t)
+    (parents-pass-parent-apart-requires t)
     (parents-pass-class-passes-requires t)
     (parents-pass-same-length t)
-    (parents-pass-same-length-2 t)
     (parents-pass-returns t)
     (parents-pass-add-i t)
     (parents-pass-loop-less t)
     (parents-pass-loop-again t)
-    (parents-pass-same-length-3 t)
-    (parents-pass-same-length-4 t)
+    (parents-pass-same-length-2 t)
     (parents-pass-returns-2 t))

@@ -20,9 +20,19 @@ use Rattle.running.proofs.Whole as whole
 use borrow.Author.Needs.{needs}
 use Rattle.running.proofs.running_ok.Statement.{statement}
 use Rattle.running.proofs.running_ok.Tie as tie
+use Rattle.running.proofs.running_ok.Reads as reads
+use Rattle.running.proofs.running_ok.Lts as lts
+use Rattle.chains.proofs.find_names.Reads as find-names-reads
+use Rattle.chains.proofs.no_names.Reads as no-names-reads
+use Rattle.classes.proofs.is_kind0.Reads as is-kind0-reads
+use Rattle.homes.proofs.own_home.Reads as own-home-reads
+use Rattle.fields.proofs.wide.Reads as wide-reads
+use Rattle.files.proofs.classes_at.Reads as classes-at-reads
+use Rattle.running.proofs.own_class_passes.Reads as own-class-passes-reads
 
 abbrev Inv-loop : tie.InvT-loop
-Inv-loop f s end index seen₀ slots₀ names₀ h kept₀ count b₀ seen slots names kept b = whole.OwnLeft f s end count b × SlotsTrue f s slots × (length seen ≡ length seen₀) × (kept .end ≡ end) × Kept f s names kept × (length names ≡ 640)
+Inv-loop f s end index seen₀ slots₀ names₀ h kept₀ count b₀ seen slots names kept b =
+    whole.OwnLeft f s end count b × SlotsTrue f s slots × (length seen ≡ length seen₀) × (kept .end ≡ end) × Kept f s names kept × (length names ≡ 640)
 
 abbrev μ-loop : tie.MeasureT-loop
 μ-loop f s end index seen₀ slots₀ names₀ h kept₀ count b₀ seen slots names kept b = count - b
@@ -34,14 +44,16 @@ no-names-requires : tie.Need-no-names-requires Inv-loop μ-loop
 no-names-requires c κs = search needs
 
 classes-at-requires : tie.Need-classes-at-requires Inv-loop μ-loop
-classes-at-requires c κs = let b = c .before .before .before .before .before .before in
+classes-at-requires c κs =
+    let b = c .before .before .before .before .before .before in
     let f = now (b .args .f) in
     let s = now (b .args .s) in
     let end = b .args .end in
     whole.judged-reads f s end (b .pre .0)
 
 shared-slice-read-wide : tie.Need-shared-slice-read-wide Inv-loop μ-loop
-shared-slice-read-wide c = let b = c .before .before .before .before .before .before .before .before in
+shared-slice-read-wide c =
+    let b = c .before .before .before .before .before .before .before .before in
     let f = now (b .args .f) in
     let s = now (b .args .s) in
     let end = b .args .end in
@@ -51,102 +63,146 @@ wide-requires : tie.Need-wide-requires Inv-loop μ-loop
 wide-requires c κs = search needs
 
 loop-holds : tie.Need-loop-holds Inv-loop μ-loop
-loop-holds c = let b = c .before .before .before .before .before .before .before .before .before in
+loop-holds c =
+    let b = c .before .before .before .before .before .before .before .before .before in
     let f = now (b .args .f) in
     let s = now (b .args .s) in
     let end = b .args .end in
-    let none = c .before .before .before .no-names .ensures in
-    (whole.own-start f s end (c .before .before .classes-at .result) (c .before .before .classes-at .ensures) (c .wide .result) (c .wide .ensures .0), asked.slots-start f s, refl, none .0, none .1 f s _, length-replicate {A = ℕ} 640 0)
+    let none = c .before .before .before .no-names .ensures in (
+      whole.own-start f s end (c .before .before .classes-at .result) (c .before .before .classes-at .ensures) (c .wide .result) (c .wide .ensures .0),
+      asked.slots-start f s,
+      refl,
+      none .0,
+      none .1 f s _,
+      length-replicate {A = ℕ} 640 0,
+    )
 
 is-kind0-requires : tie.Need-is-kind0-requires Inv-loop μ-loop
-is-kind0-requires c κs = let b = c .before .before .before .before .before .before .before .before .before .before .before in
+is-kind0-requires c κs =
+    let b = c .before .before .before .before .before .before .before .before .before .before .before in
     let f = now (b .args .f) in
     let s = now (b .args .s) in
     let end = b .args .end in
     let i = c .before .loop .b in
     let inv = c .before .loop .inv in
     let own = whole.own-there′ f s end (c .before .before .wide .result) i (inv .0) (c .loop-test .taken) (b .pre .0) in
-    subst (λ (a : Home). ClassThere f s a i) (sym (c .before .before .before .before .before .before .own-home .ensures)) (places.own-class-there f s end i own)
+    subst (λ (a : Home). ClassThere f s a i) (sym (c .before .before .before .before .before .before .own-home .ensures)) (places.own-class-there f s end i
+    own)
 
 slice-aggregate-find-names : tie.Need-slice-aggregate-find-names Inv-loop μ-loop
 slice-aggregate-find-names c = search needs
 
 find-names-requires : tie.Need-find-names-requires Inv-loop μ-loop
-find-names-requires c κs = let b = c .before .before .before .before .before .before .before .before .before .before .before .before .before .before in
+find-names-requires c κs =
+    let b = c .before .before .before .before .before .before .before .before .before .before .before .before .before .before in
     let f = now (b .args .f) in
     let s = now (b .args .s) in
     let end = b .args .end in
     let i = c .before .before .before .before .loop .b in
     let inv = c .before .before .before .before .loop .inv in
-    let own = whole.own-there′ f s end (c .before .before .before .before .before .wide .result) i (inv .0) (c .before .before .before .loop-test .taken) (b .pre .0) in
-    let kind : Kind0Is f s (ownHome end) i true = subst (λ (a : Home). Kind0Is f s a i true) (c .before .before .before .before .before .before .before .before .before .own-home .ensures) (subst (Kind0Is f s (c .before .before .before .before .before .before .before .before .before .own-home .result) i) (c .before .if1 .taken) (c .before .before .is-kind0 .ensures)) in
+    let own = whole.own-there′ f s end (c .before .before .before .before .before .wide .result) i (inv .0) (c .before .before .before .loop-test .taken) (b
+    .pre .0) in
+    let kind : Kind0Is f s (ownHome end) i true = subst (λ (a : Home). Kind0Is f s a i true) (c .before .before .before .before .before .before .before
+    .before .before .own-home .ensures) (subst (Kind0Is f s (c .before .before .before .before .before .before .before .before .before .own-home .result)
+    i) (c .before .if1 .taken) (c .before .before .is-kind0 .ensures)) in
     let byte = c .before .before .before .before .before .before .before .before .before .before .before .before .before .shared-slice-known .given in (
       subst (λ (n : ℕ). RunningThere f s n i) (sym (inv .3)) (whole.own-runs f s end i kind own),
-      ((inv .4, whole.names-room f s _ (whole.judged-reads f s end (b .pre .0)) (omega (arith, byte 5)) (omega (arith, byte 6)) (b .pre .1 .0 .1) (inv .5)), subst (λ (n : ℕ). Indexed s n (now (b .args .index))) (sym (inv .3)) (b .pre .1 .0 .0)),
+      (
+        (inv .4, whole.names-room f s _ (whole.judged-reads f s end (b .pre .0)) (omega (arith, byte 5)) (omega (arith, byte 6)) (b .pre .1 .0 .1) (inv .5)),
+        subst (λ (n : ℕ). Indexed s n (now (b .args .index))) (sym (inv .3)) (b .pre .1 .0 .0),
+      ),
     )
 
-slice-aggregate-own-class-passes : tie.Need-slice-aggregate-own-class-passes Inv-loop μ-loop
-slice-aggregate-own-class-passes c = search needs
-
-slice-aggregate-own-class-passes-2 : tie.Need-slice-aggregate-own-class-passes-2 Inv-loop μ-loop
-slice-aggregate-own-class-passes-2 c = search needs
-
 own-class-passes-requires : tie.Need-own-class-passes-requires Inv-loop μ-loop
-own-class-passes-requires c κs = let b = c .before .before .before .before .before .before .before .before .before .before .before .before .before .before .before .before .before .before .before in
+own-class-passes-requires c κs =
+    let b = c .before .before .before .before .before .before .before .before .before .before .before .before .before .before .before .before .before .before
+    .before in
     let f = now (b .args .f) in
     let s = now (b .args .s) in
     let end = b .args .end in
     let i = c .before .before .before .before .before .before .before .before .before .loop .b in
     let inv = c .before .before .before .before .before .before .before .before .before .loop .inv in
-    let own = whole.own-there′ f s end (c .before .before .before .before .before .before .before .before .before .before .wide .result) i (inv .0) (c .before .before .before .before .before .before .before .before .loop-test .taken) (b .pre .0) in
-    let kind : Kind0Is f s (ownHome end) i true = subst (λ (a : Home). Kind0Is f s a i true) (c .before .before .before .before .before .before .before .before .before .before .before .before .before .before .own-home .ensures) (subst (Kind0Is f s (c .before .before .before .before .before .before .before .before .before .before .before .before .before .before .own-home .result) i) (c .before .before .before .before .before .before .if1 .taken) (c .before .before .before .before .before .before .before .is-kind0 .ensures)) in
+    let own = whole.own-there′ f s end (c .before .before .before .before .before .before .before .before .before .before .wide .result) i (inv .0) (c
+    .before .before .before .before .before .before .before .before .loop-test .taken) (b .pre .0) in
+    let kind : Kind0Is f s (ownHome end) i true = subst (λ (a : Home). Kind0Is f s a i true) (c .before .before .before .before .before .before .before
+    .before .before .before .before .before .before .before .own-home .ensures) (subst (Kind0Is f s (c .before .before .before .before .before .before
+    .before .before .before .before .before .before .before .before .own-home .result) i) (c .before .before .before .before .before .before .if1 .taken)
+    (c .before .before .before .before .before .before .before .is-kind0 .ensures)) in
     let w = c .before .before .before .before .find-names .result in
     let told = c .before .before .before .before .find-names .ensures .0 in
     let at = told .0 ∙ inv .3 in (
       whole.at-own (λ (x y : ℕ). OwnThere f s x y × Kind0Is f s (ownHome x) y true) (w .end) (w .own) end i at (told .1) (own, kind),
-      (told .2, ((subst (λ (n : ℕ). Indexed s n (now (b .args .index))) (sym at) (b .pre .1 .0 .0), b .pre .1 .0 .1), (omega (arith, b .pre .1 .1, inv .2), inv .1))),
+      (
+        (told .2, omega (arith, inv .5)),
+        (
+          (subst (λ (n : ℕ). Indexed s n (now (b .args .index))) (sym at) (b .pre .1 .0 .0), b .pre .1 .0 .1),
+          (
+            omega (
+              arith,
+              b
+                  .pre .1 .1,
+              inv .2,
+            ),
+            inv .1,
+          ),
+        ),
+      ),
     )
 
 same-length : tie.Need-same-length Inv-loop μ-loop
-same-length c = omega (arith, c .before .before .before .before .before .before .before .before .before .before .before .before .before .before .loop .inv .2)
+same-length c = omega (arith, c .before .before .before .before .before .before .before .before .before .before .before .before .before .loop .inv .2)
 
 returns : tie.Need-returns Inv-loop μ-loop
-returns c = let b = c .before .before .before .before .before .before .before .before .before .before .before .before .before .before .before .before .before .before .before .before .before .before .before .before in
+returns c =
+    let b = c .before .before .before .before .before .before .before .before .before .before .before .before .before .before .before .before .before .before
+    .before .before .before .before .before in
     let f = now (b .args .f) in
     let s = now (b .args .s) in
     let end = b .args .end in
-    let i = c .before .before .before .before .before .before .before .before .before .before .before .before .before .before .loop .b in
-    let inv = c .before .before .before .before .before .before .before .before .before .before .before .before .before .before .loop .inv in
-    let w = c .before .before .before .before .before .before .before .before .before .find-names .result in
-    let told = c .before .before .before .before .before .before .before .before .before .find-names .ensures .0 in
+    let i = c .before .before .before .before .before .before .before .before .before .before .before .before .before .loop .b in
+    let inv = c .before .before .before .before .before .before .before .before .before .before .before .before .before .loop .inv in
+    let w = c .before .before .before .before .before .before .before .before .find-names .result in
+    let told = c .before .before .before .before .before .before .before .before .find-names .ensures .0 in
     let at = told .0 ∙ inv .3 in
-    let r = c .before .before .before .before .own-class-passes in
+    let r = c .before .before .before .own-class-passes in
     let passes = whole.own-at (λ (x y : ℕ). OwnPasses f s x y (r .result)) (w .end) (w .own) end i at (told .1) (r .ensures .0) in
-    whole.own-no f s end (c .before .before .before .before .before .before .before .before .before .before .before .before .before .before .before .wide .result) i (inv .0) (c .before .before .before .before .before .before .before .before .before .before .before .before .before .loop-test .taken) (subst (OwnPasses f s end i) (not-true (r .result) (c .if2 .taken)) passes)
+    whole.own-no f s end (c .before .before .before .before .before .before .before .before .before .before .before .before .before .before .wide .result) i
+    (inv .0) (c .before .before .before .before .before .before .before .before .before .before .before .before .loop-test .taken) (subst (OwnPasses f s
+    end i) (not-true (r .result) (c .if2 .taken)) passes)
 
 add-b : tie.Need-add-b Inv-loop μ-loop
-add-b c = omega (arith, c .before .before .before .before .before .before .before .before .before .before .before .before .before .loop-test .taken, c .before .before .before .before .before .before .before .before .before .before .before .before .before .before .before .wide .ensures .1)
+add-b c =
+    omega (
+      arith,
+      c .before .before .before .before .before .before .before .before .before .before .before .before .loop-test .taken,
+      c .before .before
+          .before .before .before .before .before .before .before .before .before .before .before .before .wide .ensures .1,
+    )
 
 loop-less : tie.Need-loop-less Inv-loop μ-loop
-loop-less c = omega (arith, c .before .before .before .before .before .before .before .before .before .before .before .before .before .loop-test .taken)
+loop-less c = omega (arith, c .before .before .before .before .before .before .before .before .before .before .before .before .loop-test .taken)
 
 loop-again : tie.Need-loop-again Inv-loop μ-loop
-loop-again c = let b = c .before .before .before .before .before .before .before .before .before .before .before .before .before .before .before .before .before .before .before .before .before .before .before .before in
+loop-again c =
+    let b = c .before .before .before .before .before .before .before .before .before .before .before .before .before .before .before .before .before .before
+    .before .before .before .before .before in
     let f = now (b .args .f) in
     let s = now (b .args .s) in
     let end = b .args .end in
-    let i = c .before .before .before .before .before .before .before .before .before .before .before .before .before .before .loop .b in
-    let inv = c .before .before .before .before .before .before .before .before .before .before .before .before .before .before .loop .inv in
-    let w = c .before .before .before .before .before .before .before .before .before .find-names .result in
-    let told = c .before .before .before .before .before .before .before .before .before .find-names .ensures .0 in
+    let i = c .before .before .before .before .before .before .before .before .before .before .before .before .before .loop .b in
+    let inv = c .before .before .before .before .before .before .before .before .before .before .before .before .before .loop .inv in
+    let w = c .before .before .before .before .before .before .before .before .find-names .result in
+    let told = c .before .before .before .before .before .before .before .before .find-names .ensures .0 in
     let at = told .0 ∙ inv .3 in
-    let r = c .before .before .before .before .own-class-passes in
+    let r = c .before .before .before .own-class-passes in
     let passes = whole.own-at (λ (x y : ℕ). OwnPasses f s x y (r .result)) (w .end) (w .own) end i at (told .1) (r .ensures .0) in (
-      whole.own-yes f s end (c .before .before .before .before .before .before .before .before .before .before .before .before .before .before .before .wide .result) i (inv .0) (c .before .before .before .before .before .before .before .before .before .before .before .before .before .loop-test .taken) (subst (OwnPasses f s end i) (not-false (r .result) (c .if2 .left)) passes),
+      whole.own-yes f s end (c .before .before .before .before .before .before .before .before .before .before .before .before .before .before .wide .result) i
+          (inv .0) (c .before .before .before .before .before .before .before .before .before .before .before .before .loop-test .taken) (subst (OwnPasses f s
+          end i) (not-false (r .result) (c .if2 .left)) passes),
       r .ensures .1,
       omega (arith, inv .2),
       at,
-      c .before .before .before .before .before .before .before .before .before .find-names .ensures .1,
+      c .before .before .before .before .before .before .before .before .find-names .ensures .1,
       omega (arith, inv .5),
     )
 
@@ -157,20 +213,31 @@ loop-less-2 : tie.Need-loop-less-2 Inv-loop μ-loop
 loop-less-2 c = omega (arith, c .before .before .loop-test .taken)
 
 loop-again-2 : tie.Need-loop-again-2 Inv-loop μ-loop
-loop-again-2 c = let b = c .before .before .before .before .before .before .before .before .before .before .before .before .before in
+loop-again-2 c =
+    let b = c .before .before .before .before .before .before .before .before .before .before .before .before .before in
     let f = now (b .args .f) in
     let s = now (b .args .s) in
     let end = b .args .end in
     let i = c .before .before .before .loop .b in
     let inv = c .before .before .before .loop .inv in
-    let kind : Kind0Is f s (ownHome end) i false = subst (λ (a : Home). Kind0Is f s a i false) (c .before .before .before .before .before .before .before .before .own-home .ensures) (subst (Kind0Is f s (c .before .before .before .before .before .before .before .before .own-home .result) i) (c .if1 .left) (c .before .is-kind0 .ensures)) in
-    (whole.own-yes f s end (c .before .before .before .before .wide .result) i (inv .0) (c .before .before .loop-test .taken) (whole.own-interface f s end i kind), inv .1, inv .2, inv .3, inv .4, inv .5)
+    let kind : Kind0Is f s (ownHome end) i false = subst (λ (a : Home). Kind0Is f s a i false) (c .before .before .before .before .before .before .before
+    .before .own-home .ensures) (subst (Kind0Is f s (c .before .before .before .before .before .before .before .before .own-home .result) i) (c .if1
+    .left) (c .before .is-kind0 .ensures)) in (
+      whole.own-yes f s end (c .before .before .before .before .wide .result) i (inv .0) (c .before .before .loop-test .taken) (whole.own-interface f s end i
+          kind),
+      inv .1,
+      inv .2,
+      inv .3,
+      inv .4,
+      inv .5,
+    )
 
 same-length-2 : tie.Need-same-length-2 Inv-loop μ-loop
 same-length-2 c = c .before .loop .inv .2
 
 returns-2 : tie.Need-returns-2 Inv-loop μ-loop
-returns-2 c = let b = c .before .before .before .before .before .before .before .before .before .before .before in
+returns-2 c =
+    let b = c .before .before .before .before .before .before .before .before .before .before .before in
     let f = now (b .args .f) in
     let s = now (b .args .s) in
     let end = b .args .end in
@@ -191,8 +258,6 @@ running-ok-spec =
     is-kind0-requires
     slice-aggregate-find-names
     find-names-requires
-    slice-aggregate-own-class-passes
-    slice-aggregate-own-class-passes-2
     own-class-passes-requires
     same-length
     returns

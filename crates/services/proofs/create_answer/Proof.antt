@@ -25,7 +25,8 @@ returns : tie.Need-returns
 returns c =
     let start = c .before .before .before .before in
     let lengths = c .before .length-ok in
-    creation.create-3 (now (start .args .s)) (start .args .used) (now (start .args .domain)) (sym (lengths .ensures) ∙ not-true (lengths .result) (c .if1 .taken))
+    creation.create-3 (now (start .args .s)) (start .args .used) (now (start .args .domain))
+    (sym (lengths .ensures) ∙ not-true (lengths .result) (c .if1 .taken))
 
 find-domain-requires : tie.Need-find-domain-requires
 find-domain-requires c κs =
@@ -45,28 +46,36 @@ domain-fits-requires c κs =
 
 returns-2 : tie.Need-returns-2
 returns-2 c =
-    let asked = c .before .before .before .before .before in
+    let c1 = c .before .before in
+    let c2 = c1 .before .before in
+    let found = c2 .find-domain in
+    let asked = c2 .before in
     let start = asked .before .before .before .before in
-    let found = c .before .before .before .before .find-domain in
     let fits = c .before .domain-fits in
-    creation.create-21 (now (start .args .s)) (start .args .used) (now (start .args .domain)) (three asked) (found .result) (found .ensures) false (c .before .before .enum-told2 .given .1)
+    creation.create-21 (now (start .args .s)) (start .args .used) (now (start .args .domain)) (three asked) (found .result) (found .ensures) false
+    (c1 .enum-told2 .given .1)
     (subst (Fits (now (start .args .s)) (start .args .used) (domain (now (start .args .domain)))) (not-true (fits .result) (c .if2 .taken)) (fits .ensures))
 
 returns-3 : tie.Need-returns-3
 returns-3 c =
-    let asked = c .before .before .before in
+    let c1 = c .before .before in
+    let found = c1 .find-domain in
+    let asked = c1 .before in
     let start = asked .before .before .before .before in
-    let found = c .before .before .find-domain in
     let at = c .enum-told .given in
-    creation.create-4 (now (start .args .s)) (start .args .used) (now (start .args .domain)) (three asked) (found .result) (found .ensures) (at .0 .0) (at .0 .1 .0) (at .1)
+    creation.create-4 (now (start .args .s)) (start .args .used) (now (start .args .domain)) (three asked) (found .result) (found .ensures) (at .0 .0)
+    (at .0 .1 .0) (at .1)
 
 returns-4 : tie.Need-returns-4
 returns-4 c =
-    let asked = c .before .before .before .before .before in
+    let c1 = c .before .before in
+    let c2 = c1 .before .before in
+    let found = c2 .find-domain in
+    let asked = c2 .before in
     let start = asked .before .before .before .before in
-    let found = c .before .before .before .before .find-domain in
     let fits = c .before .domain-fits in
-    creation.create-21 (now (start .args .s)) (start .args .used) (now (start .args .domain)) (three asked) (found .result) (found .ensures) true (c .before .before .enum-told2 .given .1)
+    creation.create-21 (now (start .args .s)) (start .args .used) (now (start .args .domain)) (three asked) (found .result) (found .ensures) true
+    (c1 .enum-told2 .given .1)
     (subst (Fits (now (start .args .s)) (start .args .used) (domain (now (start .args .domain)))) (not-false (fits .result) (c .if2 .left)) (fits .ensures))
 
 pub create-answer-spec : {M : Type 1} → statement M

@@ -32,37 +32,50 @@ domain-in-use-requires c κs =
 
 returns-2 : tie.Need-returns-2
 returns-2 c =
-    let start = c .before .before .before .before .before .before .before .before .before .before in
+    let c1 = c .before .before .before in
+    let known = c1 .at in
+    let c2 = c1 .before .before in
+    let sought = c2 .find-domain in
+    let c3 = c2 .before in
+    let test = c3 .if1 in
+    let c4 = c3 .before in
+    let lengths = c4 .length-ok in
+    let start = c4 .before .before .before in
     let d = now (start .args .domain) in
     let s = now (start .args .s) in
-    let lengths = c .before .before .before .before .before .before .before .length-ok in
-    let sought = c .before .before .before .before .before .find-domain in
-    let test = c .before .before .before .before .before .before .if1 in
-    let known = c .before .before .before .at in
     let three = sym (lengths .ensures) ∙ not-false (lengths .result) (test .left) in
-    cuts.delete-6 s (start .args .used) d (sought .result) (sought .ensures) (known .given .0 .0) (known .given .0 .1 .0) three (known .given .1) (subst (InUse s (start .args .used) d) (c .if2 .taken) (c .before .domain-in-use .ensures))
+    cuts.delete-6 s (start .args .used) d (sought .result) (sought .ensures) (known .given .0 .0) (known .given .0 .1 .0) three (known .given .1)
+    (subst (InUse s (start .args .used) d) (c .if2 .taken) (c .before .domain-in-use .ensures))
 
 enum-told : tie.Need-enum-told
 enum-told c = search needs
 
 returns-3 : tie.Need-returns-3
 returns-3 c =
-    let start = c .before .before .before .before .before .before .before .before .before .before in
+    let c1 = c .before .before .before in
+    let known = c1 .at in
+    let c2 = c1 .before .before in
+    let sought = c2 .find-domain in
+    let c3 = c2 .before in
+    let test = c3 .if1 in
+    let c4 = c3 .before in
+    let lengths = c4 .length-ok in
+    let start = c4 .before .before .before in
     let d = now (start .args .domain) in
     let s = now (start .args .s) in
-    let lengths = c .before .before .before .before .before .before .before .length-ok in
-    let sought = c .before .before .before .before .before .find-domain in
-    let test = c .before .before .before .before .before .before .if1 in
-    let known = c .before .before .before .at in
     let three = sym (lengths .ensures) ∙ not-false (lengths .result) (test .left) in
-    cuts.delete-0 s (start .args .used) d (sought .result) (sought .ensures) (known .given .0 .0) (known .given .0 .1 .0) three (known .given .1) (subst (InUse s (start .args .used) d) (c .if2 .left) (c .before .domain-in-use .ensures))
+    cuts.delete-0 s (start .args .used) d (sought .result) (sought .ensures) (known .given .0 .0) (known .given .0 .1 .0) three (known .given .1)
+    (subst (InUse s (start .args .used) d) (c .if2 .left) (c .before .domain-in-use .ensures))
 
 returns-4 : tie.Need-returns-4
 returns-4 c =
-    let start = c .before .before .before .before .before .before .before in
-    let lengths = c .before .before .before .before .length-ok in
-    let sought = c .before .before .find-domain in
-    let test = c .before .before .before .if1 in
+    let c1 = c .before .before in
+    let sought = c1 .find-domain in
+    let c2 = c1 .before in
+    let test = c2 .if1 in
+    let c3 = c2 .before in
+    let lengths = c3 .length-ok in
+    let start = c3 .before .before .before in
     let three = sym (lengths .ensures) ∙ not-false (lengths .result) (test .left) in
     cuts.delete-5 (now (start .args .s)) (start .args .used) (now (start .args .domain)) (sought .result) (sought .ensures) three (c .enum-told .given .1)
 

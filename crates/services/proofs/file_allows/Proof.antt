@@ -13,27 +13,34 @@ enum-known-c c = search needs
 
 class-allows-requires : tie.Need-class-allows-requires
 class-allows-requires c κs =
-    let start = c .before .before .before .before .before .before in
-    let place = c .before .before .before .class-place in
+    let c1 = c .before .before .before in
+    let place = c1 .class-place in
+    let start = c1 .before .before .before in
     let known = c .before .c in
-    allows.class-of (now (start .args .g)) (start .args .class) (start .args .name) (place .result) (place .ensures) (known .given .0 .0) (known .given .1) (start .pre)
+    allows.class-of (now (start .args .g)) (start .args .class) (start .args .name) (place .result) (place .ensures) (known .given .0 .0)
+    (known .given .1) (start .pre)
 
 enum-told : tie.Need-enum-told
 enum-told c = search needs
 
 returns : tie.Need-returns
 returns c =
-    let start = c .before .before .before .before .before .before .before in
-    let place = c .before .before .before .before .class-place in
-    let known = c .before .before .c in
+    let c1 = c .before .before in
+    let known = c1 .c in
+    let c2 = c1 .before .before in
+    let place = c2 .class-place in
+    let start = c2 .before .before .before in
     let answer = c .class-allows in
-    allows.file-says (now (start .args .g)) (start .args .class) (start .args .name) (place .result) (place .ensures) (known .given .0 .0) (now (start .args .domain)) (answer .result) (known .given .1) (answer .ensures)
+    allows.file-says (now (start .args .g)) (start .args .class) (start .args .name) (place .result) (place .ensures) (known .given .0 .0)
+    (now (start .args .domain)) (answer .result) (known .given .1) (answer .ensures)
 
 returns-2 : tie.Need-returns-2
 returns-2 c =
-    let start = c .before .before .before .before .before in
-    let place = c .before .before .class-place in
-    allows.file-none (now (start .args .g)) (start .args .class) (start .args .name) (place .result) (place .ensures) (now (start .args .domain)) (c .enum-told .given .1)
+    let c1 = c .before .before in
+    let place = c1 .class-place in
+    let start = c1 .before .before .before in
+    allows.file-none (now (start .args .g)) (start .args .class) (start .args .name) (place .result) (place .ensures) (now (start .args .domain))
+    (c .enum-told .given .1)
 
 pub file-allows-spec : {M : Type 1} → statement M
 file-allows-spec =

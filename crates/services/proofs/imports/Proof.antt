@@ -32,8 +32,9 @@ wide-requires c κs = search needs
 
 add-c : tie.Need-add-c Inv-loop μ-loop
 add-c c =
-    let start = c .before .before .before .before .before in
-    let list = c .before .before .imports-at in
+    let c1 = c .before .before in
+    let list = c1 .imports-at in
+    let start = c1 .before .before .before in
     omega (arith, steps.aids-in (walks.imports-there (list .ensures) (start .pre)))
 
 loop-holds : tie.Need-loop-holds Inv-loop μ-loop
@@ -41,26 +42,34 @@ loop-holds c = loops.aids-start (c .wide .ensures .0)
 
 aid-is-requires : tie.Need-aid-is-requires Inv-loop μ-loop
 aid-is-requires c κs =
-    let start = c .before .before .before .before .before .before .before in
-    let list = c .before .before .before .before .imports-at in
+    let c1 = c .before .before .before .before in
+    let list = c1 .imports-at in
+    let start = c1 .before .before .before in
     loops.aids-here (c .before .loop .inv) (c .loop-test .taken) (walks.imports-there (list .ensures) (start .pre))
 
 returns : tie.Need-returns Inv-loop μ-loop
 returns c =
-    let start = c .before .before .before .before .before .before .before .before .before in
+    let c1 = c .before .before in
+    let more = c1 .loop-test in
+    let c2 = c1 .before in
+    let turn = c2 .loop in
+    let c3 = c2 .before .before .before in
+    let list = c3 .imports-at in
+    let start = c3 .before .before .before in
     let g = now (start .args .g) in
     let aid = now (start .args .aid) in
-    let list = c .before .before .before .before .before .before .imports-at in
-    let turn = c .before .before .before .loop in
-    let more = c .before .before .loop-test in
-    importers.imports-hit aid g (list .result) (turn .left) (turn .c) (turn .inv) (more .taken) (subst (AidIs g (turn .c) aid) (c .if1 .taken) (c .before .aid-is .ensures)) (list .ensures)
+    importers.imports-hit aid g (list .result) (turn .left) (turn .c) (turn .inv) (more .taken)
+    (subst (AidIs g (turn .c) aid) (c .if1 .taken) (c .before .aid-is .ensures)) (list .ensures)
 
 after-aid-requires : tie.Need-after-aid-requires Inv-loop μ-loop
 after-aid-requires c κs =
-    let start = c .before .before .before .before .before .before .before .before .before in
-    let list = c .before .before .before .before .before .before .imports-at in
-    let turn = c .before .before .before .loop in
-    let more = c .before .before .loop-test in
+    let c1 = c .before .before in
+    let more = c1 .loop-test in
+    let c2 = c1 .before in
+    let turn = c2 .loop in
+    let c3 = c2 .before .before .before in
+    let list = c3 .imports-at in
+    let start = c3 .before .before .before in
     loops.aids-here (turn .inv) (more .taken) (walks.imports-there (list .ensures) (start .pre))
 
 sub-left : tie.Need-sub-left Inv-loop μ-loop
@@ -71,22 +80,29 @@ loop-less c = omega arith
 
 loop-again : tie.Need-loop-again Inv-loop μ-loop
 loop-again c =
-    let start = c .before .before .before .before .before .before .before .before .before .before in
+    let c1 = c .before .before in
+    let compared = c1 .aid-is in
+    let c2 = c1 .before in
+    let more = c2 .loop-test in
+    let c3 = c2 .before in
+    let turn = c3 .loop in
+    let c4 = c3 .before .before .before in
+    let list = c4 .imports-at in
+    let start = c4 .before .before .before in
     let g = now (start .args .g) in
     let aid = now (start .args .aid) in
-    let list = c .before .before .before .before .before .before .before .imports-at in
-    let turn = c .before .before .before .before .loop in
-    let more = c .before .before .before .loop-test in
-    let compared = c .before .before .aid-is in
     let next = c .after-aid in
-    importers.imports-miss aid g (list .result) (turn .left) (turn .c) (turn .inv) (next .result) (more .taken) (subst (AidIs g (turn .c) aid) (c .before .if1 .left) (compared .ensures)) (next .ensures)
+    importers.imports-miss aid g (list .result) (turn .left) (turn .c) (turn .inv) (next .result) (more .taken)
+    (subst (AidIs g (turn .c) aid) (c .before .if1 .left) (compared .ensures)) (next .ensures)
 
 returns-2 : tie.Need-returns-2 Inv-loop μ-loop
 returns-2 c =
-    let start = c .before .before .before .before .before .before .before in
-    let list = c .before .before .before .before .imports-at in
+    let c1 = c .before .before .before .before in
+    let list = c1 .imports-at in
+    let start = c1 .before .before .before in
     let turn = c .before .loop in
-    importers.imports-none (now (start .args .aid)) (now (start .args .g)) (list .result) (turn .left) (turn .c) (turn .inv) (c .loop-test .left) (list .ensures)
+    importers.imports-none (now (start .args .aid)) (now (start .args .g)) (list .result) (turn .left) (turn .c) (turn .inv) (c .loop-test .left)
+    (list .ensures)
 
 pub imports-spec : {M : Type 1} → statement M
 imports-spec =

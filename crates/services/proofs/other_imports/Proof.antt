@@ -25,10 +25,11 @@ imports-requires c κs = search needs
 
 returns-2 : tie.Need-returns-2
 returns-2 c =
-    let start = c .before .before .before .before .before in
+    let c1 = c .before .before in
+    let compared = c1 .aid-is in
+    let start = c1 .before .before .before in
     let g = now (start .args .g) in
     let aid = now (start .args .aid) in
-    let compared = c .before .before .aid-is in
     let importing = c .imports in
     importers.other-is g aid (importing .result) (subst (AidIs g 7 aid) (c .before .if1 .left) (compared .ensures)) (importing .ensures)
 

@@ -34,7 +34,8 @@ loop-less : tie.Need-loop-less Inv-loop μ-loop
 loop-less c = omega (arith, c .loop-test .taken)
 
 loop-again : tie.Need-loop-again Inv-loop μ-loop
-loop-again c = asked.empty-more _ _ (c .before .before .args .k) (c .before .loop .i) (c .loop-test .taken) (c .before .before .pre .0) (c .before .before .pre .1) (c .before .loop .inv)
+loop-again c = asked.empty-more _ _ (c .before .before .args .k) (c .before .loop .i) (c .loop-test .taken) (c .before .before .pre .0)
+    (c .before .before .pre .1) (c .before .loop .inv)
 
 same-length : tie.Need-same-length Inv-loop μ-loop
 same-length c = c .before .loop .inv .size

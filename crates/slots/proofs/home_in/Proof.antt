@@ -38,7 +38,10 @@ number-requires-3 : tie.Need-number-requires-3
 number-requires-3 c κs = search needs
 
 returns : tie.Need-returns
-returns c = laws.home-is _ _ (c .before .before .before .before .number .ensures .0) (c .before .before .number2 .ensures .0) (c .number3 .ensures .0)
+returns c =
+    let c1 = c .before .before in
+    let number = c1 .before .before .number in
+    laws.home-is _ _ (number .ensures .0) (c1 .number2 .ensures .0) (c .number3 .ensures .0)
 
 pub home-in-spec : {M : Type 1} → statement M
 home-in-spec =

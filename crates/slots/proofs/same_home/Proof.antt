@@ -17,7 +17,11 @@ returns-2 c = λ e.
     let z : _≡_ {A = ℕ} 0 1 = cc in absurd (omega arith)
 
 returns-3 : tie.Need-returns-3
-returns-3 c = λ e. let a = c .before .before .before .before .before .before .before .before .args in laws.home-is (a .g) (a .h) (c .before .before .before .before .before .if1 .left) (c .before .before .if2 .left) (eqb→eq (a .g .before) (a .h .before) (of-true e))
+returns-3 c =
+    let c1 = c .before .before in
+    let c2 = c1 .before .before .before in
+    let a-told = c2 .before .before .before .args in
+    λ e. let a = a-told in laws.home-is (a .g) (a .h) (c2 .if1 .left) (c1 .if2 .left) (eqb→eq (a .g .before) (a .h .before) (of-true e))
 
 pub same-home-spec : {M : Type 1} → statement M
 same-home-spec =

@@ -26,27 +26,42 @@ same-length : tie.Need-same-length
 same-length c = search needs
 
 returns : tie.Need-returns
-returns c = laws.slot-kept _ (c .before .before .before .before .before .args .h) (c .before .before .before .before .before .args .k) (sym (c .before .before .home-in .ensures) ∙ c .before .same-home .ensures (c .if1 .taken))
+returns c =
+    let c1 = c .before .before in
+    let a = c1 .before .before .before .args in
+    laws.slot-kept _ (a .h) (a .k) (sym (c1 .home-in .ensures) ∙ c .before .same-home .ensures (c .if1 .taken))
 
 empty-slot-requires : tie.Need-empty-slot-requires
-empty-slot-requires c κs = c .before .before .before .before .before .before .pre .0
+empty-slot-requires c κs =
+    let pre = c .before .before .before .before .before .before .pre in
+    pre .0
 
 mul-put-home : tie.Need-mul-put-home
-mul-put-home c = omega (arith, c .before .before .before .before .before .before .before .before .before .before .pre .0 .0)
+mul-put-home c =
+    let pre = c .before .before .before .before .before .before .before .before .before .before .pre in
+    omega (arith, pre .0 .0)
 
 add-put-home : tie.Need-add-put-home
-add-put-home c = omega (arith, c .before .before .before .before .before .before .before .before .before .before .pre .0 .0)
+add-put-home c =
+    let pre = c .before .before .before .before .before .before .before .before .before .before .pre in
+    omega (arith, pre .0 .0)
 
 put-home-requires : tie.Need-put-home-requires
-put-home-requires c κs = let b = c .before .before .before .before .before .before .before .before .before .before in ((omega (arith, b .pre .0 .0, b .pre .0 .1), omega (arith, b .pre .0 .1)), b .pre .1)
+put-home-requires c κs =
+    let earlier = c .before .before .before .before .before .before .before .before .before .before in
+    let b = earlier in ((omega (arith, b .pre .0 .0, b .pre .0 .1), omega (arith, b .pre .0 .1)), b .pre .1)
 
 same-length-2 : tie.Need-same-length-2
 same-length-2 c = search needs
 
 returns-2 : tie.Need-returns-2
-returns-2 c = let b = c .before .before .before .before .before .before .before .before .before .before .before .before .before in
+returns-2 c =
+    let c1 = c .before .before in
+    let c2 = c1 .before .before .before .before in
+    let b = c2 .before .before .before .before .before .before .before in
     let a = b .args in
-    subst (λ (u : List ℕ). SlotFor (now (a .slots)) u (a .h) (a .k)) (sym (c .before .before .put-home .ensures)) (laws.slot-taken _ _ (a .k) (b .pre .0 .0) (b .pre .0 .1) (omega arith) (c .before .before .before .before .before .before .empty-slot .ensures) (a .h))
+    subst (λ (u : List ℕ). SlotFor (now (a .slots)) u (a .h) (a .k)) (sym (c1 .put-home .ensures))
+    (laws.slot-taken _ _ (a .k) (b .pre .0 .0) (b .pre .0 .1) (omega arith) (c2 .empty-slot .ensures) (a .h))
 
 pub take-slot-spec : {M : Type 1} → statement M
 take-slot-spec =

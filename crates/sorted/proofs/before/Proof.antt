@@ -21,8 +21,9 @@ loop-holds c = search needs
 
 returns : tie.Need-returns Inv-loop μ-loop
 returns c =
-    let start = c .before .before .before in
-    let turn = c .before .before .loop in
+    let c1 = c .before .before in
+    let turn = c1 .loop in
+    let start = c1 .before in
     order.before-short (now (start .args .a)) (now (start .args .b)) (turn .i) (turn .inv .1) (c .before .loop-test .taken) (c .if1 .taken)
 
 shared-slice-read-if2 : tie.Need-shared-slice-read-if2 Inv-loop μ-loop
@@ -39,11 +40,15 @@ shared-slice-read-result-2 c = search needs
 
 returns-2 : tie.Need-returns-2 Inv-loop μ-loop
 returns-2 c =
-    let start = c .before .before .before .before .before .before .before .before in
-    let turn = c .before .before .before .before .before .before .before .loop in
+    let c1 = c .before .before in
+    let c2 = c1 .before .before .before in
+    let c3 = c2 .before in
+    let c4 = c3 .before in
+    let turn = c4 .loop in
+    let start = c4 .before in
     order.before-differ (now (start .args .a)) (now (start .args .b)) (turn .i) (turn .inv .1)
-    (c .before .before .before .before .before .before .loop-test .taken) (c .before .before .before .before .before .if1 .left)
-    (c .before .before .if2 .taken)
+    (c3 .loop-test .taken) (c2 .if1 .left)
+    (c1 .if2 .taken)
 
 add-i : tie.Need-add-i Inv-loop μ-loop
 add-i c = search needs
@@ -53,11 +58,14 @@ loop-less c = search needs
 
 loop-again : tie.Need-loop-again Inv-loop μ-loop
 loop-again c =
-    let start = c .before .before .before .before .before .before in
-    let turn = c .before .before .before .before .before .loop in (
+    let c1 = c .before .before .before in
+    let c2 = c1 .before in
+    let c3 = c2 .before in
+    let start = c3 .before in
+    let turn = c3 .loop in (
       omega arith,
-      order.before-step (now (start .args .a)) (now (start .args .b)) (turn .i) (turn .inv .1) (c .before .before .before .before .loop-test .taken)
-          (c .before .before .before .if1 .left) (c .if2 .left),
+      order.before-step (now (start .args .a)) (now (start .args .b)) (turn .i) (turn .inv .1) (c2 .loop-test .taken)
+          (c1 .if1 .left) (c .if2 .left),
     )
 
 returns-3 : tie.Need-returns-3 Inv-loop μ-loop

@@ -28,9 +28,11 @@ same-length c = search needs
 
 returns : tie.Need-returns
 returns c =
-    let start = c .before .before .before .before .before .before .before .before .before .before in
-    let at = c .before .before .before .rank in
-    let aid = c .before .before .before .before .before .key in
+    let c1 = c .before .before .before in
+    let at = c1 .rank in
+    let c2 = c1 .before .before in
+    let aid = c2 .key in
+    let start = c2 .before .before .before .before .before in
     change.entered-not (now (start .args .s)) (now (start .args .table)) (at .result) (start .args .p) (now (aid .result)) (aid .ensures)
     (table′.here-told (now (start .args .s)) (now (start .args .table)) (at .result) (now (aid .result)) (c .before .here .result) true
     (c .before .here .ensures) (c .if1 .taken))
@@ -55,16 +57,22 @@ same-length-2 c = search needs
 
 returns-2 : tie.Need-returns-2
 returns-2 c =
-    let start = c .before .before .before .before .before .before .before .before .before .before .before .before .before .before in
-    let opened = c .before .before .open-at in
-    let first = c .before .before .before .before .before .before .before .before .before .before .place in
-    let at = c .before .before .before .before .before .before .before .rank in
-    let aid = c .before .before .before .before .before .before .before .before .before .key in
-    let told = c .before .before .before .before .before .here in
+    let c1 = c .before .before in
+    let opened = c1 .open-at in
+    let c2 = c1 .before .before in
+    let c3 = c2 .before in
+    let told = c3 .here in
+    let c4 = c3 .before .before in
+    let at = c4 .rank in
+    let c5 = c4 .before .before in
+    let aid = c5 .key in
+    let c6 = c5 .before in
+    let first = c6 .place in
+    let start = c6 .before .before .before .before in
     change.entered-is (now (start .args .s)) (now (start .args .table)) (opened .last .0) (first .result) (at .result) (start .args .p) (start .args .p)
     (now (aid .result)) (start .pre .0 .0) (start .pre .0 .1) (start .pre .1 .0) (first .ensures .0) (aid .ensures) (at .ensures)
     (table′.here-told (now (start .args .s)) (now (start .args .table)) (at .result) (now (aid .result)) (told .result) false (told .ensures)
-    (c .before .before .before .before .if1 .left))
+    (c2 .if1 .left))
     (opened .ensures) refl
 
 pub enter-spec : {M : Type 1} → statement M

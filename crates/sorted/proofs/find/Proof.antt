@@ -15,8 +15,9 @@ here-requires c κs = search needs
 
 returns : tie.Need-returns
 returns c =
-    let start = c .before .before .before .before .before .before in
-    let low = c .before .before .lower in
+    let c1 = c .before .before in
+    let low = c1 .lower in
+    let start = c1 .before .before .before .before in
     table′.found-none (now (start .args .s)) (now (start .args .table)) (start .pre) (now (start .args .aid)) (low .result) (low .ensures)
     (table′.here-told (now (start .args .s)) (now (start .args .table)) (low .result) (now (start .args .aid)) (c .before .here .result) false
     (c .before .here .ensures) (not-true _ (c .if1 .taken)))
@@ -29,9 +30,11 @@ mul-place c = search needs
 
 shared-slice-read-place : tie.Need-shared-slice-read-place
 shared-slice-read-place c =
-    let start = c .before .before .before .before .before .before .before in
-    let low = c .before .before .before .lower in
-    let told = c .before .before .here in
+    let c1 = c .before .before in
+    let told = c1 .here in
+    let c2 = c1 .before in
+    let low = c2 .lower in
+    let start = c2 .before .before .before .before in
     table′.here-inside (now (start .args .s)) (now (start .args .table)) (low .result) (now (start .args .aid)) (start .pre)
     (table′.here-told (now (start .args .s)) (now (start .args .table)) (low .result) (now (start .args .aid)) (told .result) true (told .ensures)
     (not-false _ (c .before .if1 .left)))
@@ -41,12 +44,15 @@ place-requires c κs = search needs
 
 returns-2 : tie.Need-returns-2
 returns-2 c =
-    let start = c .before .before .before .before .before .before .before .before in
-    let low = c .before .before .before .before .lower in
-    let told = c .before .before .before .here in
+    let c1 = c .before .before in
+    let c2 = c1 .before in
+    let told = c2 .here in
+    let c3 = c2 .before in
+    let low = c3 .lower in
+    let start = c3 .before .before .before .before in
     table′.found-here (now (start .args .s)) (now (start .args .table)) (start .pre) (now (start .args .aid)) (low .result) (c .place .result)
     (table′.here-told (now (start .args .s)) (now (start .args .table)) (low .result) (now (start .args .aid)) (told .result) true (told .ensures)
-    (not-false _ (c .before .before .if1 .left)))
+    (not-false _ (c1 .if1 .left)))
     (c .place .ensures .0)
 
 pub find-spec : {M : Type 1} → statement M

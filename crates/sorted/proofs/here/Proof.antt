@@ -33,20 +33,25 @@ place-requires-2 c κs = search needs
 
 key-requires : tie.Need-key-requires
 key-requires c κs =
-    let start = c .before .before .before .before .before .before .before .before in
+    let c1 = c .before .before in
+    let c2 = c1 .before in
+    let start = c2 .before .before .before .before .before in
     table.keyed-of (now (start .args .s)) (now (start .args .table)) (start .args .k) (c .place2 .result) (start .pre)
-    (omega (arith, c .before .before .before .place .ensures .0, c .before .before .if1 .left)) (c .place2 .ensures .0)
+    (omega (arith, c2 .place .ensures .0, c1 .if1 .left)) (c .place2 .ensures .0)
 
 same-bytes-requires : tie.Need-same-bytes-requires
 same-bytes-requires c κs = search needs
 
 returns-2 : tie.Need-returns-2
 returns-2 c =
-    let start = c .before .before .before .before .before .before .before .before .before .before in
-    let first = c .before .before .before .before .before .place in
-    let read = c .before .before .place2 in
+    let c1 = c .before .before in
+    let read = c1 .place2 in
+    let c2 = c1 .before .before in
+    let c3 = c2 .before in
+    let first = c3 .place in
+    let start = c3 .before .before .before .before .before in
     table.here-is (now (start .args .s)) (now (start .args .table)) (start .args .k) (first .result) (read .result) (now (start .args .aid))
-    (now (c .before .key .result)) (c .same-bytes .result) (first .ensures .0) (c .before .before .before .before .if1 .left) (read .ensures .0)
+    (now (c .before .key .result)) (c .same-bytes .result) (first .ensures .0) (c2 .if1 .left) (read .ensures .0)
     (c .before .key .ensures) (c .same-bytes .ensures)
 
 pub here-spec : {M : Type 1} → statement M

@@ -34,14 +34,16 @@ part-result-start c = search needs
 
 part-result-end : tie.Need-part-result-end
 part-result-end c =
-    let start = c .before .before .before .before in
-    let key-place = c .before .before .key-place in
+    let c1 = c .before .before in
+    let key-place = c1 .key-place in
+    let start = c1 .before .before in
     omega (arith, key-place .ensures, start .pre .whole, ap (λ (i : ℕ). getD (now (start .args .s)) i 0) (key-place .ensures), c .wide .ensures .0)
 
 returns : tie.Need-returns
 returns c =
-    let start = c .before .before .before .before .before in
-    let key-place = c .before .before .before .key-place in
+    let c1 = c .before .before .before in
+    let key-place = c1 .key-place in
+    let start = c1 .before .before in
     table.key-part (now (start .args .s)) (start .args .p) (key-place .result) (c .before .wide .result) (key-place .ensures) (c .before .wide .ensures .0)
 
 pub key-spec : {M : Type 1} → statement M

@@ -35,8 +35,9 @@ add-result-3 c = search needs
 
 returns-2 : tie.Need-returns-2
 returns-2 c =
-    let start = c .before .before .before .before .before in
-    let e = table.key-place-package (now (start .args .s)) (start .args .p) (c .before .before .if1 .left) in
+    let c1 = c .before .before in
+    let start = c1 .before .before .before in
+    let e = table.key-place-package (now (start .args .s)) (start .args .p) (c1 .if1 .left) in
     omega (arith, e, c .wide .ensures .0)
 
 pub key-place-spec : {M : Type 1} → statement M

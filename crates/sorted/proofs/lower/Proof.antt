@@ -45,10 +45,12 @@ place-requires-2 c κs = search needs
 
 key-requires : tie.Need-key-requires Inv-loop μ-loop
 key-requires c κs =
-    let start = c .before .before .before .before .before .before .before .before .before in
-    let turn = c .before .before .before .loop in
+    let c1 = c .before .before in
+    let c2 = c1 .before in
+    let turn = c2 .loop in
+    let start = c2 .before .before .before .before .before .before in
     table′.keyed-of (now (start .args .s)) (now (start .args .table)) (turn .lo + (turn .hi - turn .lo) / 2) (c .place2 .result) (start .pre)
-    (omega (arith, turn .inv .high, c .before .before .loop-test .taken)) (c .place2 .ensures .0)
+    (omega (arith, turn .inv .high, c1 .loop-test .taken)) (c .place2 .ensures .0)
 
 before-requires : tie.Need-before-requires Inv-loop μ-loop
 before-requires c κs = search needs
@@ -61,12 +63,16 @@ loop-less c = search needs
 
 loop-again : tie.Need-loop-again Inv-loop μ-loop
 loop-again c =
-    let start = c .before .before .before .before .before .before .before .before .before .before .before .before in
-    let turn = c .before .before .before .before .before .before .loop in
-    let read = c .before .before .before .place2 in
-    let aid = c .before .before .key in
+    let c1 = c .before .before in
+    let aid = c1 .key in
+    let c2 = c1 .before in
+    let read = c2 .place2 in
+    let c3 = c2 .before .before in
+    let c4 = c3 .before in
+    let turn = c4 .loop in
+    let start = c4 .before .before .before .before .before .before in
     table′.between-up (now (start .args .s)) (now (start .args .table)) (start .pre) (now (start .args .aid)) (turn .lo) (turn .hi)
-    (turn .lo + (turn .hi - turn .lo) / 2) (turn .inv) (omega arith) (omega (arith, c .before .before .before .before .before .loop-test .taken))
+    (turn .lo + (turn .hi - turn .lo) / 2) (turn .inv) (omega arith) (omega (arith, c3 .loop-test .taken))
     (table′.told (now (start .args .s)) (now (start .args .table)) (turn .lo + (turn .hi - turn .lo) / 2) (read .result) (now (aid .result))
     (now (start .args .aid)) (c .before .before2 .result) true (read .ensures .0) (aid .ensures) (c .before .before2 .ensures) (c .if1 .taken))
 
@@ -75,12 +81,16 @@ loop-less-2 c = search needs
 
 loop-again-2 : tie.Need-loop-again-2 Inv-loop μ-loop
 loop-again-2 c =
-    let start = c .before .before .before .before .before .before .before .before .before .before .before .before in
-    let turn = c .before .before .before .before .before .before .loop in
-    let read = c .before .before .before .place2 in
-    let aid = c .before .before .key in
+    let c1 = c .before .before in
+    let aid = c1 .key in
+    let c2 = c1 .before in
+    let read = c2 .place2 in
+    let c3 = c2 .before .before in
+    let c4 = c3 .before in
+    let turn = c4 .loop in
+    let start = c4 .before .before .before .before .before .before in
     table′.between-down (now (start .args .s)) (now (start .args .table)) (start .pre) (now (start .args .aid)) (turn .lo) (turn .hi)
-    (turn .lo + (turn .hi - turn .lo) / 2) (turn .inv) (omega arith) (omega (arith, c .before .before .before .before .before .loop-test .taken))
+    (turn .lo + (turn .hi - turn .lo) / 2) (turn .inv) (omega arith) (omega (arith, c3 .loop-test .taken))
     (table′.told (now (start .args .s)) (now (start .args .table)) (turn .lo + (turn .hi - turn .lo) / 2) (read .result) (now (aid .result))
     (now (start .args .aid)) (c .before .before2 .result) false (read .ensures .0) (aid .ensures) (c .before .before2 .ensures) (c .if1 .left))
 

@@ -37,8 +37,9 @@ loop-less c = search needs
 
 loop-again : tie.Need-loop-again Inv-loop μ-loop
 loop-again c =
-    let start = c .before .before .before in
-    let turn = c .before .before .loop in
+    let c1 = c .before .before in
+    let turn = c1 .loop in
+    let start = c1 .before in
     change.moved-step (now (start .args .table)) (start .args .n) (start .args .r) (start .pre .1) (turn .table) (turn .k) (turn .inv)
     (c .before .loop-test .taken)
 

@@ -32,9 +32,11 @@ place-requires-2 c κs = search needs
 
 key-requires : tie.Need-key-requires
 key-requires c κs =
-    let start = c .before .before .before .before .before .before .before .before in
-    let first = c .before .before .before .place in
-    let if1 = c .before .before .if1 in
+    let c1 = c .before .before in
+    let if1 = c1 .if1 in
+    let c2 = c1 .before in
+    let first = c2 .place in
+    let start = c2 .before .before .before .before .before in
     table′.keyed-of (now (start .args .s)) (now (start .args .table)) (first .result - 1) (c .place2 .result) (start .pre)
     (omega (arith, first .ensures .0, if1 .left))
     (table′.last-is (now (start .args .table)) (first .result) (c .place2 .result) (if1 .left) (c .place2 .ensures .0))
@@ -44,11 +46,15 @@ before-requires c κs = search needs
 
 returns-2 : tie.Need-returns-2
 returns-2 c =
-    let start = c .before .before .before .before .before .before .before .before .before .before .before in
-    let first = c .before .before .before .before .before .before .place in
-    let if1 = c .before .before .before .before .before .if1 in
-    let read = c .before .before .before .place2 in
-    let aid = c .before .before .key in
+    let c1 = c .before .before in
+    let aid = c1 .key in
+    let c2 = c1 .before in
+    let read = c2 .place2 in
+    let c3 = c2 .before .before in
+    let if1 = c3 .if1 in
+    let c4 = c3 .before in
+    let first = c4 .place in
+    let start = c4 .before .before .before .before .before in
     table′.lower-all (now (start .args .s)) (now (start .args .table)) (start .pre) (now (start .args .aid)) (first .result) (first .ensures .0) (if1 .left)
     (table′.told (now (start .args .s)) (now (start .args .table)) (first .result - 1) (read .result) (now (aid .result)) (now (start .args .aid))
     (c .before .before2 .result) true (table′.last-is (now (start .args .table)) (first .result) (read .result) (if1 .left) (read .ensures .0))

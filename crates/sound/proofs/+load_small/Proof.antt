@@ -103,8 +103,11 @@ load-small-packages-sound-requires : (t : ℕ) → load-small-lts.Need-packages-
 ) (load-small-at t) load-small.Post
 load-small-packages-sound-requires t c κs =
     let b = c .before .before .before .before .before .before .before in
-    let p = b .pre .1 in
-    ((p .0, p .1), laws.tables-start (now (b .args .s)) (b .args .used) 304 820 347 (p .0) (omega (arith, p .2)) (omega (arith, p .2)) (omega (arith, p .2)) (omega (arith, p .2)))
+    let p = b .pre .1 in (
+      (p .0, p .1),
+      laws.tables-start (now (b .args .s)) (b .args .used) 304 820 347 (p .0) (omega (arith, p .2)) (omega (arith, p .2))
+          (omega (arith, p .2)) (omega (arith, p .2)),
+    )
 
 load-small-returns-2 : (t : ℕ) → load-small-lts.Need-returns-2 (
   load-small-below t,
@@ -115,8 +118,9 @@ load-small-returns-2 : (t : ℕ) → load-small-lts.Need-returns-2 (
   load-answer-reads.Learnt,
 ) (load-small-at t) load-small.Post
 load-small-returns-2 t c =
-    let b = c .before .before .before .before .before .before .before .before .before .before .before .before in
-    inl (subst (PackagesSay (now (b .args .s)) (b .args .used)) (not-true _ (c .if2 .taken)) (c .before .before .before .before .packages-sound .ensures .0), refl)
+    let c1 = c .before .before .before .before in
+    let b = c1 .before .before .before .before .before .before .before .before in
+    inl (subst (PackagesSay (now (b .args .s)) (b .args .used)) (not-true _ (c .if2 .taken)) (c1 .packages-sound .ensures .0), refl)
 
 load-small-slice-aggregate-load-answer : (t : ℕ) → load-small-lts.Need-slice-aggregate-load-answer (
   load-small-below t,
@@ -159,9 +163,11 @@ load-small-load-answer-requires : (t : ℕ) → load-small-lts.Need-load-answer-
   load-answer-reads.Learnt,
 ) (load-small-at t) load-small.Post
 load-small-load-answer-requires t c κs =
-    let b = c .before .before .before .before .before .before .before .before .before .before .before .before .before .before .before in
-    let sound = c .before .before .before .before .before .before .before .packages-sound in
-    let yes = not-false _ (c .before .before .before .if2 .left) in
+    let c1 = c .before .before .before in
+    let c2 = c1 .before .before .before .before in
+    let sound = c2 .packages-sound in
+    let b = c2 .before .before .before .before .before .before .before .before in
+    let yes = not-false _ (c1 .if2 .left) in
     let p = b .pre .1 in
     let over = laws.over-packages (now (b .args .s)) (b .args .used) (p .0) (subst (PackagesSay (now (b .args .s)) (b .args .used)) yes (sound .ensures .0)) in
     let tables = sound .ensures .1 yes in
@@ -176,9 +182,11 @@ load-small-returns-3 : (t : ℕ) → load-small-lts.Need-returns-3 (
   load-answer-reads.Learnt,
 ) (load-small-at t) load-small.Post
 load-small-returns-3 t c =
-    let b = c .before .before .before .before .before .before .before .before .before .before .before .before .before .before .before .before .before in
-    let yes = not-false _ (c .before .before .before .before .before .if2 .left) in
-    inr (subst (PackagesSay (now (b .args .s)) (b .args .used)) yes (c .before .before .before .before .before .before .before .before .before .packages-sound .ensures .0), c .before .load-answer .ensures)
+    let c1 = c .before .before .before .before .before in
+    let c2 = c1 .before .before .before .before in
+    let b = c2 .before .before .before .before .before .before .before .before in
+    let yes = not-false _ (c1 .if2 .left) in
+    inr (subst (PackagesSay (now (b .args .s)) (b .args .used)) yes (c2 .packages-sound .ensures .0), c .before .load-answer .ensures)
 
 pub +load-small-spec : {M : Type 1} → statement M
 +load-small-spec = close μ-load-small λ t. load-small-lts.spec (

@@ -91,8 +91,11 @@ packages-large-packages-sound-requires : (t : ℕ) → packages-large-lts.Need-p
 ) (packages-large-at t) packages-large.Post
 packages-large-packages-sound-requires t c κs =
     let b = c .before .before .before .before .before in
-    let p = b .pre .1 in
-    ((p .0, p .1), laws.tables-start (now (b .args .s)) (b .args .used) 2428 6554 2736 (p .0) (omega (arith, p .2)) (omega (arith, p .2)) (omega (arith, p .2)) (omega (arith, p .2)))
+    let p = b .pre .1 in (
+      (p .0, p .1),
+      laws.tables-start (now (b .args .s)) (b .args .used) 2428 6554 2736 (p .0) (omega (arith, p .2)) (omega (arith, p .2))
+          (omega (arith, p .2)) (omega (arith, p .2)),
+    )
 
 packages-large-returns-2 : (t : ℕ) → packages-large-lts.Need-returns-2 (
   packages-large-below t,

@@ -91,8 +91,11 @@ packages-small-packages-sound-requires : (t : ℕ) → packages-small-lts.Need-p
 ) (packages-small-at t) packages-small.Post
 packages-small-packages-sound-requires t c κs =
     let b = c .before .before .before .before .before in
-    let p = b .pre .1 in
-    ((p .0, p .1), laws.tables-start (now (b .args .s)) (b .args .used) 304 820 347 (p .0) (omega (arith, p .2)) (omega (arith, p .2)) (omega (arith, p .2)) (omega (arith, p .2)))
+    let p = b .pre .1 in (
+      (p .0, p .1),
+      laws.tables-start (now (b .args .s)) (b .args .used) 304 820 347 (p .0) (omega (arith, p .2)) (omega (arith, p .2))
+          (omega (arith, p .2)) (omega (arith, p .2)),
+    )
 
 packages-small-returns-2 : (t : ℕ) → packages-small-lts.Need-returns-2 (
   packages-small-below t,

@@ -1,8 +1,8 @@
+-- `sound::judge_load` meets its contract. Assumes nothing.
 use Rattle.sound.specs.Says.{LaidSays}
 use mathlib.Core.Path.{subst}
 use denote.Ref.{now}
 use Rattle.sound.proofs.Laws as laws
--- `sound::judge_load` meets its contract. Assumes nothing.
 use borrow.Author.Needs.{needs}
 use Rattle.sound.proofs.judge_load.Statement.{statement}
 use Rattle.sound.proofs.judge_load.Tie as tie
@@ -22,8 +22,9 @@ enum-known-used c = search needs
 
 load-judged-requires : tie.Need-load-judged-requires
 load-judged-requires c κs =
-    let a = c .before .before .before .before .before .before .before .args in
-    let laid = subst (LaidSays (now (a .s))) (c .before .used .given .1) (c .before .before .before .laid-out .ensures) in
+    let c1 = c .before .before .before in
+    let a = c1 .before .before .before .before .args in
+    let laid = subst (LaidSays (now (a .s))) (c .before .used .given .1) (c1 .laid-out .ensures) in
     (laid .stand, laid .domains, laid .small)
 
 enum-known-n-2 : tie.Need-enum-known-n-2
@@ -34,20 +35,34 @@ enum-known-depth c = search needs
 
 returns : tie.Need-returns
 returns c =
-    let a = c .before .before .before .before .before .before .before .args in
-    laws.unopened-load (now (a .s)) (c .before .n .given .0 .0) (now (a .domain)) (now (a .file)) (subst (LaidSays (now (a .s))) (c .before .n .given .1) (c .before .before .before .laid-out .ensures))
+    let c1 = c .before .before .before in
+    let a = c1 .before .before .before .before .args in
+    laws.unopened-load (now (a .s)) (c .before .n .given .0 .0) (now (a .domain)) (now (a .file))
+    (subst (LaidSays (now (a .s))) (c .before .n .given .1) (c1 .laid-out .ensures))
 
 returns-2 : tie.Need-returns-2
 returns-2 c =
-    let a = c .before .before .before .before .before .before .before .before .before .before .before .args in
-    let laid = subst (LaidSays (now (a .s))) (c .before .before .before .before .before .used .given .1) (c .before .before .before .before .before .before .before .laid-out .ensures) in
-    laws.loading-refused (now (a .s)) (c .before .before .before .before .before .used .given .0 .0) laid (now (a .domain)) (now (a .file)) (c .before .before .before .load-judged .result) (c .before .before .before .load-judged .ensures) (c .before .n2 .given .0 .0) (c .before .n2 .given .1)
+    let c1 = c .before .before .before in
+    let load-judged = c1 .load-judged in
+    let c2 = c1 .before .before in
+    let used = c2 .used in
+    let c3 = c2 .before .before in
+    let a = c3 .before .before .before .before .args in
+    let laid = subst (LaidSays (now (a .s))) (used .given .1) (c3 .laid-out .ensures) in
+    laws.loading-refused (now (a .s)) (used .given .0 .0) laid (now (a .domain)) (now (a .file)) (load-judged .result) (load-judged .ensures)
+    (c .before .n2 .given .0 .0) (c .before .n2 .given .1)
 
 returns-3 : tie.Need-returns-3
 returns-3 c =
-    let a = c .before .before .before .before .before .before .before .before .before .before .before .args in
-    let laid = subst (LaidSays (now (a .s))) (c .before .before .before .before .before .used .given .1) (c .before .before .before .before .before .before .before .laid-out .ensures) in
-    laws.loading-done (now (a .s)) (c .before .before .before .before .before .used .given .0 .0) laid (now (a .domain)) (now (a .file)) (c .before .before .before .load-judged .result) (c .before .before .before .load-judged .ensures) (c .before .depth .given .0 .0) (c .before .depth .given .1)
+    let c1 = c .before .before .before in
+    let load-judged = c1 .load-judged in
+    let c2 = c1 .before .before in
+    let used = c2 .used in
+    let c3 = c2 .before .before in
+    let a = c3 .before .before .before .before .args in
+    let laid = subst (LaidSays (now (a .s))) (used .given .1) (c3 .laid-out .ensures) in
+    laws.loading-done (now (a .s)) (used .given .0 .0) laid (now (a .domain)) (now (a .file)) (load-judged .result) (load-judged .ensures)
+    (c .before .depth .given .0 .0) (c .before .depth .given .1)
 
 pub judge-load-spec : {M : Type 1} → statement M
 judge-load-spec =

@@ -22,9 +22,10 @@ shared-slice-read-if2 c = omega arith
 
 returns-2 : tie.Need-returns-2
 returns-2 c =
-    let start = c .before .before .before .before .before in
+    let c1 = c .before .before in
+    let start = c1 .before .before .before in
     let s = now (start .args .s) in
-    checks.body-other (getD s (start .args .at) 0) (take (start .args .n) (drop (start .args .at + 3) s)) (c .before .before .if1 .left) (c .if2 .taken)
+    checks.body-other (getD s (start .args .at) 0) (take (start .args .n) (drop (start .args .at + 3) s)) (c1 .if1 .left) (c .if2 .taken)
 
 returns-3 : tie.Need-returns-3
 returns-3 c =
@@ -46,8 +47,11 @@ sub-result c = omega arith
 
 returns-4 : tie.Need-returns-4
 returns-4 c =
-    let start = c .before .before .before .before .before .before .before .before in
-    checks.body-loaded (now (start .args .s)) (start .args .at) (start .args .n) (c .wide .result) (start .pre) (c .before .before .before .if2 .left) (c .before .before .if3 .left) (c .wide .ensures .0)
+    let c1 = c .before .before in
+    let c2 = c1 .before in
+    let start = c2 .before .before .before .before .before in
+    checks.body-loaded (now (start .args .s)) (start .args .at) (start .args .n) (c .wide .result) (start .pre) (c2 .if2 .left) (c1 .if3 .left)
+    (c .wide .ensures .0)
 
 pub body-reads-spec : {M : Type 1} → statement M
 body-reads-spec =

@@ -28,7 +28,8 @@ returns-2 c =
     let aid = now (start .args .aid) in
     let s = now (start .args .s) in
     let end = start .args .end in
-    fits.fits-is s end (length aid) (domain aid) _ refl (fits.leb-same (length aid) (length s - end - 3) (end + (3 + length aid)) (length s) (λ h. omega arith) (λ h. omega arith))
+    fits.fits-is s end (length aid) (domain aid) _ refl (fits.leb-same (length aid) (length s - end - 3) (end + (3 + length aid)) (length s)
+    (λ h. omega arith) (λ h. omega arith))
 
 pub domain-fits-spec : {M : Type 1} → statement M
 domain-fits-spec = tie.close (tie.spec sub-free returns returns-2)

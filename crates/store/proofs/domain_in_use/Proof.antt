@@ -23,35 +23,52 @@ loop-holds : tie.Need-loop-holds Inv-loop μ-loop
 loop-holds c = λ es r. walk-start r
 
 entry-at-requires : tie.Need-entry-at-requires Inv-loop μ-loop
-entry-at-requires c κs = found.walks-from (c .loop .inv) (c .before .before .before .pre)
+entry-at-requires c κs =
+    let pre = c .before .before .before .pre in
+    found.walks-from (c .loop .inv) pre
 
 enum-known-next : tie.Need-enum-known-next Inv-loop μ-loop
 enum-known-next c = c .match .keys1
 
 loop-less : tie.Need-loop-less Inv-loop μ-loop
 loop-less c =
-    let x = found.domain-in (c .before .before .before .before .loop .inv) (c .before .before .before .before .before .before .before .pre) (found.part-told (c .before .next .given .1) (c .before .before .before .entry-at .ensures)) in
+    let c1 = c .before .before .before in
+    let c2 = c1 .before in
+    let pre = c2 .before .before .before .pre in
+    let x = found.domain-in (c2 .loop .inv) pre (found.part-told (c .before .next .given .1) (c1 .entry-at .ensures)) in
     omega (arith, x .2, x .3)
 
 loop-again : tie.Need-loop-again Inv-loop μ-loop
-loop-again c = found.walks-domain (c .before .before .before .before .loop .inv) (found.part-told (c .before .next .given .1) (c .before .before .before .entry-at .ensures)) refl
+loop-again c =
+    let c1 = c .before .before .before in
+    let loop = c1 .before .loop in
+    found.walks-domain (loop .inv) (found.part-told (c .before .next .given .1) (c1 .entry-at .ensures)) refl
 
 enum-known-from : tie.Need-enum-known-from Inv-loop μ-loop
 enum-known-from c = c .match .keys2
 
 sub-same-bytes : tie.Need-sub-same-bytes Inv-loop μ-loop
 sub-same-bytes c =
-    let x = found.package-in (c .before .before .before .before .loop .inv) (c .before .before .before .before .before .before .before .pre) (found.part-told (c .before .from .given .1) (c .before .before .before .entry-at .ensures)) in
+    let c1 = c .before .before .before in
+    let c2 = c1 .before in
+    let pre = c2 .before .before .before .pre in
+    let x = found.package-in (c2 .loop .inv) pre (found.part-told (c .before .from .given .1) (c1 .entry-at .ensures)) in
     omega (arith, x .0, x .1, x .2)
 
 part-same-bytes-start : tie.Need-part-same-bytes-start Inv-loop μ-loop
 part-same-bytes-start c =
-    let x = found.package-in (c .before .before .before .before .loop .inv) (c .before .before .before .before .before .before .before .pre) (found.part-told (c .before .from .given .1) (c .before .before .before .entry-at .ensures)) in
+    let c1 = c .before .before .before in
+    let c2 = c1 .before in
+    let pre = c2 .before .before .before .pre in
+    let x = found.package-in (c2 .loop .inv) pre (found.part-told (c .before .from .given .1) (c1 .entry-at .ensures)) in
     omega (arith, x .0, x .1, x .2)
 
 part-same-bytes-end : tie.Need-part-same-bytes-end Inv-loop μ-loop
 part-same-bytes-end c =
-    let x = found.package-in (c .before .before .before .before .loop .inv) (c .before .before .before .before .before .before .before .pre) (found.part-told (c .before .from .given .1) (c .before .before .before .entry-at .ensures)) in
+    let c1 = c .before .before .before in
+    let c2 = c1 .before in
+    let pre = c2 .before .before .before .pre in
+    let x = found.package-in (c2 .loop .inv) pre (found.part-told (c .before .from .given .1) (c1 .entry-at .ensures)) in
     omega (arith, x .0, x .1, x .2)
 
 same-bytes-requires : tie.Need-same-bytes-requires Inv-loop μ-loop
@@ -59,23 +76,41 @@ same-bytes-requires c κs = search needs
 
 returns : tie.Need-returns Inv-loop μ-loop
 returns c =
-    let start = c .before .before .before .before .before .before .before .before .before .before in
+    let c1 = c .before .before .before .before in
+    let c2 = c1 .before .before in
+    let c3 = c2 .before in
+    let start = c3 .before .before .before in
     let aid = now (start .args .aid) in
-    λ es r h. sym (asked.in-use (storeLimits (now (start .args .s))) es aid h ∙ sym (place-any (liesIn aid) 7 es) ∙ ap isSome (found.found-package (c .before .before .before .before .before .before .before .loop .inv) (found.part-told (c .before .before .before .before .from .given .1) (c .before .before .before .before .before .before .entry-at .ensures)) (sym (c .before .same-bytes .ensures) ∙ c .if1 .taken) es r))
+    λ es r h. sym (asked.in-use (storeLimits (now (start .args .s))) es aid h ∙ sym (place-any (liesIn aid) 7 es) ∙ ap isSome
+    (found.found-package (c3 .loop .inv) (found.part-told (c1 .from .given .1) (c2 .entry-at .ensures))
+    (sym (c .before .same-bytes .ensures) ∙ c .if1 .taken) es r))
 
 loop-less-2 : tie.Need-loop-less-2 Inv-loop μ-loop
 loop-less-2 c =
-    let x = found.package-in (c .before .before .before .before .before .before .before .loop .inv) (c .before .before .before .before .before .before .before .before .before .before .pre) (found.part-told (c .before .before .before .before .from .given .1) (c .before .before .before .before .before .before .entry-at .ensures)) in
+    let c1 = c .before .before .before .before in
+    let c2 = c1 .before .before in
+    let c3 = c2 .before in
+    let pre = c3 .before .before .before .pre in
+    let x = found.package-in (c3 .loop .inv) pre (found.part-told (c1 .from .given .1) (c2 .entry-at .ensures)) in
     omega (arith, x .3, x .4)
 
 loop-again-2 : tie.Need-loop-again-2 Inv-loop μ-loop
-loop-again-2 c = found.walks-package (c .before .before .before .before .before .before .before .loop .inv) (found.part-told (c .before .before .before .before .from .given .1) (c .before .before .before .before .before .before .entry-at .ensures)) (sym (c .before .same-bytes .ensures) ∙ c .if1 .left)
+loop-again-2 c =
+    let c1 = c .before .before .before .before in
+    let c2 = c1 .before .before in
+    let loop = c2 .before .loop in
+    found.walks-package (loop .inv) (found.part-told (c1 .from .given .1) (c2 .entry-at .ensures)) (sym (c .before .same-bytes .ensures) ∙ c .if1 .left)
 
 enum-told : tie.Need-enum-told Inv-loop μ-loop
 enum-told c = c .match .keys3
 
 returns-2 : tie.Need-returns-2 Inv-loop μ-loop
-returns-2 c = λ es r h. sym (asked.in-use (storeLimits (now (c .before .before .before .before .before .before .args .s))) es (now (c .before .before .before .before .before .before .args .aid)) h ∙ found.found-none (c .before .before .before .loop .inv) (found.part-told (c .enum-told .given .1) (c .before .before .entry-at .ensures)) es r)
+returns-2 c =
+    let c1 = c .before .before in
+    let c2 = c1 .before in
+    let a = c2 .before .before .before .args in
+    λ es r h. sym (asked.in-use (storeLimits (now (a .s))) es (now (a .aid)) h ∙ found.found-none (c2 .loop .inv)
+    (found.part-told (c .enum-told .given .1) (c1 .entry-at .ensures)) es r)
 
 pub domain-in-use-spec : {M : Type 1} → statement M
 domain-in-use-spec =

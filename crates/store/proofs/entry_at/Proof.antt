@@ -33,41 +33,50 @@ add-next-2 c =
 
 shared-slice-read-if2 : tie.Need-shared-slice-read-if2
 shared-slice-read-if2 c =
-    let start = c .before .before .before .before in
-    omega (arith, found.part-in (now (start .args .s)) (start .args .at) (start .args .end) (c .before .before .if1 .left) (start .pre))
+    let c1 = c .before .before in
+    let start = c1 .before .before in
+    omega (arith, found.part-in (now (start .args .s)) (start .args .at) (start .args .end) (c1 .if1 .left) (start .pre))
 
 add-t11 : tie.Need-add-t11
 add-t11 c =
-    let start = c .before .before .before .before .before in
-    omega (arith, found.part-in (now (start .args .s)) (start .args .at) (start .args .end) (c .before .before .before .if1 .left) (start .pre))
+    let c1 = c .before .before .before in
+    let start = c1 .before .before in
+    omega (arith, found.part-in (now (start .args .s)) (start .args .at) (start .args .end) (c1 .if1 .left) (start .pre))
 
 returns-2 : tie.Need-returns-2
 returns-2 c =
-    let start = c .before .before .before .before .before in
-    found.part-domain (now (start .args .s)) (start .args .at) (start .args .end) (c .before .before .before .if1 .left) (c .before .before .u2-at .result) (c .before .before .u2-at .ensures .0) (c .if2 .taken)
+    let c1 = c .before .before in
+    let u2-at = c1 .u2-at in
+    let c2 = c1 .before in
+    let start = c2 .before .before in
+    found.part-domain (now (start .args .s)) (start .args .at) (start .args .end) (c2 .if1 .left) (u2-at .result) (u2-at .ensures .0) (c .if2 .taken)
 
 add-t8 : tie.Need-add-t8
 add-t8 c =
-    let start = c .before .before .before .before .before in
-    let x = found.part-loaded (now (start .args .s)) (start .args .at) (start .args .end) (c .before .before .before .if1 .left) (c .if2 .left) (start .pre) in
+    let c1 = c .before .before .before in
+    let start = c1 .before .before in
+    let x = found.part-loaded (now (start .args .s)) (start .args .at) (start .args .end) (c1 .if1 .left) (c .if2 .left) (start .pre) in
     omega (arith, x .0, x .1)
 
 add-t6 : tie.Need-add-t6
 add-t6 c =
-    let start = c .before .before .before .before .before in
-    let x = found.part-loaded (now (start .args .s)) (start .args .at) (start .args .end) (c .before .before .before .if1 .left) (c .if2 .left) (start .pre) in
+    let c1 = c .before .before .before in
+    let start = c1 .before .before in
+    let x = found.part-loaded (now (start .args .s)) (start .args .at) (start .args .end) (c1 .if1 .left) (c .if2 .left) (start .pre) in
     omega (arith, x .0, x .1)
 
 add-wide : tie.Need-add-wide
 add-wide c =
-    let start = c .before .before .before .before .before in
-    let x = found.part-loaded (now (start .args .s)) (start .args .at) (start .args .end) (c .before .before .before .if1 .left) (c .if2 .left) (start .pre) in
+    let c1 = c .before .before .before in
+    let start = c1 .before .before in
+    let x = found.part-loaded (now (start .args .s)) (start .args .at) (start .args .end) (c1 .if1 .left) (c .if2 .left) (start .pre) in
     omega (arith, x .0, x .1)
 
 shared-slice-read-wide : tie.Need-shared-slice-read-wide
 shared-slice-read-wide c =
-    let start = c .before .before .before .before .before .before in
-    let x = found.part-loaded (now (start .args .s)) (start .args .at) (start .args .end) (c .before .before .before .before .if1 .left) (c .before .if2 .left) (start .pre) in
+    let c1 = c .before .before .before .before in
+    let start = c1 .before .before in
+    let x = found.part-loaded (now (start .args .s)) (start .args .at) (start .args .end) (c1 .if1 .left) (c .before .if2 .left) (start .pre) in
     omega (arith, x .0, x .1)
 
 wide-requires : tie.Need-wide-requires
@@ -75,13 +84,24 @@ wide-requires c κs = search needs
 
 add-t14 : tie.Need-add-t14
 add-t14 c =
-    let start = c .before .before .before .before .before .before .before in
-    omega (arith, (found.part-loaded (now (start .args .s)) (start .args .at) (start .args .end) (c .before .before .before .before .before .if1 .left) (c .before .before .if2 .left) (start .pre)) .1, c .wide .ensures .0)
+    let c1 = c .before .before in
+    let c2 = c1 .before .before .before in
+    let start = c2 .before .before in
+    omega (
+      arith,
+      (found.part-loaded (now (start .args .s)) (start .args .at) (start .args .end) (c2 .if1 .left) (c1 .if2 .left) (start .pre)) .1,
+      c .wide .ensures .0,
+    )
 
 returns-3 : tie.Need-returns-3
 returns-3 c =
-    let start = c .before .before .before .before .before .before .before in
-    found.part-package (now (start .args .s)) (start .args .at) (start .args .end) (c .before .before .before .before .before .if1 .left) (c .before .before .before .before .u2-at .result) (c .before .before .before .before .u2-at .ensures .0) (c .wide .result) (c .wide .ensures .0) (c .before .before .if2 .left)
+    let c1 = c .before .before in
+    let c2 = c1 .before .before in
+    let u2-at = c2 .u2-at in
+    let c3 = c2 .before in
+    let start = c3 .before .before in
+    found.part-package (now (start .args .s)) (start .args .at) (start .args .end) (c3 .if1 .left) (u2-at .result) (u2-at .ensures .0) (c .wide .result)
+    (c .wide .ensures .0) (c1 .if2 .left)
 
 pub entry-at-spec : {M : Type 1} → statement M
 entry-at-spec =

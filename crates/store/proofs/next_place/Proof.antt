@@ -29,7 +29,8 @@ sub-if2-2 c = omega arith
 returns-2 : tie.Need-returns-2
 returns-2 c =
     let start = c .before .before .before .before in
-    checks.next-long (now (start .args .s)) (start .args .at) (start .args .end) (c .before .u2-at .result) (c .before .u2-at .ensures .0) (start .pre .1) (c .if2 .taken)
+    checks.next-long (now (start .args .s)) (start .args .at) (start .args .end) (c .before .u2-at .result) (c .before .u2-at .ensures .0) (start .pre .1)
+    (c .if2 .taken)
 
 body-reads-requires : tie.Need-body-reads-requires
 body-reads-requires c κs = omega arith
@@ -42,13 +43,19 @@ add-t10 c = omega arith
 
 returns-3 : tie.Need-returns-3
 returns-3 c =
-    let start = c .before .before .before .before .before .before in
-    checks.next-body (now (start .args .s)) (start .args .at) (start .args .end) (c .before .before .before .u2-at .result) (c .before .before .before .u2-at .ensures .0) (start .pre .1) (omega arith) (omega arith) (sym (c .before .body-reads .ensures) ∙ c .if3 .taken)
+    let c1 = c .before .before .before in
+    let u2-at = c1 .u2-at in
+    let start = c1 .before .before .before in
+    checks.next-body (now (start .args .s)) (start .args .at) (start .args .end) (u2-at .result) (u2-at .ensures .0) (start .pre .1) (omega arith)
+    (omega arith) (sym (c .before .body-reads .ensures) ∙ c .if3 .taken)
 
 returns-4 : tie.Need-returns-4
 returns-4 c =
-    let start = c .before .before .before .before .before .before in
-    checks.next-other (now (start .args .s)) (start .args .at) (start .args .end) (c .before .before .before .u2-at .result) (c .before .before .before .u2-at .ensures .0) (start .pre .1) (sym (c .before .body-reads .ensures) ∙ c .if3 .left)
+    let c1 = c .before .before .before in
+    let u2-at = c1 .u2-at in
+    let start = c1 .before .before .before in
+    checks.next-other (now (start .args .s)) (start .args .at) (start .args .end) (u2-at .result) (u2-at .ensures .0) (start .pre .1)
+    (sym (c .before .body-reads .ensures) ∙ c .if3 .left)
 
 pub next-place-spec : {M : Type 1} → statement M
 next-place-spec =

@@ -10,30 +10,41 @@ use Rattle.store.proofs.own_is.Statement.{statement}
 use Rattle.store.proofs.own_is.Tie as tie
 
 shared-slice-read-wide : tie.Need-shared-slice-read-wide
-shared-slice-read-wide c = c .before .before .before .pre .0
+shared-slice-read-wide c =
+    let pre = c .before .before .before .pre in
+    pre .0
 
 wide-requires : tie.Need-wide-requires
 wide-requires c κs = search needs
 
 add-end : tie.Need-add-end
-add-end c = omega (arith, c .before .before .before .before .pre .1, c .wide .ensures .0)
+add-end c =
+    let pre = c .before .before .before .before .pre in
+    omega (arith, pre .1, c .wide .ensures .0)
 
 sub-same-bytes : tie.Need-sub-same-bytes
-sub-same-bytes c = omega (arith, c .before .before .before .before .pre .1, c .wide .ensures .0)
+sub-same-bytes c =
+    let pre = c .before .before .before .before .pre in
+    omega (arith, pre .1, c .wide .ensures .0)
 
 part-same-bytes-start : tie.Need-part-same-bytes-start
-part-same-bytes-start c = omega (arith, c .before .before .before .before .pre .1, c .wide .ensures .0)
+part-same-bytes-start c =
+    let pre = c .before .before .before .before .pre in
+    omega (arith, pre .1, c .wide .ensures .0)
 
 part-same-bytes-end : tie.Need-part-same-bytes-end
-part-same-bytes-end c = omega (arith, c .before .before .before .before .pre .1, c .wide .ensures .0)
+part-same-bytes-end c =
+    let pre = c .before .before .before .before .pre in
+    omega (arith, pre .1, c .wide .ensures .0)
 
 same-bytes-requires : tie.Need-same-bytes-requires
 same-bytes-requires c κs = search needs
 
 returns : tie.Need-returns
 returns c =
-    let start = c .before .before .before .before .before .before in
-    c .same-bytes .ensures ∙ ap (λ (n : ℕ). same (now (start .args .aid)) (part (now (start .args .f)) 8 (8 + n))) (c .before .before .wide .ensures .0)
+    let c1 = c .before .before in
+    let start = c1 .before .before .before .before in
+    c .same-bytes .ensures ∙ ap (λ (n : ℕ). same (now (start .args .aid)) (part (now (start .args .f)) 8 (8 + n))) (c1 .wide .ensures .0)
 
 pub own-is-spec : {M : Type 1} → statement M
 own-is-spec =

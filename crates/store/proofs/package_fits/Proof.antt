@@ -21,7 +21,8 @@ returns c =
     let file = now (start .args .file) in
     let s = now (start .args .s) in
     let end = start .args .end in
-    fits.fits-is s end (1 + length dom + length file) (loaded dom file) false (fits.loaded-length dom file) (sym (lt-leb (end + (3 + (1 + length dom + length file))) (length s) (omega arith)))
+    fits.fits-is s end (1 + length dom + length file) (loaded dom file) false (fits.loaded-length dom file)
+    (sym (lt-leb (end + (3 + (1 + length dom + length file))) (length s) (omega arith)))
 
 returns-2 : tie.Need-returns-2
 returns-2 c =
@@ -30,7 +31,8 @@ returns-2 c =
     let file = now (start .args .file) in
     let s = now (start .args .s) in
     let end = start .args .end in
-    fits.fits-is s end (1 + length dom + length file) (loaded dom file) false (fits.loaded-length dom file) (sym (lt-leb (end + (3 + (1 + length dom + length file))) (length s) (omega arith)))
+    fits.fits-is s end (1 + length dom + length file) (loaded dom file) false (fits.loaded-length dom file)
+    (sym (lt-leb (end + (3 + (1 + length dom + length file))) (length s) (omega arith)))
 
 sub-result : tie.Need-sub-result
 sub-result c = omega arith
@@ -42,7 +44,9 @@ returns-3 c =
     let file = now (start .args .file) in
     let s = now (start .args .s) in
     let end = start .args .end in
-    fits.fits-is s end (1 + length dom + length file) (loaded dom file) _ (fits.loaded-length dom file) (fits.leb-same (length file) (length s - end - 4 - length dom) (end + (3 + (1 + length dom + length file))) (length s) (λ h. omega arith) (λ h. omega arith))
+    fits.fits-is s end (1 + length dom + length file) (loaded dom file) _ (fits.loaded-length dom file)
+    (fits.leb-same (length file) (length s - end - 4 - length dom) (end + (3 + (1 + length dom + length file))) (length s) (λ h. omega arith)
+    (λ h. omega arith))
 
 pub package-fits-spec : {M : Type 1} → statement M
 package-fits-spec = tie.close (tie.spec sub-free returns returns-2 sub-result returns-3)

@@ -36,15 +36,19 @@ loop-less c = omega arith
 
 loop-again : tie.Need-loop-again Inv-loop μ-loop
 loop-again c =
-    let turn = c .before .before .before .loop in
-    let s = now (c .before .before .before .before .before .args .s) in
-    let more = checks.zero-more s (turn .i) (turn .greatest) (c .before .before .loop-test .taken) in
+    let c1 = c .before .before in
+    let c2 = c1 .before in
+    let turn = c2 .loop in
+    let a = c2 .before .before .args in
+    let s = now (a .s) in
+    let more = checks.zero-more s (turn .i) (turn .greatest) (c1 .loop-test .taken) in
     (omega arith, turn .inv .1 ∙ more ∙ ap (λ (g : ℕ). eqb g 0 && all isZero (drop (turn .i + 1) s)) (sym (c .greater .ensures)))
 
 returns : tie.Need-returns Inv-loop μ-loop
 returns c =
+    let a = c .before .before .before .args in
     let turn = c .before .loop in
-    sym (turn .inv .1 ∙ checks.zero-end (now (c .before .before .before .args .s)) (turn .i) (turn .greatest) (omega arith))
+    sym (turn .inv .1 ∙ checks.zero-end (now (a .s)) (turn .i) (turn .greatest) (omega arith))
 
 pub zeros-from-spec : {M : Type 1} → statement M
 zeros-from-spec =

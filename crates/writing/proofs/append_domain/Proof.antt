@@ -13,48 +13,65 @@ use Rattle.writing.proofs.append_domain.Tie as tie
 
 put-head-requires : tie.Need-put-head-requires
 put-head-requires c κs =
-    let r = change.domain-room (c .before .before .before .pre) in
+    let pre = c .before .before .before .pre in
+    let r = change.domain-room pre in
     (omega arith, omega arith)
 
 add-copy-in : tie.Need-add-copy-in
 add-copy-in c =
-    let r = change.domain-room (c .before .before .before .before .before .before .before .pre) in
+    let pre = c .before .before .before .before .before .before .before .pre in
+    let r = change.domain-room pre in
     omega arith
 
 copy-in-requires : tie.Need-copy-in-requires
 copy-in-requires c κs =
-    let r = change.domain-room (c .before .before .before .before .before .before .before .pre) in
-    omega (arith, c .before .before .before .put-head .kept .0)
+    let c1 = c .before .before .before in
+    let pre = c1 .before .before .before .before .pre in
+    let r = change.domain-room pre in
+    omega (arith, c1 .put-head .kept .0)
 
 add-put-u2 : tie.Need-add-put-u2
 add-put-u2 c =
-    let r = change.domain-room (c .before .before .before .before .before .before .before .before .before .before .before .pre) in
+    let pre = c .before .before .before .before .before .before .before .before .before .before .before .pre in
+    let r = change.domain-room pre in
     omega arith
 
 add-put-u2-2 : tie.Need-add-put-u2-2
 add-put-u2-2 c =
-    let r = change.domain-room (c .before .before .before .before .before .before .before .before .before .before .before .pre) in
+    let pre = c .before .before .before .before .before .before .before .before .before .before .before .pre in
+    let r = change.domain-room pre in
     omega arith
 
 put-u2-requires : tie.Need-put-u2-requires
 put-u2-requires c κs =
-    let r = change.domain-room (c .before .before .before .before .before .before .before .before .before .before .before .pre) in
-    (omega (arith, c .before .before .before .before .before .before .before .put-head .kept .0, c .before .before .before .copy-in .kept .0), omega arith)
+    let c1 = c .before .before .before in
+    let c2 = c1 .before .before .before .before in
+    let pre = c2 .before .before .before .before .pre in
+    let r = change.domain-room pre in
+    (omega (arith, c2 .put-head .kept .0, c1 .copy-in .kept .0), omega arith)
 
 same-length : tie.Need-same-length
-same-length c = c .before .before .put-u2 .kept .0 ∙ c .before .before .before .before .before .before .copy-in .kept .0 ∙ c .before .before .before .before .before .before .before .before .before .before .put-head .kept .0
+same-length c =
+    let c1 = c .before .before in
+    let c2 = c1 .before .before .before .before in
+    let put-head = c2 .before .before .before .before .put-head in
+    c1 .put-u2 .kept .0 ∙ c2 .copy-in .kept .0 ∙ put-head .kept .0
 
 returns : tie.Need-returns
 returns c =
-    let start = c .before .before .before .before .before .before .before .before .before .before .before .before .before .before in
-    let headed = c .before .before .before .before .before .before .before .before .before .before .put-head in
-    let copied = c .before .before .before .before .before .before .copy-in in
+    let c1 = c .before .before in
+    let put-u2 = c1 .put-u2 in
+    let c2 = c1 .before .before .before .before in
+    let copied = c2 .copy-in in
+    let c3 = c2 .before .before .before .before in
+    let headed = c3 .put-head in
+    let start = c3 .before .before .before .before in
     let aid = now (start .args .aid) in
     let store = now (start .args .store) in
     let end = start .args .end in
     let e₁ : headed .last .0 ≡ paste store end (1 ∷ high (length aid) ∷ low (length aid) ∷ []) 3 = headed .ensures in
     let e₂ : copied .last .0 ≡ paste (headed .last .0) (end + 3) aid (length aid) = copied .ensures in
-    let e₃ : c .before .before .put-u2 .last .0 ≡ paste (copied .last .0) 5 (high (end + 3 + (length aid)) ∷ low (end + 3 + (length aid)) ∷ []) 2 = c .before .before .put-u2 .ensures in
+    let e₃ : put-u2 .last .0 ≡ paste (copied .last .0) 5 (high (end + 3 + (length aid)) ∷ low (end + 3 + (length aid)) ∷ []) 2 = put-u2 .ensures in
     change.domain-appended store (headed .last .0) (copied .last .0) _ end aid (start .pre) e₁ e₂ e₃
 
 pub append-domain-spec : {M : Type 1} → statement M

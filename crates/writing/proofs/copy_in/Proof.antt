@@ -40,14 +40,19 @@ loop-less c = omega arith
 
 loop-again : tie.Need-loop-again Inv-loop μ-loop
 loop-again c =
-    let start = c .before .before .before in
-    let turn = c .before .before .loop in
+    let c1 = c .before .before in
+    let turn = c1 .loop in
+    let start = c1 .before in
     let d = (now (start .args .store)) in
     let at = (start .args .at) in
     let l = turn in
     let w : List ℕ = (now (start .args .from)) in
-    let b : turn .i < length w = c .before .loop-test .taken in
-    (omega arith, ap (λ (x : Bytes). set x (at + l .i) (getD w (l .i) 0)) (l .inv .1) ∙ paste-more d at w (l .i) _ (omega arith) b refl, simp length-set (l .inv .2))
+    let b : turn .i < length w = c .before .loop-test .taken in (
+      omega arith,
+      ap (λ (x : Bytes). set x (at + l .i) (getD w (l .i) 0)) (l .inv .1) ∙ paste-more d at w (l .i) _ (omega arith) b refl,
+      simp length-set
+          (l .inv .2),
+    )
 
 same-length : tie.Need-same-length Inv-loop μ-loop
 same-length c = c .before .loop .inv .2

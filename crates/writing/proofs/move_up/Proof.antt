@@ -43,8 +43,9 @@ loop-less c = omega arith
 
 loop-again : tie.Need-loop-again Inv-loop μ-loop
 loop-again c =
-    let start = c .before .before .before in
-    let turn = c .before .before .loop in
+    let c1 = c .before .before in
+    let turn = c1 .loop in
+    let start = c1 .before in
     let store = now (start .args .store) in
     let from = start .args .from in
     let d = store in
@@ -54,7 +55,8 @@ loop-again c =
     let b : turn .i < length w = omega (arith, length-drop from d) in (
       omega arith,
       ap (λ (x : Bytes). set x (at + l .i) (getD (l .store) (from + l .i) 0)) (l .inv .1) ∙ paste-more d at w (l .i) _ (omega arith) b
-          (ap (λ (x : Bytes). getD x (from + l .i) 0) (l .inv .1) ∙ paste-behind d at w (l .i) (from + l .i) (omega arith) (omega arith) (omega arith) ∙ sym (getD-drop from d (l .i) 0)),
+          (ap (λ (x : Bytes). getD x (from + l .i) 0) (l .inv .1) ∙ paste-behind d at w (l .i) (from + l .i) (omega arith) (omega arith) (omega arith) ∙
+          sym (getD-drop from d (l .i) 0)),
       simp length-set (l .inv .2),
     )
 

@@ -27,11 +27,12 @@ same-length c = c .before .before .put-u2 .kept .0 ∙ simp length-set
 
 returns : tie.Need-returns
 returns c =
-    let start = c .before .before .before .before .before in
+    let c1 = c .before .before in
+    let start = c1 .before .before .before in
     let store = now (start .args .store) in
     let at = start .args .at in
     let n = start .args .n in
-    c .before .before .put-u2 .ensures
+    c1 .put-u2 .ensures
     ∙ ap (λ (t : Bytes). paste t (at + 1) (high n ∷ low n ∷ []) 2) (set-one store at (start .args .kind) (omega arith))
     ∙ paste-join store at (start .args .kind ∷ []) (high n ∷ low n ∷ []) 1 2 (omega arith) refl refl
 

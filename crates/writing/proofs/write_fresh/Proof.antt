@@ -39,8 +39,9 @@ same-length c = c .before .before .zero-out .kept .0 ∙ simp length-set
 
 returns : tie.Need-returns
 returns c =
-    let start = c .before .before .before .before .before in
-    c .before .before .zero-out .ensures ∙ change.fresh-is (now (start .args .store)) (start .pre)
+    let c1 = c .before .before in
+    let start = c1 .before .before .before in
+    c1 .zero-out .ensures ∙ change.fresh-is (now (start .args .store)) (start .pre)
 
 pub write-fresh-spec : {M : Type 1} → statement M
 write-fresh-spec =

@@ -43,8 +43,12 @@ loop-again c =
     let at = (start .args .at) in
     let l = turn in
     let w : List ℕ = (replicate n 0) in
-    let b : turn .i < length w = omega (arith, length-replicate {A = ℕ} n 0) in
-    (omega arith, ap (λ (x : Bytes). set x (at + l .i) 0) (l .inv .1) ∙ paste-more d at w (l .i) 0 (omega arith) b (sym (getD-replicate n (l .i) 0 0 (c .loop-test .taken))), simp length-set (l .inv .2))
+    let b : turn .i < length w = omega (arith, length-replicate {A = ℕ} n 0) in (
+      omega arith,
+      ap (λ (x : Bytes). set x (at + l .i) 0) (l .inv .1) ∙ paste-more d at w (l .i) 0 (omega arith) b
+          (sym (getD-replicate n (l .i) 0 0 (c .loop-test .taken))),
+      simp length-set (l .inv .2),
+    )
 
 same-length : tie.Need-same-length Inv-loop μ-loop
 same-length c = c .before .loop .inv .2

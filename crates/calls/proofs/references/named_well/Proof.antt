@@ -11,13 +11,19 @@ is-seen-requires : tie.Need-is-seen-requires
 is-seen-requires c κs = search needs
 
 returns : tie.Need-returns
-returns c = look.well-unseen (c .before .before .before .args .imported) (c .before .before .before .args .kind) (was-no (SeenIs (now (c .before .before .before .args .g)) (c .before .before .before .args .m) (c .before .before .before .args .imported)) (c .if1 .taken) (c .before .is-seen .ensures))
+returns c =
+    let a = c .before .before .before .args in
+    look.well-unseen (a .imported) (a .kind) (was-no (SeenIs (now (a .g)) (a .m) (a .imported)) (c .if1 .taken) (c .before .is-seen .ensures))
 
 has-form-requires : tie.Need-has-form-requires
 has-form-requires c κs = search needs
 
 returns-2 : tie.Need-returns-2
-returns-2 c = look.well-seen (c .before .before .before .before .args .imported) (c .before .before .before .before .args .kind) (c .has-form .result) (was-yes (SeenIs (now (c .before .before .before .before .args .g)) (c .before .before .before .before .args .m) (c .before .before .before .before .args .imported)) (c .before .if1 .left) (c .before .before .is-seen .ensures)) (c .has-form .ensures)
+returns-2 c =
+    let c1 = c .before .before in
+    let a = c1 .before .before .args in
+    look.well-seen (a .imported) (a .kind) (c .has-form .result)
+    (was-yes (SeenIs (now (a .g)) (a .m) (a .imported)) (c .before .if1 .left) (c1 .is-seen .ensures)) (c .has-form .ensures)
 
 pub named-well-spec : {M : Type 1} → statement M
 named-well-spec = tie.close (tie.spec is-seen-requires returns has-form-requires returns-2)

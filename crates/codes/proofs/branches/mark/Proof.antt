@@ -14,9 +14,10 @@ same-length c = search needs
 
 returns : tie.Need-returns
 returns c =
-    let at-if1 = c .before .before .before .before in
+    let c1 = c .before .before in
+    let at-if1 = c1 .before .before in
     let start = at-if1 .before .before in
-    let a = start .args in adds-in (a .n) (now (a .targets)) _ (a .to) (at-if1 .if1 .taken) (c .before .before .set .ensures)
+    let a = start .args in adds-in (a .n) (now (a .targets)) _ (a .to) (at-if1 .if1 .taken) (c1 .set .ensures)
 
 returns-2 : tie.Need-returns-2
 returns-2 c = let a = c .before .before .args in adds-past (a .n) (now (a .targets)) (a .to) (c .if1 .left)

@@ -22,10 +22,11 @@ same-length c = search needs
 
 returns : tie.Need-returns
 returns c =
-    let at-if1 = c .before .before .before .before in
+    let c1 = c .before .before in
+    let at-if1 = c1 .before .before in
     let start = at-if1 .before .before .before in
     let a = start .args in
-    adds-is refl (ap (λ (z : ℤ). z ∷ []) (sym (lands-below (a .half) (a .at) (a .x) (at-if1 .if1 .taken)))) (c .before .before .mark .ensures)
+    adds-is refl (ap (λ (z : ℤ). z ∷ []) (sym (lands-below (a .half) (a .at) (a .x) (at-if1 .if1 .taken)))) (c1 .mark .ensures)
 
 add-if2 : tie.Need-add-if2
 add-if2 c = search needs
@@ -51,12 +52,13 @@ same-length-2 c = search needs
 
 returns-3 : tie.Need-returns-3
 returns-3 c =
-    let at-if2 = c .before .before .before .before in
+    let c1 = c .before .before in
+    let at-if2 = c1 .before .before in
     let at-if1 = at-if2 .before in
     let start = at-if1 .before .before .before in
     let a = start .args in
     adds-is refl (ap (λ (z : ℤ). z ∷ []) (sym (lands-from (a .half) (a .at) (a .x) (at-if1 .if1 .left) ∙ sub-from (a .at + a .x) (a .half + a .half)
-    (at-if2 .if2 .left)))) (c .before .before .mark2 .ensures)
+    (at-if2 .if2 .left)))) (c1 .mark2 .ensures)
 
 pub mark-branch-spec : {M : Type 1} → statement M
 mark-branch-spec =

@@ -31,8 +31,9 @@ loop-holds c = (refl, omega arith, λ new r a. a)
 
 u2-at-requires : tie.Need-u2-at-requires Inv-loop μ-loop
 u2-at-requires c κs =
-    let start = c .before .before .before .before .before in
-    omega (arith, mul-less (start .args .step) (c .before .before .loop .left) (c .before .loop-test .taken))
+    let c1 = c .before .before in
+    let start = c1 .before .before .before in
+    omega (arith, mul-less (start .args .step) (c1 .loop .left) (c .before .loop-test .taken))
 
 mark-branch-requires : tie.Need-mark-branch-requires Inv-loop μ-loop
 mark-branch-requires c κs =

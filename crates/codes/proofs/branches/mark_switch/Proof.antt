@@ -25,8 +25,9 @@ add-mark-each c =
 
 mark-each-requires : tie.Need-mark-each-requires
 mark-each-requires c κs =
-    let start = c .before .before .before .before .before in
-    let got = c .before .before .entries-of in
+    let c1 = c .before .before in
+    let got = c1 .entries-of in
+    let start = c1 .before .before .before in
     let a = start .args in
     let p = start .pre in (
       p .0,
@@ -46,7 +47,8 @@ same-length c = search needs
 
 returns : tie.Need-returns
 returns c =
-    let at-if1 = c .before .before .before .before in
+    let c1 = c .before .before in
+    let at-if1 = c1 .before .before in
     let at-entries-of = at-if1 .before in
     let start = at-entries-of .before .before .before in
     let got = at-entries-of .entries-of in
@@ -60,7 +62,7 @@ returns c =
           (at-if1 .if1 .taken),
       p .1 .1 .head (p .1 .0),
     )) (sym (entry-2 (a .form) (p .1 .0) (at-if1 .if1 .taken))))
-    (c .before .before .mark-each .ensures)
+    (c1 .mark-each .ensures)
 
 add-mark-each-2 : tie.Need-add-mark-each-2
 add-mark-each-2 c =
@@ -100,7 +102,8 @@ same-length-2 c = search needs
 
 returns-2 : tie.Need-returns-2
 returns-2 c =
-    let at-if2 = c .before .before .before .before in
+    let c1 = c .before .before in
+    let at-if2 = c1 .before .before in
     let at-entries-of = at-if2 .before .before in
     let start = at-entries-of .before .before .before in
     let got = at-entries-of .entries-of in
@@ -114,7 +117,7 @@ returns-2 c =
           (at-if2 .if2 .taken)),
       p .1 .1 .head (p .1 .0),
     )) (sym (ap (λ (w : Switch). w .entry) (switch-75 (a .form) (at-if2 .if2 .taken)))))
-    (c .before .before .mark-each2 .ensures)
+    (c1 .mark-each2 .ensures)
 
 add-mark-each-4 : tie.Need-add-mark-each-4
 add-mark-each-4 c =
@@ -154,7 +157,8 @@ same-length-3 c = search needs
 
 returns-3 : tie.Need-returns-3
 returns-3 c =
-    let at-entries-of = c .before .before .before .before .before .before in
+    let c1 = c .before .before in
+    let at-entries-of = c1 .before .before .before .before in
     let start = at-entries-of .before .before .before in
     let got = at-entries-of .entries-of in
     let a = start .args in
@@ -167,7 +171,7 @@ returns-3 c =
           (omega arith)),
       p .1 .1 .head (p .1 .0),
     )) (sym (ap (λ (w : Switch). w .entry) (switch-76 (a .form) (omega arith)))))
-    (c .before .before .mark-each3 .ensures)
+    (c1 .mark-each3 .ensures)
 
 pub mark-switch-spec : {M : Type 1} → statement M
 mark-switch-spec =

@@ -36,13 +36,14 @@ same-length c = search needs
 
 returns : tie.Need-returns
 returns c =
-    let at-wide = c .before .before .before in
+    let c1 = c .before .before in
+    let at-wide = c1 .before in
     let start = at-wide .before .before .before .before .before .before in
     let a = start .args in
     let p = start .pre in
     let code = now (a .code) in
     adds-is refl (ap (λ (x : ℕ). (pos (a .at) +ℤ signed 0x80 x) ∷ []) (at-wide .wide .ensures .0) ∙ sym (s1-target code (a .at) (a .entry / 16)
-    (a .entry % 16) (p .1 .0) (omega arith))) (c .before .before .mark-branch .ensures)
+    (a .entry % 16) (p .1 .0) (omega arith))) (c1 .mark-branch .ensures)
 
 add-u2-at : tie.Need-add-u2-at
 add-u2-at c = search needs
@@ -85,7 +86,8 @@ same-length-3 c = search needs
 
 returns-3 : tie.Need-returns-3
 returns-3 c =
-    let at-if2 = c .before .before .before .before .before in
+    let c1 = c .before .before in
+    let at-if2 = c1 .before .before .before in
     let at-mark-branch2 = at-if2 .before .before .before in
     let at-u2-at = at-mark-branch2 .before in
     let start = at-u2-at .before .before .before .before .before in
@@ -95,7 +97,7 @@ returns-3 c =
     let first = adds-is refl (ap (λ (x : ℕ). (pos (a .at) +ℤ signed 0x8000 x) ∷ []) (at-u2-at .u2-at .ensures .0))
     (at-mark-branch2 .mark-branch2 .ensures) in
     adds-is refl (sym (switch-targets code (a .at) (a .entry / 16) (a .entry % 16) (p .1 .0) (omega arith))) (adds-yes (at-if2 .if2 .taken) first
-    (c .before .before .mark-switch .ensures))
+    (c1 .mark-switch .ensures))
 
 same-length-4 : tie.Need-same-length-4
 same-length-4 c = search needs

@@ -20,20 +20,27 @@ add-result c = omega arith
 returns : tie.Need-returns
 unfolding bias
 returns c =
-    let a = c .before .before .before .args in
-    let p = c .before .before .before .pre in
-    let l : c .before .before .biased .result ≡ bias (a .half) (a .low) = c .before .before .biased .ensures .0 in
+    let c1 = c .before .before in
+    let biased = c1 .biased in
+    let start = c1 .before in
+    let a = start .args in
+    let p = start .pre in
+    let l : biased .result ≡ bias (a .half) (a .low) = biased .ensures .0 in
     let h : c .before .biased2 .result ≡ bias (a .half) (a .high) = c .before .biased2 .ensures .0 in (
-      numbers-some (a .half) (a .low) (a .high) (p .0) (p .1) (omega arith) ∙ number-one (bias (a .half) (a .high) - bias (a .half) (a .low)) (c .before .biased2 .result - c .before .before .biased .result) (omega arith),
+      numbers-some (a .half) (a .low) (a .high) (p .0) (p .1) (omega arith) ∙ number-one (bias (a .half) (a .high) - bias (a .half) (a .low))
+          (c .before .biased2 .result - biased .result) (omega arith),
       omega arith,
     )
 
 returns-2 : tie.Need-returns-2
 unfolding bias
 returns-2 c =
-    let a = c .before .before .before .args in
-    let p = c .before .before .before .pre in
-    let l : c .before .before .biased .result ≡ bias (a .half) (a .low) = c .before .before .biased .ensures .0 in
+    let c1 = c .before .before in
+    let biased = c1 .biased in
+    let start = c1 .before in
+    let a = start .args in
+    let p = start .pre in
+    let l : biased .result ≡ bias (a .half) (a .low) = biased .ensures .0 in
     let h : c .before .biased2 .result ≡ bias (a .half) (a .high) = c .before .biased2 .ensures .0 in
     (numbers-none (a .half) (a .low) (a .high) (p .0) (p .1) (omega arith), omega arith)
 

@@ -19,13 +19,19 @@ array-share-prefix-a : tie.Need-array-share-prefix-a
 array-share-prefix-a c = omega (arith, self-16 (c .before .before))
 
 slice-aggregate-same-bytes : tie.Need-slice-aggregate-same-bytes
-slice-aggregate-same-bytes c = sym (length-take-le _ _ (omega (arith, self-16 (c .before .before .before))))
+slice-aggregate-same-bytes c =
+    let earlier = c .before .before .before in
+    sym (length-take-le _ _ (omega (arith, self-16 earlier)))
 
 array-share-prefix-b : tie.Need-array-share-prefix-b
-array-share-prefix-b c = omega (arith, other-16 (c .before .before .before))
+array-share-prefix-b c =
+    let earlier = c .before .before .before in
+    omega (arith, other-16 earlier)
 
 slice-aggregate-same-bytes-2 : tie.Need-slice-aggregate-same-bytes-2
-slice-aggregate-same-bytes-2 c = sym (length-take-le _ _ (omega (arith, other-16 (c .before .before .before .before))))
+slice-aggregate-same-bytes-2 c =
+    let earlier = c .before .before .before .before in
+    sym (length-take-le _ _ (omega (arith, other-16 earlier)))
 
 same-bytes-requires : tie.Need-same-bytes-requires
 same-bytes-requires c κs = search needs

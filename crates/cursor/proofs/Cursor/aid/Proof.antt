@@ -43,8 +43,9 @@ add-t6 c = search needs
 
 returns-5 : tie.Need-returns-5
 returns-5 c =
-    let start = c .before .before .before .before .before .before .before in
-    let at-wide = c .before .before .before .wide in
+    let c1 = c .before .before .before in
+    let at-wide = c1 .wide in
+    let start = c1 .before .before .before .before in
     aid-says (now (start .args .s)) (start .args .self .at .0) (omega arith) (omega arith) (omega arith) (omega arith) (at-wide .result) (at-wide .ensures .0)
 
 pub aid-spec : {M : Type 1} → statement M

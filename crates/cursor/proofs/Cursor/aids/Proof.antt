@@ -27,23 +27,27 @@ enum-told c = c .match .keys2
 
 returns : tie.Need-returns Inv-loop μ-loop
 returns c =
-    let start = c .before .before .before .before in
-    let at-u1 = c .before .before .u1 in
+    let c1 = c .before .before in
+    let at-u1 = c1 .u1 in
+    let start = c1 .before .before in
     let at-enum-told = c .enum-told in
     none-said (count-none (start .args .most) aid (field-bad (at-enum-told .given .1) (at-u1 .ensures)))
 
 returns-2 : tie.Need-returns-2 Inv-loop μ-loop
 returns-2 c =
-    let start = c .before .before .before .before .before .before in
-    let at-u1 = c .before .before .before .before .u1 in
-    let at-count = c .before .before .count in
+    let c1 = c .before .before in
+    let at-count = c1 .count in
+    let c2 = c1 .before .before in
+    let at-u1 = c2 .u1 in
+    let start = c2 .before .before in
     let field = field-is (at-count .given .1) (at-u1 .ensures) in
     none-said (count-many (start .args .most) aid field (omega arith))
 
 loop-holds : tie.Need-loop-holds Inv-loop μ-loop
 loop-holds c =
-    let at-u1 = c .before .before .before .before .u1 in
-    let at-count = c .before .before .count in
+    let c1 = c .before .before in
+    let at-count = c1 .count in
+    let at-u1 = c1 .before .before .u1 in
     let field = field-is (at-count .given .1) (at-u1 .ensures) in
     (said-inside field, λ o p. p)
 
@@ -58,11 +62,15 @@ enum-told-2 c = c .match2 .keys2
 
 returns-3 : tie.Need-returns-3 Inv-loop μ-loop
 returns-3 c =
-    let start = c .before .before .before .before .before .before .before .before .before .before .before in
-    let at-u1 = c .before .before .before .before .before .before .before .before .before .u1 in
-    let at-count = c .before .before .before .before .before .before .before .count in
-    let at-loop = c .before .before .before .before .loop in
-    let at-aid = c .before .before .aid in
+    let c1 = c .before .before in
+    let at-aid = c1 .aid in
+    let c2 = c1 .before .before in
+    let at-loop = c2 .loop in
+    let c3 = c2 .before .before .before in
+    let at-count = c3 .count in
+    let c4 = c3 .before .before in
+    let at-u1 = c4 .u1 in
+    let start = c4 .before .before in
     let at-enum-told2 = c .enum-told2 in
     let field = field-is (at-count .given .1) (at-u1 .ensures) in
     let bad = aid-bad (at-enum-told2 .given .1) (at-aid .ensures) in
@@ -76,17 +84,20 @@ loop-less c = omega arith
 
 loop-again : tie.Need-loop-again Inv-loop μ-loop
 loop-again c =
-    let at-loop = c .before .before .before .before .before .loop in
-    let at-aid = c .before .before .before .aid in
+    let c1 = c .before .before .before in
+    let at-aid = c1 .aid in
+    let at-loop = c1 .before .before .loop in
     let at-next = c .before .next in
     let aid-read = aid-is (at-next .given .1) (at-aid .ensures) in
     (said-inside aid-read, loop-next aid (at-loop .left) (at-loop .inv .1) (omega arith) (stop-of aid-read))
 
 returns-4 : tie.Need-returns-4 Inv-loop μ-loop
 returns-4 c =
-    let start = c .before .before .before .before .before .before .before .before in
-    let at-u1 = c .before .before .before .before .before .before .u1 in
-    let at-count = c .before .before .before .before .count in
+    let c1 = c .before .before .before .before in
+    let at-count = c1 .count in
+    let c2 = c1 .before .before in
+    let at-u1 = c2 .u1 in
+    let start = c2 .before .before in
     let at-loop = c .before .loop in
     let field = field-is (at-count .given .1) (at-u1 .ensures) in
     let done = loop-done aid (at-loop .left) (at-loop .inv .1) (omega arith) (at-loop .inv .0) in

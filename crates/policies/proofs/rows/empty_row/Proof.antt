@@ -26,13 +26,20 @@ loop-less : tie.Need-loop-less Inv-loop μ-loop
 loop-less c = simp length-set (omega arith)
 
 loop-again : tie.Need-loop-again Inv-loop μ-loop
-loop-again c = (simp length-set (c .before .loop .inv .0), simp length-set (omega arith), clear-more (c .before .loop .row) (c .before .loop .i) (c .loop-test .taken) (c .before .loop .inv .2))
+loop-again c = (
+  simp length-set (c .before .loop .inv .0),
+  simp length-set (omega arith),
+  clear-more (c .before .loop .row) (c .before .loop .i) (c .loop-test .taken) (c .before .loop .inv .2),
+)
 
 same-length : tie.Need-same-length Inv-loop μ-loop
 same-length c = c .before .loop .inv .0
 
 returns : tie.Need-returns Inv-loop μ-loop
-returns c = record { size = omega (arith, c .before .loop .inv .0, c .before .before .pre); clear = λ k h. c .before .loop .inv .2 k (omega (arith, c .before .loop .inv .0, c .before .before .pre)) }
+returns c =
+    let i = c .before .loop .inv in
+    let b = c .before .before in
+    record { size = omega (arith, i .0, b .pre); clear = λ k h. i .2 k (omega (arith, i .0, b .pre)) }
 
 pub empty-row-spec : {M : Type 1} → statement M
 empty-row-spec =

@@ -1,9 +1,8 @@
 -- `policies::rows::with_bit` meets its contract: a power of 2 below the greatest is not cut off. Assumes nothing.
-use Prim.Native.Nat.{ℕ, _%_, _^_}
+use Prim.Native.Nat.{_%_}
 use native.Mathlib.Omega.{arith}
-use mathlib.Core.Path.{_∙_, ap}
+use mathlib.Core.Path.{ap}
 use lib.Bits.{bitOr}
-use lib.Pow.{shl-exact}
 use borrow.Author.Needs.{needs}
 use Rattle.policies.specs.Rows.{withBit}
 use Rattle.policies.proofs.Masks.{one-shifted}

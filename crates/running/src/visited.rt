@@ -1,0 +1,168 @@
+// The classes that the walk of question 20 visits, and the step from one to a parent. The walk keeps a visit at each level: its numbers,
+// which two bytes hold, take no more.
+use chains::Names;
+use fields::wide;
+use homes::Home;
+use homes::HomeFound;
+use slots::Site;
+ghost use mathlib.Core.Path.{_≡_};
+ghost use Prim.Native.Nat.{_≤_};
+ghost use lib.ListN.{length};
+ghost use Rattle.homes.specs.Homes.{RecordIs};
+ghost use Rattle.homes.specs.Found.{Indexed};
+ghost use Rattle.classes.specs.Say.{CountIs};
+ghost use Rattle.slots.specs.Slots.{SmallHome, SlotsTrue};
+ghost use Rattle.running.specs.Walk.{visitHome, visitNames, SmallNames, visitFor, VisitThere, VisitPlaced, PlacedIs, ParentPlaced, ParentVisit};
+
+// A class that is visited for own class `own` over the entries that end at `end`, whose names end at `stored` and at `all`: its home and
+// number, and the place of its record once that is found.
+pub struct Visit {
+    pub end: u16,
+    pub own: u16,
+    pub stored: u16,
+    pub all: u16,
+    pub from: u16,
+    pub to: u16,
+    pub before: u16,
+    pub number: u16,
+    pub place: u16,
+}
+
+// The home of the class.
+pub fn home_of(v: Visit) -> Home
+    ensures { λ r. ⌜ r ≡ visitHome v ⌝ }
+{
+    Home {
+        from: v.from as usize,
+        to: v.to as usize,
+        before: v.before as usize,
+    }
+}
+
+// The names of the own class.
+pub fn names_of(v: Visit) -> Names
+    ensures { λ r. ⌜ r ≡ visitNames v ⌝ }
+{
+    let h = Home {
+        from: 0,
+        to: 0,
+        before: v.end as usize,
+    };
+    Names {
+        end: v.end as usize,
+        own: v.own as usize,
+        stored: v.stored as usize,
+        all: v.all as usize,
+        home: h,
+        number: v.own as usize,
+    }
+}
+
+// The visit of class n at a home, for the own class of these names.
+pub fn visit_for(w: Names, h: Home, n: usize) -> Visit
+    requires { ⌜ SmallNames w × SmallHome h × (n ≤ 65535) ⌝ }
+    ensures { λ r. ⌜ r ≡ visitFor w h n ⌝ }
+{
+    Visit {
+        end: w.end as u16,
+        own: w.own as u16,
+        stored: w.stored as u16,
+        all: w.all as u16,
+        from: h.from as u16,
+        to: h.to as u16,
+        before: h.before as u16,
+        number: n as u16,
+        place: 0,
+    }
+}
+
+// The visit with the place of the class's record.
+pub fn placed<'a>(f: &'a [u8], s: &'a [u8], slots: &mut [u16; 640], v: Visit) -> Visit
+    requires { ⌜ VisitThere (now f) (now s) v × (length (now s) ≤ 65535) ⌝ }
+    requires { ⌜ SlotsTrue (now f) (now s) (now slots) ⌝ }
+    ensures { λ r. ⌜ PlacedIs (now (f .entry)) (now (s .entry)) v r ⌝ }
+    ensures { λ _. ⌜ SlotsTrue (now (f .entry)) (now (s .entry)) (now (slots .exit)) ⌝ }
+{
+    let h = home_of(v);
+    let k = slots::slot_for(slots, h);
+    let x = Site { home: h, slot: k };
+    let c = slots::record_in(f, s, slots, x, v.number as usize);
+    Visit {
+        end: v.end,
+        own: v.own,
+        stored: v.stored,
+        all: v.all,
+        from: v.from,
+        to: v.to,
+        before: v.before,
+        number: v.number,
+        place: c as u16,
+    }
+}
+
+// The record of the class, as a part of whichever holds it.
+fn record_of<'a>(f: &'a [u8], s: &'a [u8], v: Visit) -> &'a [u8]
+    requires { ⌜ VisitPlaced (now f) (now s) v ⌝ }
+    ensures { λ r. ⌜ RecordIs (now (f .entry)) (now (s .entry)) (visitHome v) (v .number) (now r) ⌝ }
+{
+    let at = v.place as usize;
+    let g = homes::file_of(f, s, home_of(v));
+    &g[at..]
+}
+
+// How many parents the class has.
+pub fn parents_in<'a>(f: &'a [u8], s: &'a [u8], v: Visit) -> usize
+    requires { ⌜ VisitPlaced (now f) (now s) v ⌝ }
+    ensures { λ r. ⌜ CountIs (now (f .entry)) (now (s .entry)) (visitHome v) (v .number) r × (r ≤ 8) ⌝ }
+{
+    let c = record_of(f, s, v);
+    wide(c[1])
+}
+
+// The visit of its parent with number i, whose package the index of the earlier entries finds.
+fn parent_visit<'a>(
+    f: &'a [u8],
+    s: &'a [u8],
+    index: &[u16],
+    slots: &mut [u16; 640],
+    v: Visit,
+    i: usize,
+) -> Visit
+    requires { ⌜ ParentPlaced (now f) (now s) v i × (length (now s) ≤ 65535) ⌝ }
+    requires { ⌜ Indexed (now s) (v .end) (now index) ⌝ }
+    requires { ⌜ SlotsTrue (now f) (now s) (now slots) ⌝ }
+    ensures { λ r. ⌜ ParentVisit (now (f .entry)) (now (s .entry)) v i r ⌝ }
+    ensures { λ _. ⌜ SlotsTrue (now (f .entry)) (now (s .entry)) (now (slots .exit)) ⌝ }
+{
+    let h = home_of(v);
+    let k = slots::slot_for(slots, h);
+    let x = Site { home: h, slot: k };
+    let c = record_of(f, s, v);
+    let number = wide(c[3 + 2 * i]);
+    match slots::import_in(f, s, v.end as usize, index, slots, x, wide(c[2 + 2 * i])) {
+        HomeFound::At(g) => visit_for(names_of(v), g, number),
+        HomeFound::Nothing => v,
+    }
+}
+
+// The same in a frame of its own.
+pub fn parent_apart<'a>(
+    f: &'a [u8],
+    s: &'a [u8],
+    index: &[u16],
+    slots: &mut [u16; 640],
+    v: Visit,
+    i: usize,
+    budget: usize,
+) -> Visit
+    requires { ⌜ ParentPlaced (now f) (now s) v i × (length (now s) ≤ 65535) ⌝ }
+    requires { ⌜ Indexed (now s) (v .end) (now index) ⌝ }
+    requires { ⌜ SlotsTrue (now f) (now s) (now slots) ⌝ }
+    ensures { λ r. ⌜ ParentVisit (now (f .entry)) (now (s .entry)) v i r ⌝ }
+    ensures { λ _. ⌜ SlotsTrue (now (f .entry)) (now (s .entry)) (now (slots .exit)) ⌝ }
+{
+    if 0 < budget {
+        return parent_apart(f, s, index, slots, v, i, budget - 1);
+    }
+    parent_visit(f, s, index, slots, v, i)
+}
