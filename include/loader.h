@@ -66,11 +66,11 @@
  * it has fewer than LOADER_STORE_MOST bytes.
  *
  * Time. Every operation but fresh judges each installed package again, so its
- * time grows with the bytes installed. Measured on one core of an AMD EPYC with
+ * time grows with the bytes installed. Measured on one core of an Intel Xeon with
  * ordinary packages (docs/BENCHMARKS.md has every figure), an operation takes
- * about 0.06 ms over a full store of 8,192 bytes and 0.6 ms over one of 65,535.
+ * about 0.08 ms over a full store of 8,192 bytes and 0.7 ms over one of 65,535.
  * These are no bounds. Packages can be made for the purpose of taking longer: an
- * operation over the slowest store of 65,535 bytes that was found takes 4 to 6
+ * operation over the slowest store of 65,535 bytes that was found takes 2 to 3
  * seconds. For each package judged the time is at most a constant times its
  * file's bytes times the bytes of the packages that it imports, directly or not.
  *
@@ -80,11 +80,11 @@
  *
  *                       store to 8,192 bytes    larger
  *     loader_fresh                       300       300
- *     loader_create                    8,900    21,300
- *     loader_delete                    8,900    21,300
- *     loader_load                      8,900    21,300
- *     loader_remove                    8,900    21,300
- *     loader_query                     8,900    21,300
+ *     loader_create                    7,900    18,400
+ *     loader_delete                    7,900    18,400
+ *     loader_load                      7,900    18,400
+ *     loader_remove                    7,900    18,400
+ *     loader_query                     7,900    18,400
  *
  * Linking. libloader.a is for x86-64 Linux. It needs one function from outside:
  * memset, as C99 has it. This header compiles where int has 16 bits or more, and

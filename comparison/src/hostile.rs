@@ -10,6 +10,9 @@ use independent::ledger::{Call, Entry};
 pub const CHAIN: &str = "a kind-0 chain of 7 × 64 names above classes of 13 bytes";
 pub const CHAIN_LISTS: &str = "the same with fewer names and lists of 32 indexes";
 pub const LISTS_BY_TURNS: &str = "lists of 32 indexes, the running methods in two packages by turns";
+pub const LISTS_REVERSED: &str = "lists of 32 indexes, the domains in the other order";
+pub const TURNS_REVERSED: &str = "by turns, the domains in the other order";
+pub const TURNS_TWICE: &str = "by turns, each domain twice, and listed by its second place";
 pub const BELOW: &str = "small packages with a method each below a ladder";
 pub const CROSSING: &str = "parents crossing four packages a level";
 pub const DOMAINS: &str = "domains in the order that costs most";
@@ -27,8 +30,11 @@ pub const CHAIN_SIZES: [usize; 4] = [8, 16, 32, 64];
 /// All of them, in the order of the table.
 pub fn all() -> Vec<Workload> {
     let mut found: Vec<Workload> = CHAIN_SIZES.iter().map(|kb| chain(*kb)).collect();
-    found.push(chain_of_lists());
-    found.push(lists_by_turns());
+    found.push(chain_of_lists(CHAIN_LISTS, Lists::alike()));
+    found.push(chain_of_lists(LISTS_REVERSED, Lists::reversed()));
+    found.push(lists_by_turns(LISTS_BY_TURNS, Lists::alike()));
+    found.push(lists_by_turns(TURNS_REVERSED, Lists::reversed()));
+    found.push(lists_by_turns(TURNS_TWICE, Lists::twice()));
     found.push(below(8));
     found.push(crossing(6, 32, 8));
     found.push(domains(DOMAINS, |numbers| numbers.reverse()));
@@ -175,25 +181,55 @@ fn chain(kb: usize) -> Workload {
     workload(CHAIN, &entries, length)
 }
 
-fn chain_of_lists() -> Workload {
-    let domains: Vec<Vec<u8>> = (0..32).map(long).collect();
+/// The domains of the methods that run and of those asked for, and which of them the former list.
+struct Lists {
+    running: Vec<Vec<u8>>,
+    asked: Vec<Vec<u8>>,
+    listed: Vec<u8>,
+}
+
+impl Lists {
+    /// 32 domains in the same order, all listed.
+    fn alike() -> Self {
+        let domains: Vec<Vec<u8>> = (0..32).map(long).collect();
+        let (running, asked) = (domains.clone(), domains);
+        Lists { running, asked, listed: (0..32).collect() }
+    }
+
+    /// In the other order.
+    fn reversed() -> Self {
+        let asked = (0..32).rev().map(long).collect();
+        Lists { asked, ..Lists::alike() }
+    }
+
+    /// Each twice, the second time alone listed by the methods that run.
+    fn twice() -> Self {
+        let running = (0..32).map(|k| long(k / 2)).collect();
+        let asked = (0..32).rev().map(|k| long(k / 2)).collect();
+        Lists { running, asked, listed: (0..32).filter(|k| k % 2 == 1).collect() }
+    }
+}
+
+fn asking_all() -> ClassModel {
     let all: Vec<u8> = (0..32).collect();
+    ClassModel::new(1, &[], (0..4).map(|name| asked(name, &all)).collect())
+}
+
+fn chain_of_lists(name: &'static str, lists: Lists) -> Workload {
     let mut entries = start();
-    entries.push(chain_package(1, 4, domains.clone(), &all));
-    let interface = ClassModel::new(1, &[], (0..4).map(|name| asked(name, &all)).collect());
-    let entries = below_chain(entries, LARGEST, interface, 8, &domains, 4);
-    workload(CHAIN_LISTS, &entries, LARGEST)
+    entries.push(chain_package(1, 4, lists.running, &lists.listed));
+    let entries = below_chain(entries, LARGEST, asking_all(), 8, &lists.asked, 4);
+    workload(name, &entries, LARGEST)
 }
 
 /// The same where the methods that run lie in two packages by turns.
-fn lists_by_turns() -> Workload {
-    let domains: Vec<Vec<u8>> = (0..32).map(long).collect();
-    let all: Vec<u8> = (0..32).collect();
-    let class = |parents: &[(u8, u8)], names: [u16; 2]| ClassModel::new(0, parents, names.map(|name| runs(name, Some(&all))).to_vec());
+fn lists_by_turns(name: &'static str, lists: Lists) -> Workload {
+    let method = |name| runs(name, Some(&lists.listed));
+    let class = |parents: &[(u8, u8)], names: [u16; 2]| ClassModel::new(0, parents, names.map(method).to_vec());
     let package = |number: usize, imports: Vec<Vec<u8>>, class: ClassModel| {
         packed(FileModel {
             aid: aid(number),
-            domains: domains.clone(),
+            domains: lists.running.clone(),
             imports,
             classes: vec![class],
             ..FileModel::default()
@@ -202,9 +238,8 @@ fn lists_by_turns() -> Workload {
     let mut entries = start();
     entries.push(package(1, vec![], class(&[], [1, 3])));
     entries.push(package(50, vec![aid(1)], class(&[(1, 0)], [0, 2])));
-    let interface = ClassModel::new(1, &[], (0..4).map(|name| asked(name, &all)).collect());
-    let entries = below_class(entries, LARGEST, interface, 8, &domains, 4, (50, 0));
-    workload(LISTS_BY_TURNS, &entries, LARGEST)
+    let entries = below_class(entries, LARGEST, asking_all(), 8, &lists.asked, 4, (50, 0));
+    workload(name, &entries, LARGEST)
 }
 
 /// Seven packages of 32 interfaces with so many methods, and packages of one class below the last.

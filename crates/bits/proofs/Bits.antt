@@ -1,5 +1,5 @@
 -- What setting a bit of a byte does to its bits, and from there over the set. Assumes nothing.
-use Prim.Native.Nat.{ℕ, zero, suc, _+_, _/_, _%_, _<_, max}
+use Prim.Native.Nat.{ℕ, zero, suc, _+_, _/_, _%_, _<_, max, _^_}
 use native.Mathlib.Omega.{arith}
 use mathlib.Core.Path.{_≡_, refl, sym, ap₂, _∙_}
 use mathlib.Core.Bool.{Bool, true, false, _&&_, _||_}
@@ -94,6 +94,11 @@ zeros-more s i hi z k h = go (eqb k i) refl
     go : (b : Bool) → eqb k i ≡ b → getD (set s i 0) k 0 ≡ 0
     go true e = rw (eqb-true k i e, getD-set-same s i 0 0 hi) refl
     go false e = let ne = eqb-false k i e in rw (getD-set-other s i k 0 0 ne) (z k (omega (arith, ne)))
+
+-- a power of two
+pub power-is : (k : ℕ) → k < 8 → 2 ^ k ≡ powerOf k
+unfolding allBelow powerOf
+power-is k h = eqb-true _ _ (is-true _ (below-all (λ k. eqb (2 ^ k) (powerOf k)) 8 tt k h))
 
 pub power-pos : (k : ℕ) → k < 8 → 0 < powerOf k
 unfolding allBelow powerOf

@@ -1,5 +1,5 @@
--- Laws of bits and of half bytes.
+-- Laws of bits and of fields.
 mod Digits
 pub mod Bits
 pub mod Within
-pub mod Halves
+pub mod Fields

@@ -1,2 +1,2 @@
--- What the functions over bits and half bytes ensure.
+-- What the functions over bits and fields ensure.
 pub mod Bits

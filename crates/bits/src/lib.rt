@@ -1,9 +1,9 @@
-// Bit sets and half bytes over bytes: bit i is bit i % 8 of byte i / 8, half byte i is in byte i / 2.
+// Bit sets and fields of a width over bytes: bit i is bit i % 8 of byte i / 8, field i of w bits has the bits from i * w on.
 ghost use mathlib.Core.Path.{_≡_};
 ghost use mathlib.Core.Bool.{true, false};
-ghost use Prim.Native.Nat.{ℕ, _/_, _<_, _≤_};
+ghost use Prim.Native.Nat.{ℕ, _+_, _*_, _/_, _^_, _<_, _≤_};
 ghost use lib.ListN.{length};
-ghost use Rattle.bits.specs.Bits.{powerOf, bitAt, withBit, WithinIs, halfAt, withHalf};
+ghost use Rattle.bits.specs.Bits.{powerOf, bitAt, withBit, WithinIs, twoAt, fieldAt, withField, PutIs};
 
 const POWERS: [u8; 8] = [1, 2, 4, 8, 16, 32, 64, 128];
 
@@ -20,7 +20,7 @@ pub fn get(s: &[u8], i: usize) -> bool
     requires { ⌜ i / 8 < length (now s) ⌝ }
     ensures { λ r. ⌜ r ≡ bitAt (now (s .entry)) i ⌝ }
 {
-    s[i / 8] / power(i % 8) % 2 == 1
+    (s[i / 8] >> (i % 8)) % 2 == 1
 }
 
 // Bit i is set, and no other is changed.
@@ -48,10 +48,9 @@ pub fn is_within(a: &[u8], b: &[u8]) -> bool
     true
 }
 
-// No bit is set, and each half byte is 0.
+// No bit is set.
 pub fn clear(s: &mut [u8])
     ensures { λ _. ⌜ ((j : ℕ) → bitAt (now (s .exit)) j ≡ false) ⌝ }
-    ensures { λ _. ⌜ ((j : ℕ) → halfAt (now (s .exit)) j ≡ 0) ⌝ }
 {
     let mut i: usize = 0;
     while i < s.len() {
@@ -60,11 +59,10 @@ pub fn clear(s: &mut [u8])
     }
 }
 
-// No bit of the first n bytes is set, and each of their half bytes is 0.
+// No bit of the first n bytes is set.
 pub fn clear_to(s: &mut [u8], n: usize)
     requires { ⌜ n ≤ length (now s) ⌝ }
     ensures { λ _. ⌜ ((j : ℕ) → j / 8 < n → bitAt (now (s .exit)) j ≡ false) ⌝ }
-    ensures { λ _. ⌜ ((j : ℕ) → j / 2 < n → halfAt (now (s .exit)) j ≡ 0) ⌝ }
 {
     let mut i: usize = 0;
     while i < n {
@@ -73,27 +71,41 @@ pub fn clear_to(s: &mut [u8], n: usize)
     }
 }
 
-// The half byte with number i.
-pub fn half_get(s: &[u8], i: usize) -> u8
-    requires { ⌜ i / 2 < length (now s) ⌝ }
-    ensures { λ r. ⌜ (r ≡ halfAt (now (s .entry)) i) × (r < 16) ⌝ }
+// The two bytes from number b on, as a number.
+fn two_at(s: &[u8], b: usize) -> usize
+    requires { ⌜ b + 1 < length (now s) ⌝ }
+    ensures { λ r. ⌜ (r ≡ twoAt (now (s .entry)) b) × (r < 65536) ⌝ }
 {
-    let w = s[i / 2];
-    if i % 2 == 0 {
-        return w % 16;
-    }
-    w / 16
+    s[b] as usize + 256 * (s[b + 1] as usize)
 }
 
-// Half byte i is v, and no other is changed.
-pub fn half_put(s: &mut [u8], i: usize, v: u8)
-    requires { ⌜ (i / 2 < length (now s)) × (v < 16) ⌝ }
-    ensures { λ _. ⌜ ((j : ℕ) → halfAt (now (s .exit)) j ≡ withHalf (halfAt (now (s .entry))) i v j) ⌝ }
+// The field with number i of w bits.
+pub fn field_get(s: &[u8], w: usize, i: usize) -> usize
+    requires { ⌜ (w ≤ 8) × (i < 65536) × (i * w / 8 + 1 < length (now s)) ⌝ }
+    ensures { λ r. ⌜ (r ≡ fieldAt w (now (s .entry)) i) × (r < 2 ^ w) ⌝ }
 {
-    let w = s[i / 2];
-    if i % 2 == 0 {
-        s[i / 2] = w / 16 * 16 + v;
-        return;
-    }
-    s[i / 2] = v * 16 + w % 16;
+    let at = i * w;
+    let x = two_at(s, at / 8);
+    (x >> (at % 8)) % (1 << w)
+}
+
+// Two bytes with v in place of the w bits from bit r on.
+fn with_bits(x: usize, r: usize, w: usize, v: usize) -> usize
+    requires { ⌜ (x < 65536) × (r < 8) × (w ≤ 8) × (v < 2 ^ w) ⌝ }
+    ensures { λ y. ⌜ PutIs x r w v y × (y < 65536) ⌝ }
+{
+    let high = x >> r >> w;
+    (((high << w) + v) << r) + x % (1 << r)
+}
+
+// Field i of w bits is v, and no other is changed.
+pub fn field_put(s: &mut [u8], w: usize, i: usize, v: usize)
+    requires { ⌜ (w ≤ 8) × (i < 65536) × (i * w / 8 + 1 < length (now s)) × (v < 2 ^ w) ⌝ }
+    ensures { λ _. ⌜ ((j : ℕ) → fieldAt w (now (s .exit)) j ≡ withField (fieldAt w (now (s .entry))) i v j) ⌝ }
+{
+    let at = i * w;
+    let b = at / 8;
+    let y = with_bits(two_at(s, b), at % 8, w, v);
+    s[b] = (y % 256) as u8;
+    s[b + 1] = (y / 256) as u8;
 }

@@ -10,7 +10,7 @@ use fields::wide;
 use references::called;
 use refusals::first_no;
 ghost use mathlib.Core.Path.{_≡_};
-ghost use Rattle.codes.specs.Table.{TableIs};
+ghost use Rattle.instructions.specs.Table.{TableIs};
 ghost use Rattle.rules.specs.Bytes.{Bytes};
 ghost use Rattle.files.specs.Say.{Readable};
 ghost use Rattle.homes.specs.Found.{ImportHomes};

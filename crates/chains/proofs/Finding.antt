@@ -17,7 +17,7 @@ use Rattle.classes.specs.declared.ClassSpot.{ClassSpot}
 use Rattle.classes.proofs.Places.{own-depth}
 use Rattle.chains.specs.Say.{RunningThere}
 use Rattle.chains.specs.Chain.{mostLinks, namesStart, Part, Same, PartRoom, PartIs}
-use Rattle.chains.specs.Names.{firstLink, Gathered, GatheredAll, NamesIs, KeptFor, Kept, Room, PartThere}
+use Rattle.chains.specs.Names.{firstLink, Gathered, GatheredAll, namesOf, NamesIs, KeptFor, Kept, Room, PartThere}
 use Rattle.chains.specs.declared.Names.{Names}
 use Rattle.chains.proofs.Methods.{own-there, own-class}
 use Rattle.chains.proofs.Links.{part-inside, part-same}
@@ -34,12 +34,16 @@ module _ (f s : Bytes) where
         few = t .few;
       }
 
-  pub kept-after : (l m : List ℕ) (c : ClassSpot) (j : ℕ) (stop : ClassFound) (kept : Names) → PartIs f s l m c 16 j stop → Kept f s l kept → Kept f s m kept
-  kept-after l m c j stop kept p k z = kept-same l m (kept .home) (kept .number) (kept .stored) z (λ x u v. p .below x u v) (λ x u v. p .above x u)
-      (p .size) (k z)
-
   pub room-after : (l m : List ℕ) → length m ≡ length l → Room f s l → Room f s m
   room-after l m e r = record { size = omega (arith, e, r .size); file = r .file; store = r .store }
+
+  -- names that are told by their numbers
+  pub names-told : (l : List ℕ) (end b to all : ℕ) (c : ClassSpot) (v : Names) → v ≡ namesOf end b to all c →
+      NamesIs f s l (namesOf end b to all c) → Kept f s l (namesOf end b to all c) → ((v .end ≡ end) × (v .own ≡ b) × NamesIs f s l v) × Kept f s l v
+  names-told l end b to all c v e q k = (
+    (ap (λ (w : Names). w .end) e, ap (λ (w : Names). w .own) e, subst (NamesIs f s l) (sym e) q),
+    subst (Kept f s l) (sym e) k,
+  )
 
   module _ (end b : ℕ) (there : RunningThere f s end b) (h : Home) (eh : h ≡ ownHome end) where
     own-room : PartRoom f s end 16 (16 + storeLimits s .depth) h b
@@ -52,13 +56,19 @@ module _ (f s : Bytes) where
           within = own-depth f s end b (there .0) (there .1) (there .2 .judged) (y .0) (y .1);
         })
 
-    pub find-room : PartRoom f s end 16 (16 + mostLinks) h b
-    find-room = room-more f s end 16 (16 + storeLimits s .depth) 16 (16 + mostLinks) h b (omega (arith, (limits-range s) .0)) own-room
+    pub find-room : PartRoom f s end (firstLink h) (firstLink h + mostLinks) h b
+    find-room = room-more f s end 16 (16 + storeLimits s .depth) (firstLink h) (firstLink h + mostLinks) h b (omega (arith, (limits-range s) .0)) own-room
 
     own-link : firstLink h ≡ 16
     own-link = ap firstLink eh
 
-    module _ (l m : List ℕ) (j : ℕ) (stop : ClassFound) (p : PartIs f s l m (record { home = h; number = b }) 16 j stop) where
+    module _ (l m : List ℕ) (j : ℕ) (stop : ClassFound) (found : PartIs f s l m (record { home = h; number = b }) (firstLink h) j stop) where
+      p : PartIs f s l m (record { home = h; number = b }) 16 j stop
+      p = subst (λ (i : ℕ). PartIs f s l m (record { home = h; number = b }) i j stop) own-link found
+
+      pub kept-after : (kept : Names) → Kept f s l kept → Kept f s m kept
+      kept-after kept k z = kept-same l m (kept .home) (kept .number) (kept .stored) z (λ x u v. p .below x u v) (λ x u v. p .above x u) (p .size) (k z)
+
       -- the stored class that follows has room
       pub next-room : (d : ClassSpot) → stop ≡ classes.At d → PartRoom f s end j (16 + storeLimits s .depth) (d .home) (d .number)
       next-room d e = part-room f s m h b 16 j (classes.At d) end (16 + storeLimits s .depth)

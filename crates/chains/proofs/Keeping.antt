@@ -102,10 +102,14 @@ module _ (f s : Bytes) where
 
   -- stored names
   module _ (end : ℕ) (d : ClassSpot) (stored : 0 < d .home .from) (room : PartRoom f s end 0 (storeLimits s .depth) (d .home) (d .number)) where
-    pub stored-room : PartRoom f s end 0 (0 + mostLinks) (d .home) (d .number)
-    stored-room = room-more end 0 (storeLimits s .depth) 0 (0 + mostLinks) (d .home) (d .number) (omega (arith, (limits-range s) .0)) room
+    pub stored-room : PartRoom f s end (firstLink (d .home)) (firstLink (d .home) + mostLinks) (d .home) (d .number)
+    stored-room = room-more end 0 (storeLimits s .depth) (firstLink (d .home)) (firstLink (d .home) + mostLinks) (d .home) (d .number)
+        (omega (arith, (limits-range s) .0)) room
 
-    module _ (l m : List ℕ) (j : ℕ) (stop : ClassFound) (p : PartIs f s l m d 0 j stop) where
+    module _ (l m : List ℕ) (j : ℕ) (stop : ClassFound) (found : PartIs f s l m d (firstLink (d .home)) j stop) where
+      p : PartIs f s l m d 0 j stop
+      p = subst (λ (i : ℕ). PartIs f s l m d i j stop) (link-stored (d .home) stored) found
+
       first : Part f s m (d .home) (d .number) (firstLink (d .home)) j stop
       first = subst (λ (i : ℕ). Part f s m (d .home) (d .number) i j stop) (sym (link-stored (d .home) stored)) (p .part)
 

@@ -6,6 +6,7 @@
 -- Gathers              == what gathering the methods of one class does to a table
 -- Gathered f s l h n stop a e == the numbers from a up to e are the places of the first method of each name, in the part of a chain that
 --                         begins with class n at home h and ends at stop
+-- namesOf              == names by their numbers, and the class whose chain the stored ones are of
 -- NamesIs f s l v      == the names of own class v.own over the entries that end at v.end
 -- Kept f s l v         == what of them stays right for the next own class
 use Prim.Native.Nat.{ℕ, suc, _+_, _-_, _*_, _<_, _≤_}
@@ -26,6 +27,7 @@ use Rattle.homes.specs.declared.Home.{Home}
 use Rattle.classes.specs.Say.{ClassThere, AtClass}
 use Rattle.classes.specs.declared.ClassFound.{ClassFound}
 use Rattle.classes.specs.declared.ClassFound.the-variants as classes
+use Rattle.classes.specs.declared.ClassSpot.{ClassSpot}
 use Rattle.methods.specs.Table.{nameAt, Has, Nameless, Sorted, Entered}
 use Rattle.chains.specs.Say.{FirstIs, RunningThere, RunsIs}
 use Rattle.chains.specs.Chain.{mostLinks, namesStart, linkHome, Leaves, Part, Same}
@@ -107,6 +109,9 @@ HitRuns f s l i q r = (end b x : ℕ) → RunningThere f s end b → Hit f s l i
 abbrev pub StoredIs : Bytes → Bytes → List ℕ → ℕ → ClassFound → Type 0
 StoredIs f s l e (classes.At d) = Gathered f s l (d .home) (d .number) classes.Nothing namesStart e
 StoredIs f s l e classes.Nothing = e ≡ namesStart
+
+abbrev pub namesOf : ℕ → ℕ → ℕ → ℕ → ClassSpot → Names
+namesOf end own stored all c = record { end = end; own = own; stored = stored; all = all; home = c .home; number = c .number }
 
 pub record NamesIs (f s : Bytes) (l : List ℕ) (v : Names) : Type 0 where
   pub stop : ClassFound

@@ -8,13 +8,13 @@ use lib.Dec.{T}
 use lib.ListN.{length}
 use Rattle.rules.specs.Bytes.{Bytes, isSome, someAnd, listOf, flat}
 use Rattle.rules.specs.Code.{Call, callAt, callsOf, instructionLength, splitFrom, split, lastMayEnd, codeSplits}
-use Rattle.codes.specs.Table.{nonzero}
-use Rattle.codes.specs.Calls.{kindOf, Whole, SplitsFrom, callsFrom, callsHere, IndexFits}
+use Rattle.instructions.specs.Table.{nonzero, Whole}
+use Rattle.codes.specs.Calls.{kindOf, SplitsFrom, callsFrom, callsHere, IndexFits}
 use Rattle.codes.specs.declared.Calling.{Calling}
 use Rattle.codes.specs.declared.CallHere.{CallHere}
 use Rattle.codes.specs.declared.CallHere.the-variants as here
 use Rattle.codes.proofs.Splitting.{split-turn, split-ended, split-inside}
-use Rattle.codes.proofs.Sizes.{nonzero-is, whole-nonzero}
+use Rattle.instructions.proofs.Sizes.{nonzero-is, whole-nonzero}
 
 -- from offset 0 on they are the calls of the code
 pub calls-start : (code : Bytes) → callsFrom code 0 ≡ callsOf code

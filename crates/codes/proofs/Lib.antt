@@ -1,6 +1,4 @@
 -- The laws that the proofs of this crate's functions cite.
-mod Rule
-mod Sizes
 mod Targets
 mod Adding
 mod Splitting

@@ -1,19 +1,19 @@
--- The four opcodes of calls: their lengths, and the call that each is; the opcodes that may come last. Assumes nothing.
-use Prim.Native.Nat.{ℕ, _+_, _<_, _≤_}
+-- The four opcodes of calls: their lengths, and the call that each is. Assumes nothing.
+use Prim.Native.Nat.{ℕ, _+_, _≤_}
 use native.Mathlib.Omega.{arith}
 use native.Mathlib.Decide.{decLe, ℕ-discrete}
-use mathlib.Core.Path.{_≡_, sym, ap, ap₂, _∙_, subst}
-use mathlib.Core.Bool.{Bool, true, false, _||_, and-false, or-false}
+use mathlib.Core.Path.{_≡_, sym, ap, _∙_, subst}
+use mathlib.Core.Bool.{false, or-false}
 use mathlib.Core.List.{[], _∷_}
 use lib.Dec.{T, leb, eqb, leb→le}
 use lib.ListN.{length}
-use borrow.Author.Tests.{eq-eqb, ne-eqb, eqb-true, le-leb, lt-leb}
+use borrow.Author.Tests.{eq-eqb, ne-eqb, eqb-true, lt-leb}
 use Rattle.rules.specs.Bytes.{Bytes, isSome, within}
-use Rattle.rules.specs.Code.{u1At, u2At, Length, byOpcode, lengthOf, fits, lengthAs, instructionLength, virtual, special, static, interface, callAt, mayEnd}
+use Rattle.rules.specs.Code.{u1At, u2At, Length, byOpcode, lengthOf, fits, lengthAs, instructionLength, virtual, special, static, interface, callAt}
 use Rattle.rules.proofs.Tests.{and-l, and-r}
-use Rattle.codes.specs.Table.{Says}
+use Rattle.instructions.proofs.Ends.{in-range}
+use Rattle.instructions.specs.Table.{Says, Whole}
 use Rattle.codes.specs.Marks.{empty}
-use Rattle.codes.specs.Calls.{Whole}
 
 -- an instruction of a byOpcode length that is there whole has its bytes
 whole-byOpcode : (code : Bytes) (at n : ℕ) → lengthOf (u1At code at) ≡ byOpcode n → Whole code at → at + n ≤ length code
@@ -82,16 +82,6 @@ module _ (code : Bytes) (at : ℕ) where
   unfolding callAt
   no-call a b c d = rw (ne-eqb (u1At code at) 0x8B a, ne-eqb (u1At code at) 0x8C b, ne-eqb (u1At code at) 0x8D c, ne-eqb (u1At code at) 0x8E d)
 
--- a range of opcodes, by the order
-out-below : (lo hi n : ℕ) → n < lo → within lo hi n ≡ false
-out-below lo hi n h = rw (lt-leb lo n h)
-
-out-above : (lo hi n : ℕ) → hi < n → within lo hi n ≡ false
-out-above lo hi n h = rw (lt-leb n hi h) (and-false (leb lo n))
-
-in-range : (lo hi n : ℕ) → lo ≤ n → n ≤ hi → within lo hi n ≡ true
-in-range lo hi n a b = rw (le-leb lo n a, le-leb n hi b)
-
 -- the form of an opcode tells whether it calls
 module _ (code : Bytes) (at f n : ℕ) (s : Says (u1At code at) f n) where
   range-is : within 0x8B 0x8E (u1At code at) ≡ eqb f 1
@@ -124,35 +114,3 @@ module _ (code : Bytes) (at f n : ℕ) (s : Says (u1At code at) f n) where
           let low = leb→le 0x8B (u1At code at) (and-l (leb 0x8B (u1At code at)) (leb (u1At code at) 0x8E) inside) in
           let high = leb→le (u1At code at) 0x8E (and-r (leb 0x8B (u1At code at)) (leb (u1At code at) 0x8E) inside) in
           omega arith
-
--- a range of one opcode
-one-is : (k n : ℕ) → within k k n ≡ eqb n k
-one-is k n = elim (ℕ-discrete n k) [
-  | yes e ↦ in-range k k n (omega arith) (omega arith) ∙ sym (eq-eqb n k e)
-  | no e ↦ elim (decLe n k) [
-    | yes h ↦ out-below k k n (omega arith) ∙ sym (ne-eqb n k e)
-    | no h ↦ out-above k k n (omega arith) ∙ sym (ne-eqb n k e)
-  ]
-]
-
-module _ (o : ℕ) where
-  -- the opcodes that may come last, by the tests in order
-  may-end-is : mayEnd o ≡ (eqb o 0x70 || (within 0x72 0x7A o || (eqb o 0x93 || (eqb o 0xA8 || false))))
-  unfolding mayEnd
-  may-end-is = ap₂ (λ (a b : Bool). a || b) (one-is 0x70 o)
-      (ap₂ (λ (a b : Bool). within 0x72 0x7A o || (a || (b || false))) (one-is 0x93 o) (one-is 0xA8 o))
-
-  pub end-70 : o ≡ 0x70 → mayEnd o ≡ true
-  end-70 e = may-end-is ∙ rw (eq-eqb o 0x70 e)
-
-  pub end-below : (o ≡ 0x70 → ⊥) → o < 0x72 → mayEnd o ≡ false
-  end-below e h = may-end-is ∙ rw (ne-eqb o 0x70 e, out-below 0x72 0x7A o h, ne-eqb o 0x93 (λ q. omega arith), ne-eqb o 0xA8 (λ q. omega arith))
-
-  pub end-range : 0x72 ≤ o → o ≤ 0x7A → mayEnd o ≡ true
-  end-range a b = may-end-is ∙ rw (ne-eqb o 0x70 (λ q. omega arith), in-range 0x72 0x7A o a b)
-
-  pub end-93 : o ≡ 0x93 → mayEnd o ≡ true
-  end-93 e = may-end-is ∙ rw (ne-eqb o 0x70 (λ q. omega arith), out-above 0x72 0x7A o (omega arith), eq-eqb o 0x93 e)
-
-  pub end-A8 : 0x7A < o → (o ≡ 0x93 → ⊥) → mayEnd o ≡ eqb o 0xA8
-  end-A8 h e = may-end-is ∙ rw (ne-eqb o 0x70 (λ q. omega arith), out-above 0x72 0x7A o h, ne-eqb o 0x93 e) (or-false (eqb o 0xA8))

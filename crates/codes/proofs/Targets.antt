@@ -14,7 +14,7 @@ use lib.IntN.{ℤ, pos, _+ℤ_}
 use borrow.Author.Tests.{eq-eqb, ne-eqb, le-leb, lt-leb}
 use Rattle.rules.specs.Bytes.{Bytes, pick, listOf}
 use Rattle.rules.specs.Code.{u1At, s1At, s2At, byOpcode, undefined, targetsEach, switchTargets, targetsAs, targetsAt, switchEntries}
-use Rattle.codes.specs.Table.{switchOf, told, Says}
+use Rattle.instructions.specs.Table.{switchOf, told, Says}
 use Rattle.codes.specs.Marks.{entryTargets}
 
 pub mul-less : (k n : ℕ) → 0 < n → k * n ≡ k * (n - 1) + k

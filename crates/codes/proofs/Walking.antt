@@ -12,9 +12,9 @@ use Rattle.rules.specs.Bytes.{Bytes, any, flat, _andThen_}
 use Rattle.rules.specs.Code.{u1At, instructionLength, splitFrom, split, targetsAt, Call, callAt}
 use Rattle.rules.proofs.Tests.{none-some}
 use Rattle.bits.specs.Bits.{bitAt, withBit}
-use Rattle.codes.specs.Table.{Says, nonzero}
+use Rattle.instructions.specs.Table.{Says, nonzero}
 use Rattle.codes.specs.Marks.{Marks, Adds, lastOf, lastIn, empty, Passed, Walk}
-use Rattle.codes.proofs.Sizes.{nonzero-is, nonzero-none}
+use Rattle.instructions.proofs.Sizes.{nonzero-is, nonzero-none}
 use Rattle.codes.proofs.Splitting.{behind, split-end, split-none, split-more}
 use Rattle.codes.proofs.Adding.{any-join, adds-nil, adds-join, adds-is}
 use Rattle.codes.proofs.Targets.{no-targets}

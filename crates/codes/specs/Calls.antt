@@ -10,7 +10,7 @@ use mathlib.Core.List.{List, [], _∷_}
 use lib.Dec.{T}
 use lib.ListN.{length}
 use Rattle.rules.specs.Bytes.{Bytes, isSome, listOf, flat}
-use Rattle.rules.specs.Code.{CallKind, virtual, special, static, interface, Call, callAt, splitFrom, instructionLength}
+use Rattle.rules.specs.Code.{CallKind, virtual, special, static, interface, Call, callAt, splitFrom}
 use Rattle.codes.specs.declared.Calling.{Calling}
 use Rattle.codes.specs.declared.Calling.the-variants.{Virtual, Special, Static, Interface}
 use Rattle.codes.specs.declared.CallHere.{CallHere}
@@ -24,10 +24,6 @@ kindOf Virtual = virtual
 kindOf Special = special
 kindOf Static = static
 kindOf Interface = interface
-
--- an instruction is there whole
-abbrev pub Whole : Bytes → ℕ → Type 0
-Whole code at = T (isSome (instructionLength code at))
 
 -- the code splits from an offset to its end
 unfoldable pub SplitsFrom : Bytes → ℕ → Type 0

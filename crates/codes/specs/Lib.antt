@@ -1,4 +1,3 @@
 -- What the contracts of this crate cite beside the definitions of document 01.
-pub mod Table
 pub mod Marks
 pub mod Calls

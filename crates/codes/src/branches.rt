@@ -1,17 +1,16 @@
 // Branches: each target that lies in the code sets its bit. Every answer says whether all of them do; where one does not, the bits are of no
 // account.
-use super::instructions::entries_of;
 use fields::u2_at;
 use fields::wide;
+use instructions::entries_of;
 ghost use mathlib.Core.List.{[], _∷_};
 ghost use Prim.Native.Nat.{_+_, _-_, _*_, _/_, _%_, _<_, _≤_};
 ghost use lib.IntN.{pos, _+ℤ_};
 ghost use lib.ListN.{length};
 ghost use Rattle.bits.specs.Bits.{bitAt};
 ghost use Rattle.rules.specs.Code.{u1At, signed, targetsEach, targetsAt};
-ghost use Rattle.codes.specs.Table.{Says, switchOf};
+ghost use Rattle.instructions.specs.Table.{Says, switchOf, Whole};
 ghost use Rattle.codes.specs.Marks.{entryTargets, Adds};
-ghost use Rattle.codes.specs.Calls.{Whole};
 
 // An offset of a code of n bytes.
 fn mark(targets: &mut [u8], n: usize, to: usize) -> bool

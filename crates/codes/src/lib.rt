@@ -1,7 +1,5 @@
 // Codes: questions 16 and 17 of one code in one walk, and its calls in order.
 mod branches;
-mod instructions;
-mod lengths;
 
 use branches::mark_targets;
 use fields::u2_at;
@@ -14,9 +12,9 @@ ghost use Prim.Native.Nat.{ℕ, _*_, _/_, _+_, _<_, _≤_};
 ghost use lib.ListN.{length};
 ghost use Rattle.bits.specs.Bits.{bitAt};
 ghost use Rattle.rules.specs.Code.{callAt};
-ghost use Rattle.codes.specs.Table.{TableIs};
+ghost use Rattle.instructions.specs.Table.{TableIs, Whole};
 ghost use Rattle.codes.specs.Marks.{Walk, codeNumber};
-ghost use Rattle.codes.specs.Calls.{Whole, SplitsFrom, callsHere, IndexFits, Follows};
+ghost use Rattle.codes.specs.Calls.{SplitsFrom, callsHere, IndexFits, Follows};
 
 // An offset in a code, counted from that code's first byte: never a place in a file.
 pub struct CodeOffset(pub usize);
@@ -51,13 +49,6 @@ pub struct Walked {
     pub last: usize,
     pub inside: bool,
     pub calls: bool,
-}
-
-// The table, formed once for all that is asked of an operation's codes, and lent from there.
-pub fn table() -> [u8; 256]
-    ensures { λ r. ⌜ TableIs r ⌝ }
-{
-    lengths::TABLE
 }
 
 // Walks over a code, once: sets the bit of each instruction's offset in `starts` and of each branch target in `targets`.

@@ -14,7 +14,6 @@ use Rattle.rules.specs.Package.{storeLimits, ClassNumber, Class, readFile}
 use Rattle.rules.specs.Store.{Entry}
 use Rattle.rules.specs.Classes.{Installed}
 use Rattle.rules.specs.Questions.{own}
-use Rattle.bits.specs.Bits.{halfAt}
 use Rattle.rules.proofs.Tests.{none-some}
 use Rattle.places.proofs.Track.{placed-none}
 use Rattle.files.specs.Say.{ClassPlaced}
@@ -27,7 +26,7 @@ use Rattle.homes.specs.Found.{homeAt, ImportHomes}
 use Rattle.homes.specs.declared.Home.{Home}
 use Rattle.homes.proofs.Homes.{home-reads, stored-file}
 use Rattle.named.specs.Named.{homeOf, PackageThere, ClassFrom, Stands}
-use Rattle.depths.specs.Depths.{ClassIs, ClassThere, Kind0Is, depthOf, DepthIs, DepthsKept, toldDepth}
+use Rattle.depths.specs.Depths.{ClassIs, ClassThere, Kind0Is, depthOf, DepthIs, DepthsKept, toldDepth, depthField}
 use Rattle.depths.proofs.Records.{RecordBy, record-by}
 use Rattle.depths.proofs.ParentKinds.{kind-is}
 
@@ -54,8 +53,8 @@ module _ (ds tab : List ℕ) (from i c n : ℕ) where
   pub told-one : (from ≡ 0 → ⊥) → n ≡ 0 → 1 ≡ toldDepth ds tab from i c n
   told-one e z = rw (ne-eqb from 0 e, eq-eqb n 0 z) refl
 
-  pub told-half : (r w : ℕ) → (from ≡ 0 → ⊥) → (n ≡ 0 → ⊥) → w ≡ halfAt tab ((from + i) / 5) → r ≡ w → r + 1 ≡ toldDepth ds tab from i c n
-  told-half r w e z q y = rw (ne-eqb from 0 e, ne-eqb n 0 z, y, q) refl
+  pub told-field : (r : ℕ) → (from ≡ 0 → ⊥) → (n ≡ 0 → ⊥) → r ≡ depthField tab ((from + i) / 5) → r + 1 ≡ toldDepth ds tab from i c n
+  told-field r e z q = rw (ne-eqb from 0 e, ne-eqb n 0 z, q) refl
 
 module _ (f s : Bytes) (end : ℕ) (t : List ℕ) (u : ImportHomes f s end t) where
   -- the file of an import is stored
@@ -115,7 +114,7 @@ module _ (f s : Bytes) (end : ℕ) (t : List ℕ) (u : ImportHomes f s end t) wh
       own-case : p ≡ 0 → DepthIs f s end (homeOf end t p) c r
       own-case z =
           let w : h .from ≡ 0 = ap (λ (v : Home). v .from) (e ∙ ap (homeOf end t) z) in
-          let y : r ≡ getD ds c 0 = zr ∙ ap (λ (m : Bool). pick m (getD ds c 0) (pick (eqb v 0) 1 (halfAt tab ((h .from + i) / 5) + 1)))
+          let y : r ≡ getD ds c 0 = zr ∙ ap (λ (m : Bool). pick m (getD ds c 0) (pick (eqb v 0) 1 (depthField tab ((h .from + i) / 5) + 1)))
           (eq-eqb (h .from) 0 w) in
           subst (λ (m : ℕ). DepthIs f s end (homeOf end t m) c r) (sym z) (subst (DepthIs f s end (ownHome end) c) (sym y) (low z))
 
@@ -131,11 +130,11 @@ module _ (f s : Bytes) (end : ℕ) (t : List ℕ) (u : ImportHomes f s end t) wh
           count : v ≡ length (k .parents)
           count = zv ∙ (parent-by es self x k d) .count
 
-          told : r ≡ pick (eqb v 0) 1 (halfAt tab ((h .from + i) / 5) + 1)
-          told = zr ∙ ap (λ (m : Bool). pick m (getD ds c 0) (pick (eqb v 0) 1 (halfAt tab ((h .from + i) / 5) + 1))) (ne-eqb (h .from) 0 from)
+          told : r ≡ pick (eqb v 0) 1 (depthField tab ((h .from + i) / 5) + 1)
+          told = zr ∙ ap (λ (m : Bool). pick m (getD ds c 0) (pick (eqb v 0) 1 (depthField tab ((h .from + i) / 5) + 1))) (ne-eqb (h .from) 0 from)
 
           none : v ≡ 0 → r ≡ depthOf s es (own x c)
-          none z = told ∙ ap (λ (m : Bool). pick m 1 (halfAt tab ((h .from + i) / 5) + 1)) (eq-eqb v 0 z) ∙ depth-one s es x c k (d .is) (sym count ∙ z)
+          none z = told ∙ ap (λ (m : Bool). pick m 1 (depthField tab ((h .from + i) / 5) + 1)) (eq-eqb v 0 z) ∙ depth-one s es x c k (d .is) (sym count ∙ z)
 
           some′ : 0 < v → r ≡ depthOf s es (own x c)
           some′ z =
@@ -143,8 +142,8 @@ module _ (f s : Bytes) (end : ℕ) (t : List ℕ) (u : ImportHomes f s end t) wh
               let w = kept .told es (d .parents .imported .setting .size) (d .parents .imported .setting .stand) (d .parents .imported .setting .sound)
               (homeOf end t p) x st c k i (d .is) (omega (arith, z, count)) a in
               let j : h .from ≡ homeOf end t p .from = ap (λ (v : Home). v .from) e in
-              told ∙ ap (λ (m : Bool). pick m 1 (halfAt tab ((h .from + i) / 5) + 1)) (ne-eqb v 0 (λ y. omega (arith, y, z))) ∙ ap
-              (λ (m : ℕ). halfAt tab ((m + i) / 5) + 1) j ∙ w
+              told ∙ ap (λ (m : Bool). pick m 1 (depthField tab ((h .from + i) / 5) + 1)) (ne-eqb v 0 (λ y. omega (arith, y, z))) ∙ ap
+              (λ (m : ℕ). depthField tab ((m + i) / 5) + 1) j ∙ w
 
       pub told-is : DepthIs f s end (homeOf end t p) c r
       told-is = elim (decLe p 0) [ yes o ↦ own-case (omega arith) | no o ↦ stored-case (λ z. o (omega arith)) ]

@@ -1,5 +1,5 @@
 -- The table of depths over an operation: at the start, behind a domain's entry, behind a package's; and the depths that are written. Assumes nothing.
-use Prim.Native.Nat.{ℕ, suc, _+_, _*_, _/_, _≤_, _<_}
+use Prim.Native.Nat.{ℕ, suc, _+_, _/_, _^_, _≤_, _<_}
 use native.Mathlib.Omega.{arith}
 use native.Mathlib.Decide.{decLe}
 use mathlib.Core.Path.{_≡_, sym, _∙_, ap, ap₂, subst}
@@ -13,7 +13,6 @@ use Rattle.rules.specs.Store.{Entry, domain, loaded, openingLength}
 use Rattle.rules.specs.Classes.{Installed, installed, depthUpTo}
 use Rattle.rules.specs.Questions.{own, depthWithin}
 use Rattle.rules.specs.Operations.{accepted, acceptedAll}
-use Rattle.bits.specs.Bits.{halfAt}
 use Rattle.rules.proofs.Tests.{and-l, and-r, of-true, allFrom-zero}
 use Rattle.rules.proofs.Asked.{LoadYes, load-yes, parents-yes}
 use Rattle.rules.proofs.Sound.{installed-domain}
@@ -25,7 +24,7 @@ use Rattle.homes.specs.Homes.{Parents, ownHome, Stored}
 use Rattle.homes.specs.Homes as homes
 use Rattle.homes.specs.declared.Home.{Home}
 use Rattle.named.specs.Named.{Judged, Stands, ClassFrom}
-use Rattle.depths.specs.Depths.{ClassIs, DepthsKept, OwnDepths, DepthsFit, FileKept, ParentedIs, depthOf}
+use Rattle.depths.specs.Depths.{ClassIs, DepthsKept, OwnDepths, DepthsFit, FileKept, ParentedIs, depthOf, depthWidth, depthField, depthsLength}
 use Rattle.depths.specs.declared.Parented.the-variants.{Yes}
 use Rattle.depths.proofs.Records.{RecordBy}
 use Rattle.depths.proofs.Exist.{judged-reads, own-at}
@@ -35,7 +34,7 @@ use Rattle.depths.proofs.Longer.{among-none, StoredOr, before, last, st
 use Rattle.depths.proofs.Later.{own-is, other-is, class-record}
 
 -- nothing stands before the first entry
-pub depths-start : (s : Bytes) (n : ℕ) → length s ≤ 10 * n → DepthsKept s 7 (replicate n 0)
+pub depths-start : (s : Bytes) (n : ℕ) → depthsLength s ≤ n → DepthsKept s 7 (replicate n 0)
 depths-start s n r = record {
   room = omega (arith, r, length-replicate {A = ℕ} n 0);
   told = λ es size stand sound h x t.
@@ -57,7 +56,7 @@ depths-fit f s end depth ds t p o e = record { size = e; fit = fit }
     parents : Parents f s end es self
     parents = parented-parents f s end depth p es self (t .2)
 
-    fit : (n i : ℕ) → Stands f n i → 0 < getD f (i + 1) 0 → (1 ≤ getD ds n 0) × (getD ds n 0 ≤ 16)
+    fit : (n i : ℕ) → Stands f n i → 0 < getD f (i + 1) 0 → (1 ≤ getD ds n 0) × (getD ds n 0 ≤ 2 ^ depthWidth)
     fit n i q h = (omega (arith, told), omega (arith, told, within))
       where
         inside : i < length f
@@ -84,7 +83,7 @@ depths-fit f s end depth ds t p o e = record { size = e; fit = fit }
 -- what the table tells of given entries
 abbrev Tells : Bytes → List Entry → List ℕ → Type 0
 Tells s es t = (h : Home) (x : Installed) → Stored s es h x → (n : ℕ) (k : Class) (i : ℕ) → at (x .pack .classes) n ≡ some k → 0 < length (k .parents) →
-    Stands (part s (h .from) (h .to)) n i → halfAt t ((h .from + i) / 5) + 1 ≡ depthOf s es (own x n)
+    Stands (part s (h .from) (h .to)) n i → depthField t ((h .from + i) / 5) + 1 ≡ depthOf s es (own x n)
 
 -- entries and one more
 module _ (s : Bytes) (es : List Entry) (end : ℕ) (e : Entry) (next : ℕ) (stand : Entries s openingLength es end) (one : EntryAt s end e next) where
@@ -92,7 +91,7 @@ module _ (s : Bytes) (es : List Entry) (end : ℕ) (e : Entry) (next : ℕ) (sta
   Sound size zs = T (acceptedAll (storeLimits s) size [] zs)
 
   -- they are all that end there
-  kept-by : (t : List ℕ) → length s ≤ 10 * length t → ((size : ℕ) → Sound size (es ++ e ∷ []) → Tells s (es ++ e ∷ []) t) → DepthsKept s next t
+  kept-by : (t : List ℕ) → depthsLength s ≤ length t → ((size : ℕ) → Sound size (es ++ e ∷ []) → Tells s (es ++ e ∷ []) t) → DepthsKept s next t
   kept-by t room q = record { room = room; told = told }
     where
       told : (zs : List Entry) (size : ℕ) → Entries s openingLength zs next → Sound size zs → Tells s zs t
@@ -123,10 +122,10 @@ depths-domain s end next a t kept one st = kept-by s es end (domain a) next (st 
       | last p l ↦ let z : _≡_ {A = ℕ} 0 1 = cc in absurd (omega arith)
     ]
 
--- a package more: the earlier depths stay, since the records before it have half bytes before its own
+-- a package more: the earlier depths stay, since the records before it have fields before its own
 pub depths-next : (s : Bytes) (at from next : ℕ) (d : Aid) (t t′ ds : List ℕ) → DepthsKept s at t → EntryAt s at (loaded d (part s from next)) next →
     at < from → from ≤ next → OwnDepths (part s from next) s at ds → FileKept (part s from next) from ds t′ →
-    ((j : ℕ) → j < from / 5 → halfAt t′ j ≡ halfAt t j) → length t′ ≡ length t → StandFrom s 7 at → DepthsKept s next t′
+    ((j : ℕ) → j < from / 5 → depthField t′ j ≡ depthField t j) → length t′ ≡ length t → StandFrom s 7 at → DepthsKept s next t′
 depths-next s end from next d t t′ ds kept one l₁ l₂ o w same len st = kept-by s es end e next (st .1) one t′ (omega (arith, kept .room, len)) told
   where
     es : List Entry
@@ -153,7 +152,7 @@ depths-next s end from next d t t′ ds kept one l₁ l₂ o w same len st = kep
             let r = (by .parent 0 (omega (arith, by .count, ps))) .to in
             omega (arith, b, r, l₁, part-length s (h .from) (h .to) (y .entry .to), y .order)
 
-        go : StoredOr s es end e next h x → halfAt t′ ((h .from + i) / 5) + 1 ≡ depthOf s (es ++ e ∷ []) (own x n)
+        go : StoredOr s es end e next h x → depthField t′ ((h .from + i) / 5) + 1 ≡ depthOf s (es ++ e ∷ []) (own x n)
         go (before v b) =
             ap (λ (m : ℕ). m + 1) (same ((h .from + i) / 5) (earlier b))
             ∙ other-is s (part s from next) es end d (st .1) size (ok .0) (p .0) (p .1) t kept h x v n k i z ps here
@@ -172,6 +171,6 @@ depths-next s end from next d t t′ ds kept one l₁ l₂ o w same len st = kep
                 let c : x .pack ≡ p .0 = Option·some-injective _ _ (sym (y .reads) ∙ ap (readFile (storeLimits s)) file ∙ p .1 .q11) in
                 ap₂ (λ (u : Aid) (v : Package). record { domain = u; pack = v }) a c
 
-            w′ : halfAt t′ ((h .from + i) / 5) + 1 ≡ getD ds n 0
-            w′ = ap (λ (m : ℕ). halfAt t′ ((m + i) / 5) + 1) place
+            w′ : depthField t′ ((h .from + i) / 5) + 1 ≡ getD ds n 0
+            w′ = ap (λ (m : ℕ). depthField t′ ((m + i) / 5) + 1) place
                 ∙ w n i (subst (λ (g : Bytes). Stands g n i) file here) (omega (arith, ps, by .count, ap (λ (g : Bytes). getD g (i + 1) 0) file))

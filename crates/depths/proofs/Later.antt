@@ -11,7 +11,6 @@ use Rattle.rules.specs.Store.{Entry, loaded, openingLength}
 use Rattle.rules.specs.Classes.{Installed, installedBy, installed, ClassAt, depthUpTo}
 use Rattle.rules.specs.Questions.{q13-imports, own}
 use Rattle.rules.specs.Operations.{acceptedAll, soundEntries}
-use Rattle.bits.specs.Bits.{halfAt}
 use Rattle.rules.proofs.Lists.{flat-append}
 use Rattle.rules.proofs.Asked.{LoadYes, parents-yes}
 use Rattle.rules.proofs.Sound.{Sane, sound-sane}
@@ -20,7 +19,7 @@ use Rattle.homes.specs.Homes.{Setting, Parents, Stored}
 use Rattle.homes.specs.Homes as homes
 use Rattle.homes.specs.declared.Home.{Home}
 use Rattle.named.specs.Named.{Stands}
-use Rattle.depths.specs.Depths.{DepthsKept, OwnDepths, depthOf}
+use Rattle.depths.specs.Depths.{DepthsKept, OwnDepths, depthOf, depthField}
 use Rattle.depths.proofs.Records.{RecordBy, record-by}
 use Rattle.depths.proofs.Written.{stands-class}
 use Rattle.depths.proofs.Longer.{stored-mem, depth-more}
@@ -60,7 +59,7 @@ module _ (s f : Bytes) (es : List Entry) (end : ℕ) (d : Aid) (stand : Entries 
   -- of the classes of the others
   pub other-is : (t : List ℕ) → DepthsKept s end t → (h : Home) (x : Installed) → Stored s es h x → (n : ℕ) (k : Class) (i : ℕ) →
       at (x .pack .classes) n ≡ some k → 0 < length (k .parents) → Stands (part s (h .from) (h .to)) n i →
-      halfAt t ((h .from + i) / 5) + 1 ≡ depthOf s (es ++ loaded d f ∷ []) (own x n)
+      depthField t ((h .from + i) / 5) + 1 ≡ depthOf s (es ++ loaded d f ∷ []) (own x n)
   other-is t kept h x y n k i z ps here =
       kept .told es size stand sound h x y n k i z ps here ∙ same-depth (own x n) (sane .imports x (stored-mem s es h x y))
 

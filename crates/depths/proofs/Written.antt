@@ -1,4 +1,4 @@
--- The depths of a file's classes written to the table: a class with a parent takes five bytes, so that no two have one half byte.
+-- The depths of a file's classes written to the table: a class with a parent takes five bytes, so that no two have one field.
 -- Assumes nothing.
 use Prim.Native.Nat.{ℕ, _+_, _-_, _*_, _/_, _≤_, _<_}
 use native.Mathlib.Omega.{arith}
@@ -13,7 +13,7 @@ use borrow.Author.Tests.{eq-eqb, ne-eqb}
 use Rattle.rules.specs.Bytes.{Bytes, Aid, pick, at, u1, many}
 use Rattle.rules.specs.Package.{Limits, mostMethods, Class, Package, classNumber, method, class, readFile}
 use Rattle.rules.proofs.Tests.{none-some}
-use Rattle.bits.specs.Bits.{halfAt, withHalf}
+use Rattle.bits.specs.Bits.{withField}
 use Rattle.places.specs.Reads.{Reads}
 use Rattle.places.proofs.Steady.{steady-u1, steady-number, steady-method, steady-many}
 use Rattle.places.proofs.Inverse.{reads-forward, reads-u1, reads-counted}
@@ -22,7 +22,7 @@ use Rattle.places.proofs.Track.{placed-none, many-wide}
 use Rattle.files.specs.Say.{Readable, ClassThere, AfterClass}
 use Rattle.named.specs.Named.{Stands, first, next, ClassesFrom, ClassFrom}
 use Rattle.named.proofs.Rows.{stands-one, from-start, from-next, from-end}
-use Rattle.depths.specs.Depths.{keptHalf, DepthsFit, FileKeptTo, FileKept}
+use Rattle.depths.specs.Depths.{keptField, DepthsFit, FileKeptTo, FileKept, depthField}
 
 -- a class takes a byte or more, and five with a parent
 class-five : (l : Limits) (ds : List Aid) (g : Bytes) (i : ℕ) (k : Class) (j : ℕ) → Reads (class l ds) g i k j → i + 3 + 2 * getD g (i + 1) 0 ≤ j
@@ -47,10 +47,10 @@ three-inside g i t = omega (arith, class-five (t .0) (t .1) g i (t .2 .0) (t .2 
 
 -- what is written, by its cases
 module _ (t : List ℕ) (place parents depth j : ℕ) where
-  pub keep-none : parents ≡ 0 → halfAt t j ≡ keptHalf t place parents depth j
+  pub keep-none : parents ≡ 0 → depthField t j ≡ keptField t place parents depth j
   keep-none e = rw (eq-eqb parents 0 e) refl
 
-  pub keep-some : (parents ≡ 0 → ⊥) → withHalf (halfAt t) (place / 5) (depth - 1) j ≡ keptHalf t place parents depth j
+  pub keep-some : (parents ≡ 0 → ⊥) → withField (depthField t) (place / 5) (depth - 1) j ≡ keptField t place parents depth j
   keep-some e = rw (ne-eqb parents 0 e) refl
 
 module _ (g : Bytes) (r : Readable g) where
@@ -90,35 +90,35 @@ module _ (g : Bytes) (from : ℕ) (ds : List ℕ) where
   kept-start t m i h = absurd (omega arith)
 
   module _ (r : Readable g) (fit : DepthsFit g ds) (old new : List ℕ) (n i : ℕ) (s : Stands g n i)
-      (w : (j : ℕ) → halfAt new j ≡ keptHalf old (from + i) (getD g (i + 1) 0) (getD ds n 0) j) where
-    same : (j : ℕ) → (j ≡ (from + i) / 5 → ⊥) → halfAt new j ≡ halfAt old j
-    unfolding withHalf
+      (w : (j : ℕ) → depthField new j ≡ keptField old (from + i) (getD g (i + 1) 0) (getD ds n 0) j) where
+    same : (j : ℕ) → (j ≡ (from + i) / 5 → ⊥) → depthField new j ≡ depthField old j
+    unfolding withField
     same j ne = w j ∙ go (eqb (getD g (i + 1) 0) 0)
       where
-        go : (b : Bool) → pick b (halfAt old j) (pick (eqb j ((from + i) / 5)) (getD ds n 0 - 1) (halfAt old j)) ≡ halfAt old j
+        go : (b : Bool) → pick b (depthField old j) (pick (eqb j ((from + i) / 5)) (getD ds n 0 - 1) (depthField old j)) ≡ depthField old j
         go true = refl
         go false = rw (ne-eqb j ((from + i) / 5) ne) refl
 
-    here : 0 < getD g (i + 1) 0 → halfAt new ((from + i) / 5) + 1 ≡ getD ds n 0
-    unfolding withHalf
+    here : 0 < getD g (i + 1) 0 → depthField new ((from + i) / 5) + 1 ≡ getD ds n 0
+    unfolding withField
     here h =
         let z : getD g (i + 1) 0 ≡ 0 → ⊥ = λ e. omega (arith, e, h) in
-        let e : halfAt new ((from + i) / 5) ≡ getD ds n 0 - 1 = w ((from + i) / 5) ∙ ap
-        (λ (b : Bool). pick b (halfAt old ((from + i) / 5)) (pick (eqb ((from + i) / 5) ((from + i) / 5)) (getD ds n 0 - 1)
-        (halfAt old ((from + i) / 5)))) (ne-eqb (getD g (i + 1) 0) 0 z) ∙ ap (λ (b : Bool). pick b (getD ds n 0 - 1) (halfAt old ((from + i) / 5)))
+        let e : depthField new ((from + i) / 5) ≡ getD ds n 0 - 1 = w ((from + i) / 5) ∙ ap
+        (λ (b : Bool). pick b (depthField old ((from + i) / 5)) (pick (eqb ((from + i) / 5) ((from + i) / 5)) (getD ds n 0 - 1)
+        (depthField old ((from + i) / 5)))) (ne-eqb (getD g (i + 1) 0) 0 z) ∙ ap (λ (b : Bool). pick b (getD ds n 0 - 1) (depthField old ((from + i) / 5)))
         (eq-eqb ((from + i) / 5) ((from + i) / 5) refl) in
         omega (arith, e, (fit .fit n i s h) .0)
 
     pub kept-more : FileKeptTo g from ds old n → FileKeptTo g from ds new (n + 1)
     kept-more k m a h q z = elim (decLe n m) [
       | yes o ↦ let e : n ≡ m = omega (arith, h) in let j : i ≡ a = stands-one g r m i a (subst (λ (v : ℕ). Stands g v i) e s) q in subst
-          (λ (v : ℕ). halfAt new ((from + v) / 5) + 1 ≡ getD ds m 0) j (subst (λ (v : ℕ). halfAt new ((from + i) / 5) + 1 ≡ getD ds v 0) e (here (rw j z)))
+          (λ (v : ℕ). depthField new ((from + v) / 5) + 1 ≡ getD ds m 0) j (subst (λ (v : ℕ). depthField new ((from + i) / 5) + 1 ≡ getD ds v 0) e (here (rw j z)))
       | no o ↦
           let p = stands-apart g r m a n i q s (omega arith) in
           ap (λ (v : ℕ). v + 1) (same ((from + a) / 5) (λ e. omega (arith, e, p, z))) ∙ k m a (omega arith) q z
     ]
 
-    pub below-more : (j : ℕ) → j < from / 5 → halfAt new j ≡ halfAt old j
+    pub below-more : (j : ℕ) → j < from / 5 → depthField new j ≡ depthField old j
     below-more j h = same j (λ e. omega (arith, e, h))
 
   -- behind the last class

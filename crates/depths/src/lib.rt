@@ -1,18 +1,20 @@
-// Question 14 of a file over the entries that end at a place: parents and depths. Depths of stored classes are kept in a table of half
-// bytes, written when their package was accepted.
+// Question 14 of a file over the entries that end at a place: parents and depths. Depths of stored classes are kept in a table of fields
+// of a few bits, written when their package was accepted.
 use fields::wide;
 use files::Spot;
 ghost use mathlib.Core.Path.{_≡_};
-ghost use Prim.Native.Nat.{ℕ, suc, max, _+_, _*_, _/_, _≤_, _<_};
+ghost use Prim.Native.Nat.{ℕ, suc, max, _+_, _*_, _/_, _^_, _≤_, _<_};
 ghost use lib.ListN.{length, getD};
 ghost use Rattle.rules.specs.Package.{storeLimits, mostClasses};
 ghost use Rattle.files.specs.Say.{Readable};
-ghost use Rattle.bits.specs.Bits.{halfAt};
 ghost use Rattle.store.specs.Entries.{part};
 ghost use Rattle.homes.specs.Homes.{ownHome};
 ghost use Rattle.homes.specs.Found.{ImportHomes};
 ghost use Rattle.named.specs.Named.{Judged, homeOf, PackageThere, ClassFrom, RowsTrue};
-ghost use Rattle.depths.specs.Depths.{ParentsThere, ImportCount, ExistsIs, AllExist, ParentsExist, ClassThere, Kind0Is, Kind0Count, capped, DepthIs, DeepestIs, DepthsKept, toldDepth, OwnTo, OwnIs, LaterParts, ParentedIs, OwnTold, keptHalf, DepthsFit, FileKept};
+ghost use Rattle.depths.specs.Depths.{ParentsThere, ImportCount, ExistsIs, AllExist, ParentsExist, ClassThere, Kind0Is, Kind0Count, capped, DepthIs, DeepestIs, depthWidth, depthField, depthsLength, DepthsKept, toldDepth, OwnTo, OwnIs, LaterParts, ParentedIs, OwnTold, keptField, DepthsFit, FileKept};
+
+// The bits of a depth in the table, which holds one less: enough for the depth limit.
+const WIDTH: usize = 3;
 
 // The answer to question 14: no, or yes with the depth of the deepest class, 0 where there is none.
 pub enum Parented {
@@ -190,7 +192,7 @@ fn flag(kind: usize) -> usize
 
 // The depth that is told of class c with so many parents, whose record stands at a place of the file that starts at `from`.
 fn depth_told(t: &[u8], depths: &[u8], from: usize, place: usize, c: usize, parents: usize) -> usize
-    requires { ⌜ (from ≡ 0 → c < length (now depths)) × (0 < from → (from + place < 65536) × (from + place < 10 * length (now t))) ⌝ }
+    requires { ⌜ (from ≡ 0 → c < length (now depths)) × (0 < from → (from + place < 65536) × ((from + place) / 5 * depthWidth / 8 + 1 < length (now t))) ⌝ }
     ensures { λ r. ⌜ (r ≡ toldDepth (now (depths .entry)) (now (t .entry)) from place c parents) × (r < 256) ⌝ }
 {
     if from == 0 {
@@ -199,7 +201,7 @@ fn depth_told(t: &[u8], depths: &[u8], from: usize, place: usize, c: usize, pare
     if parents == 0 {
         return 1;
     }
-    wide(bits::half_get(t, (from + place) / 5)) + 1
+    bits::field_get(t, WIDTH, (from + place) / 5) + 1
 }
 
 // Kind and depth of a class that an own class lists as a parent.
@@ -398,21 +400,21 @@ pub fn parents_ok<'a>(
 
 // Writes the depth of a class whose record stands at a place of the store to the table, where it has parents.
 fn keep(t: &mut [u8], place: usize, parents: usize, depth: u8)
-    requires { ⌜ (0 < parents → (1 ≤ depth) × (depth ≤ 16) × (place < 10 * length (now t))) ⌝ }
-    ensures { λ _. ⌜ ((j : ℕ) → halfAt (now (t .exit)) j ≡ keptHalf (now (t .entry)) place parents depth j) ⌝ }
+    requires { ⌜ (0 < parents → (1 ≤ depth) × (depth ≤ 2 ^ depthWidth) × (place < 65536) × (place / 5 * depthWidth / 8 + 1 < length (now t))) ⌝ }
+    ensures { λ _. ⌜ ((j : ℕ) → depthField (now (t .exit)) j ≡ keptField (now (t .entry)) place parents depth j) ⌝ }
 {
     if parents == 0 {
         return;
     }
-    bits::half_put(t, place / 5, depth - 1);
+    bits::field_put(t, WIDTH, place / 5, depth as usize - 1);
 }
 
-// Writes the depths of the classes of the file between two places of the store to the table; no half byte before the file is changed.
+// Writes the depths of the classes of the file between two places of the store to the table; no field before the file is changed.
 pub fn keep_depths(s: &[u8], t: &mut [u8], depths: &[u8], from: usize, to: usize)
-    requires { ⌜ (from ≤ to) × (to ≤ length (now s)) × (length (now s) ≤ 10 * length (now t)) × (length (now s) ≤ 65535) ⌝ }
+    requires { ⌜ (from ≤ to) × (to ≤ length (now s)) × (depthsLength (now s) ≤ length (now t)) × (length (now s) ≤ 65535) ⌝ }
     requires { ⌜ Readable (part (now s) from to) × DepthsFit (part (now s) from to) (now depths) ⌝ }
     ensures { λ _. ⌜ FileKept (part (now (s .entry)) from to) from (now (depths .entry)) (now (t .exit)) ⌝ }
-    ensures { λ _. ⌜ ((j : ℕ) → j < from / 5 → halfAt (now (t .exit)) j ≡ halfAt (now (t .entry)) j) ⌝ }
+    ensures { λ _. ⌜ ((j : ℕ) → j < from / 5 → depthField (now (t .exit)) j ≡ depthField (now (t .entry)) j) ⌝ }
 {
     let g = &s[from..to];
     let mut n = 0;

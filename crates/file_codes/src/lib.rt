@@ -1,7 +1,7 @@
 // The codes of a file: questions 16 and 17 of each, and whether there is a call of which 18 and 19 are to be asked.
 use fields::wide;
 use refusals::first_no;
-ghost use Rattle.codes.specs.Table.{TableIs};
+ghost use Rattle.instructions.specs.Table.{TableIs};
 ghost use Rattle.file_codes.specs.Codes.{MethodHere, ClassHere, FileHere, MethodNumberIs, ClassNumberIs, FileNumberIs};
 
 // Of the code of the method at a place: the number of the first no; 18 where there is none and a call; else 0.

@@ -24,7 +24,7 @@ use Rattle.store.specs.Entries.{part, FilesStand}
 use Rattle.store.specs.Answers.{FileSays, FileAt}
 use Rattle.store.specs.declared.FileSpot.{FileSpot}
 use Rattle.store.specs.declared.FileSpot.the-variants as FileSpots
-use Rattle.homes.specs.Homes.{fileOf, recordFrom, HomeThere, FoundIs, HomeSays, ByAid, ImportPlaced, NumberedIs, ClassPlaced, RecordIs}
+use Rattle.homes.specs.Homes.{fileOf, HomeThere, FoundIs, HomeSays, ByAid, ImportPlaced, NumberedIs, ClassPlaced}
 use Rattle.homes.specs.declared.HomeFound.{HomeFound}
 use Rattle.homes.specs.declared.HomeFound.the-variants.{At, Nothing}
 use Rattle.homes.specs.declared.Home.{Home}
@@ -51,14 +51,6 @@ module _ (f s : Bytes) (h : Home) where
     class-placed n r p end es self i x t =
         subst (λ (b : Bytes). Placed (class (storeLimits s) (x .pack .domains)) b (at (x .pack .classes) n) (spot r)) e
         (p (storeLimits s) (x .pack) (ap (readFile (storeLimits s)) e ∙ home-reads f s end es self (i .setting) h x t))
-
-    -- and as a part
-    pub record-is : (n : ℕ) (r : Spot) (b : Bytes) → say.ClassPlaced g n r → b ≡ recordFrom g r → RecordIs f s h n b
-    record-is n r b p z end es self i x t = (r, class-placed n r p end es self i x t, z ∙ ap (λ (y : Bytes). recordFrom y r) e)
-
--- a place that is told is within the bytes
-pub class-inside : (g : Bytes) (n c : ℕ) → Readable g → say.ClassPlaced g n (spots.At c) → c ≤ length g
-class-inside g n c r p = let q = placed-at (p (r .0) (r .1) (r .2)) in q .3 .from
 
 -- the bytes from a place to the end
 pub rest-is : (g : Bytes) (c : ℕ) → take (length g - c) (drop c g) ≡ drop c g

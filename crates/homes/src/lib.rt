@@ -6,7 +6,7 @@ ghost use Prim.Native.Nat.{_≤_};
 ghost use lib.ListN.{length};
 ghost use Rattle.files.specs.Say.{Readable};
 ghost use Rattle.homes.specs.Found.{Indexed};
-ghost use Rattle.homes.specs.Homes.{ownHome, homeOf, PackageFrom, fileOf, HomeThere, ByAid, ImportPlaced, NumberedIs, ClassPlaced, RecordIs};
+ghost use Rattle.homes.specs.Homes.{ownHome, homeOf, PackageFrom, fileOf, HomeThere, ByAid, ImportPlaced, NumberedIs};
 
 // The bounds of a file in the store, and the place where the entries before it end; 0 and 0 for the file being judged.
 pub struct Home {
@@ -102,25 +102,5 @@ pub fn numbered<'a>(
     match import_place(g, k - 1) {
         Spot::At(i) => by_aid(s, end, index, files::aid_bytes(g, i)),
         Spot::Nothing => HomeFound::Nothing,
-    }
-}
-
-// The place of the record of class n in the file at a home.
-pub fn class_place<'a>(f: &'a [u8], s: &'a [u8], h: Home, n: usize) -> Spot
-    requires { ⌜ HomeThere (now f) (now s) h ⌝ }
-    ensures { λ r. ⌜ ClassPlaced (now (f .entry)) (now (s .entry)) h n r ⌝ }
-{
-    files::class_place(file_of(f, s, h), n)
-}
-
-// The record of class n, as a part of whichever holds it, the file being judged or the store; no bytes where there is none.
-pub fn class_record<'a>(f: &'a [u8], s: &'a [u8], h: Home, n: usize) -> &'a [u8]
-    requires { ⌜ HomeThere (now f) (now s) h ⌝ }
-    ensures { λ r. ⌜ RecordIs (now (f .entry)) (now (s .entry)) h n (now r) ⌝ }
-{
-    let g = file_of(f, s, h);
-    match files::class_place(g, n) {
-        Spot::At(c) => &g[c..],
-        Spot::Nothing => &g[0..0],
     }
 }

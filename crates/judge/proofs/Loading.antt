@@ -24,7 +24,7 @@ use Rattle.depths.specs.Depths.{ParentedIs}
 use Rattle.depths.specs.declared.Parented.the-variants as parented
 use Rattle.store.specs.Sound.{Over}
 use Rattle.store.proofs.Sound.{one-length}
-use Rattle.judge.specs.Says.{FileRead, Asked14, asks, from, AnswerIs, Asked14Some, NumberFrom, fileAsks, ParentsSay, ParentsAnswer, FileSays, LoadSays}
+use Rattle.judge.specs.Says.{FileRead, Asked14, asks, from, AnswerIs, Asked14Some, NumberFrom, NumberBefore, fileAsks, ParentsSay, ParentsAnswer, InsideAnswer, FileSays, LoadSays}
 use Rattle.judge.specs.declared.LoadAnswer.{LoadAnswer}
 use Rattle.judge.specs.declared.LoadAnswer.the-variants.{Refused, Accepted}
 use Rattle.judge.proofs.Answers.{number-no, number-yes, answer-yes, answer-refused, answer-accepted}
@@ -156,12 +156,6 @@ module _ (s : Bytes) (end : ℕ) (d : Aid) (f : Bytes) where
         (answer-yes 5 (q5-created es d) (fileAsks s es d f) _ r (sym (five es o)) (a es o))
 
   module _ (r : LoadAnswer) (first : ParentsAnswer s end f r) where
-    -- 10 to 14 answered no
-    pub file-first : (n : ℕ) → r ≡ Refused n → FileSays s end d f (Refused n)
-    file-first n e es o =
-        let x = subst (ParentsSay s end d f es) e (first d es o) in
-        answer-refused (fileAsks s es d f) _ n (x .1) (λ z. omega (arith, x .0, z))
-
     -- answered yes
     module _ (depth : ℕ) (e : r ≡ Accepted depth) where
       pub asked-14 : (es : List Entry) × Over s end es → Asked14Some s end d f
@@ -169,20 +163,59 @@ module _ (s : Bytes) (end : ℕ) (d : Aid) (f : Bytes) where
 
       module _ (n : ℕ) (number : NumberFrom 15 s end d f n) where
         -- the number of what follows is that of all from 10 on
-        pub file-number : (es : List Entry) → Over s end es → n ≡ firstNo (fileAsks s es d f)
+        file-number : (es : List Entry) → Over s end es → n ≡ firstNo (fileAsks s es d f)
         file-number es o =
             let x = subst (ParentsSay s end d f es) e (first d es o) in
             behind-14 s end d f es (x .0) (x .1) (x .2) n (number es (x .0) (x .1))
 
-        pub file-refused : (n ≡ 0 → ⊥) → FileSays s end d f (Refused n)
+        file-refused : (n ≡ 0 → ⊥) → FileSays s end d f (Refused n)
         file-refused z es o = answer-refused (fileAsks s es d f) _ n (file-number es o) z
 
-        pub file-done : n ≡ 0 → FileSays s end d f (Accepted depth)
+        file-done : n ≡ 0 → FileSays s end d f (Accepted depth)
         file-done z es o =
             let x = subst (ParentsSay s end d f es) e (first d es o) in
             let is : deepestOf (storeLimits s) es d (readFile (storeLimits s) f) ≡ depth = ap (deepestOf (storeLimits s) es d) (x .1 .read .reads) ∙ sym
             (x .3) in
             subst (λ (m : ℕ). AnswerIs (fileAsks s es d f) m (Accepted depth)) (sym is) (answer-accepted (fileAsks s es d f) depth (sym z ∙ file-number es o))
+
+-- 10 to 19, from the answer to 10 to 14
+module _ (s : Bytes) (end : ℕ) (d : Aid) (f : Bytes) (r : LoadAnswer) (first : ParentsAnswer s end f r) where
+  pub inside-first : (n : ℕ) → r ≡ Refused n → InsideAnswer s end d f (Refused n)
+  inside-first n e es o = subst (ParentsSay s end d f es) e (first d es o)
+
+  module _ (depth : ℕ) (e : r ≡ Accepted depth) (n : ℕ) (number : NumberBefore 15 20 s end d f n) where
+    pub inside-refused : (n ≡ 0 → ⊥) → InsideAnswer s end d f (Refused n)
+    inside-refused z es o = (omega (arith, z), file-number s end d f r first depth e n (number .0 z) es o)
+
+    pub inside-yes : n ≡ 0 → InsideAnswer s end d f (Accepted depth)
+    inside-yes z = (subst (ParentsAnswer s end f) e first, number .1 z)
+
+-- 10 to 21, from the answer to 10 to 19
+module _ (s : Bytes) (end : ℕ) (d : Aid) (f : Bytes) (r : LoadAnswer) (inside : InsideAnswer s end d f r) where
+  -- answered no, as a number from 10 on
+  pub inside-number : (n : ℕ) → r ≡ Refused n → (es : List Entry) → Over s end es → (0 < n) × (n ≡ firstNo (fileAsks s es d f))
+  inside-number n e = subst (InsideAnswer s end d f) e inside
+
+  pub file-inside : (n : ℕ) → r ≡ Refused n → FileSays s end d f (Refused n)
+  file-inside n e es o = let x = inside-number n e es o in answer-refused (fileAsks s es d f) _ n (x .1) (λ z. omega (arith, x .0, z))
+
+  -- answered yes
+  module _ (depth : ℕ) (e : r ≡ Accepted depth) where
+    both : InsideAnswer s end d f (Accepted depth)
+    both = subst (InsideAnswer s end d f) e inside
+
+    pub asked-inside : (es : List Entry) × Over s end es → Asked14Some s end d f
+    asked-inside = asked-14 s end d f (Accepted depth) (both .0) depth refl
+
+    module _ (n : ℕ) (number : NumberFrom 20 s end d f n) where
+      pub later-number : (es : List Entry) → Over s end es → n ≡ firstNo (fileAsks s es d f)
+      later-number = file-number s end d f (Accepted depth) (both .0) depth refl n (both .1 n number)
+
+      pub later-refused : (n ≡ 0 → ⊥) → FileSays s end d f (Refused n)
+      later-refused = file-refused s end d f (Accepted depth) (both .0) depth refl n (both .1 n number)
+
+      pub later-done : n ≡ 0 → FileSays s end d f (Accepted depth)
+      later-done = file-done s end d f (Accepted depth) (both .0) depth refl n (both .1 n number)
 
 -- what the answer of the reader says of questions 10 and 11
 read-10 : (b c : Bool) → 10 ≡ firstNo ((10, b) ∷ (11, c) ∷ []) → b ≡ false

@@ -25,14 +25,13 @@ use Rattle.store.proofs.Sound.{over-used, one-length}
 use Rattle.index.specs.Index.{IndexIs, PackageStands}
 use Rattle.homes.specs.Found.{Indexed}
 use Rattle.homes.proofs.Homes.{all-read}
-use Rattle.bits.specs.Bits.{halfAt}
-use Rattle.depths.specs.Depths.{DepthsKept, DepthsFit, OwnDepths, FileKept}
+use Rattle.depths.specs.Depths.{DepthsKept, DepthsFit, OwnDepths, FileKept, depthField}
 use Rattle.depths.proofs.Kept.{depths-next}
-use Rattle.judge.specs.Says.{DomainYes, DomainsYes, Asked14, fileAsks, ParentsSay, ParentsAnswer, entryOf, PackageThere, EntrySays, PackagesSay}
+use Rattle.judge.specs.Says.{DomainYes, DomainsYes, Asked14, fileAsks, InsideAnswer, entryOf, PackageThere, EntrySays, PackagesSay}
 use Rattle.judge.specs.declared.PackageEntry.{PackageEntry}
 use Rattle.judge.specs.declared.LoadAnswer.{LoadAnswer}
 use Rattle.judge.specs.declared.LoadAnswer.the-variants.{Refused}
-use Rattle.judge.proofs.Loading.{behind-5}
+use Rattle.judge.proofs.Loading.{behind-5, inside-number}
 
 -- of the entries es, those up to place `at` were accepted, and the others stand from there up to `end`
 pub record Reached (s : Bytes) (end at : ℕ) (es : List Entry) : Type 0 where
@@ -132,7 +131,7 @@ module _ (s : Bytes) (x : PackageEntry) (there : PackageThere s x) where
   -- the depths of its classes are kept behind it
   pub depths-behind : OverSome s (x .at) → {t t′ ds : List ℕ} → DepthsKept s (x .at) t → DepthsFit f ds → OwnDepths f s (x .at) ds → FileKept f (x .file)
       ds t′ →
-      ((j : ℕ) → j < x .file / 5 → halfAt t′ j ≡ halfAt t j) → length t′ ≡ length t → DepthsKept s (x .next) t′
+      ((j : ℕ) → j < x .file / 5 → depthField t′ j ≡ depthField t j) → length t′ ≡ length t → DepthsKept s (x .next) t′
   depths-behind o {t} {t′} {ds} k fit own file same len =
       depths-next s (x .at) (x .file) (x .next) d t t′ ds k (there .stands) (there .inside) (there .file) own file same len (o .0, o .1 .stand)
 
@@ -143,12 +142,12 @@ files-stand s at o = (o .0, o .1 .stand, all-read (storeLimits s) (length s) [] 
 pub indexed : (s : Bytes) (at : ℕ) (index : List ℕ) → OverSome s at → IndexIs s at index → Indexed s at index
 indexed s at index o i = record { files = files-stand s at o; is = i }
 
--- a refusal of 10 to 14 as a number from 10 on
-pub first-number : (s : Bytes) (end : ℕ) (d f : Bytes) (r : LoadAnswer) (n : ℕ) → ParentsAnswer s end f r → r ≡ Refused n → OverSome s end →
+-- a refusal of 10 to 19 as a number from 10 on
+pub first-number : (s : Bytes) (end : ℕ) (d f : Bytes) (r : LoadAnswer) (n : ℕ) → InsideAnswer s end d f r → r ≡ Refused n → OverSome s end →
     (n ≡ 0 → ⊥) × ((es : List Entry) → Over s end es → n ≡ firstNo (fileAsks s es d f))
 first-number s end d f r n first e some =
-    let x = subst (ParentsSay s end d f (some .0)) e (first d (some .0) (some .1)) in
-    (λ z. omega (arith, x .0, z), λ es o. (subst (ParentsSay s end d f es) e (first d es o)) .1)
+    let x = inside-number s end d f r first n e in
+    (λ z. omega (arith, (x (some .0) (some .1)) .0, z), λ es o. (x es o) .1)
 
 -- a turn at a domain and at a package
 module _ (s : Bytes) (end at : ℕ) (g : Going s end at) where

@@ -10,6 +10,7 @@
 -- NumberBefore k m ..       == the same, of the questions from k on that stand before m: 0 where they are answered yes
 -- fileAsks s es d f         == a load's questions from 10 on
 -- ParentsAnswer s end f r   == questions 10 to 14 of a file; ParentsTold == what is found with a yes
+-- InsideAnswer s end d f r  == questions 10 to 19 of a file; DepthsTold == what is found with a yes
 -- FileSays, LoadSays        == a load's answer from 10 on, and whole
 -- DomainYes pre e           == question 3, and 4 or 5, of an entry behind others
 -- DomainsYes s end          == of every entry of those that end at a place
@@ -104,6 +105,16 @@ ParentsAnswer s end f r = (d : Aid) (es : List Entry) → Over s end es → Pare
 abbrev pub ParentsTold : Bytes → ℕ → Bytes → List ℕ → List ℕ → LoadAnswer → Type 0
 ParentsTold s end f homes own (Refused n) = Unit {0}
 ParentsTold s end f homes own (Accepted depth) = ImportHomes f s end homes × OwnDepths f s end own × DepthsFit f own
+
+-- questions 10 to 19 of a file that d loads: the number of the first no, or what 10 to 14 say, and that the number from 20 on is the one from 15 on
+abbrev pub InsideAnswer : Bytes → ℕ → Aid → Bytes → LoadAnswer → Type 0
+InsideAnswer s end d f (Refused n) = (es : List Entry) → Over s end es → (0 < n) × (n ≡ firstNo (fileAsks s es d f))
+InsideAnswer s end d f (Accepted depth) = ParentsAnswer s end f (Accepted depth) × ((n : ℕ) → NumberFrom 20 s end d f n → NumberFrom 15 s end d f n)
+
+-- with a yes: the depths of the own classes
+abbrev pub DepthsTold : Bytes → ℕ → Bytes → List ℕ → LoadAnswer → Type 0
+DepthsTold s end f own (Refused n) = Unit {0}
+DepthsTold s end f own (Accepted depth) = OwnDepths f s end own × DepthsFit f own
 
 -- a load's answer from 10 on, and whole
 abbrev pub FileSays : Bytes → ℕ → Aid → Bytes → LoadAnswer → Type 0

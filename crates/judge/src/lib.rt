@@ -14,14 +14,14 @@ ghost use Rattle.rules.specs.Questions.{q10-marked};
 ghost use Rattle.store.specs.Entries.{StandFrom};
 ghost use Rattle.store.specs.Sound.{OverSome};
 ghost use Rattle.index.specs.Index.{IndexIs};
-ghost use Rattle.codes.specs.Table.{TableIs};
+ghost use Rattle.instructions.specs.Table.{TableIs};
 ghost use Rattle.file_codes.specs.Codes.{FileNumberIs};
 ghost use Rattle.calls.specs.Calls.{CodesSplit};
 ghost use Rattle.files.specs.Say.{Readable};
 ghost use Rattle.homes.specs.Found.{Indexed, ImportHomes};
 ghost use Rattle.depths.specs.Depths.{DepthsKept};
 ghost use Rattle.running.specs.Walk.{seenLength};
-ghost use Rattle.judge.specs.Says.{ReadSome, Asked14Some, NumberFrom, NumberBefore, ParentsAnswer, ParentsTold, FileSays, LoadSays, DomainsYes, entryOf, PackageThere, EntrySays, PackagesSay};
+ghost use Rattle.judge.specs.Says.{ReadSome, Asked14Some, NumberFrom, NumberBefore, ParentsAnswer, ParentsTold, InsideAnswer, DepthsTold, FileSays, LoadSays, DomainsYes, entryOf, PackageThere, EntrySays, PackagesSay};
 
 // A load: the number of the first no, or the depth of the deepest own class.
 pub enum LoadAnswer {
@@ -71,7 +71,7 @@ fn calls_number<'a>(
     requires { ⌜ ImportHomes (now file) (now s) end (now homes) ⌝ }
     ensures { λ r. ⌜ NumberBefore 18 20 (now (s .entry)) end (now (domain .entry)) (now (file .entry)) r ⌝ }
 {
-    let table = codes::table();
+    let table = instructions::table();
     calls::calls_ok(file, s, end, domain, &table, homes) as u32
 }
 
@@ -80,7 +80,7 @@ fn codes_number(s: &[u8], file: &[u8]) -> u8
     requires { ⌜ ReadSome (now s) (now file) ⌝ }
     ensures { λ r. ⌜ FileNumberIs (now (file .entry)) r ⌝ }
 {
-    let table = codes::table();
+    let table = instructions::table();
     let mut starts = [0u8; 512];
     let mut targets = [0u8; 512];
     file_codes::codes_ok(file, &table, &mut starts, &mut targets)
@@ -106,28 +106,6 @@ fn inside_number<'a>(
         return number as u32;
     }
     calls_number(s, end, domain, file, homes)
-}
-
-// Load, from 15 on, of a file that passed 14. The tables of 15 to 19 are gone when 20 is asked.
-fn later_number<'a>(
-    s: &'a [u8],
-    end: usize,
-    domain: &[u8],
-    file: &'a [u8],
-    homes: &[usize; 48],
-    index: &[u16],
-    seen: &mut [u8],
-) -> u32
-    requires { ⌜ Asked14Some (now s) end (now domain) (now file) ⌝ }
-    requires { ⌜ ImportHomes (now file) (now s) end (now homes) × Indexed (now s) end (now index) ⌝ }
-    requires { ⌜ (length (now s) ≤ 65535) × (seenLength (now s) ≤ length (now seen)) ⌝ }
-    ensures { λ r. ⌜ NumberFrom 15 (now (s .entry)) end (now (domain .entry)) (now (file .entry)) r ⌝ }
-{
-    let number = inside_number(s, end, domain, file, homes);
-    if number != 0 {
-        return number;
-    }
-    running_number(s, end, domain, file, index, seen)
 }
 
 // 12 to 14 of a file that reads: the number of the first no, or the depth of the deepest class; with it the homes of the imports and
@@ -188,6 +166,36 @@ fn parents_answer<'a>(
     }
 }
 
+// 10 to 19 of a file: the number of the first no, or the depth of the deepest class; with it the depths of the own classes. The homes of
+// the imports and the tables of 14 to 19 are gone when 20 is asked.
+fn inside_answer<'a>(
+    s: &'a [u8],
+    end: usize,
+    domain: &[u8],
+    file: &'a [u8],
+    index: &[u16],
+    depths: &[u8],
+    own: &mut [u8],
+) -> LoadAnswer
+    requires { ⌜ OverSome (now s) end ⌝ }
+    requires { ⌜ Indexed (now s) end (now index) × DepthsKept (now s) end (now depths) × (length (now s) ≤ 65535) ⌝ }
+    requires { ⌜ length (now own) ≡ mostClasses ⌝ }
+    ensures { λ r. ⌜ InsideAnswer (now (s .entry)) end (now (domain .entry)) (now (file .entry)) r ⌝ }
+    ensures { λ r. ⌜ DepthsTold (now (s .entry)) end (now (file .entry)) (now (own .exit)) r ⌝ }
+{
+    let mut homes = [0usize; 48];
+    match parents_answer(s, end, file, index, &mut homes, depths, own) {
+        LoadAnswer::Refused(n) => LoadAnswer::Refused(n),
+        LoadAnswer::Accepted(depth) => {
+            let number = inside_number(s, end, domain, file, &homes);
+            if number != 0 {
+                return LoadAnswer::Refused(number);
+            }
+            LoadAnswer::Accepted(depth)
+        }
+    }
+}
+
 // Load, from 10 on.
 fn file_answer<'a>(
     s: &'a [u8],
@@ -203,14 +211,13 @@ fn file_answer<'a>(
     requires { ⌜ (length (now s) ≤ 65535) × (seenLength (now s) ≤ length (now seen)) ⌝ }
     ensures { λ r. ⌜ FileSays (now (s .entry)) end (now (domain .entry)) (now (file .entry)) r ⌝ }
 {
-    let mut homes = [0usize; 48];
     let mut own = [0u8; 32];
-    match parents_answer(s, end, file, index, &mut homes, depths, &mut own) {
+    match inside_answer(s, end, domain, file, index, depths, &mut own) {
         LoadAnswer::Refused(n) => LoadAnswer::Refused(n),
         LoadAnswer::Accepted(depth) => {
-            let number = later_number(s, end, domain, file, &homes, index, seen);
-            if number != 0 {
-                return LoadAnswer::Refused(number);
+            let later = running_number(s, end, domain, file, index, seen);
+            if later != 0 {
+                return LoadAnswer::Refused(later);
             }
             LoadAnswer::Accepted(depth)
         }
@@ -260,13 +267,20 @@ fn package_sound(
     let from = x.from;
     let file = x.file;
     let next = x.next;
-    let mut homes = [0usize; 48];
     let mut own = [0u8; 32];
-    match parents_answer(s, at, &s[file..next], index, &mut homes, depths, &mut own) {
+    match inside_answer(
+        s,
+        at,
+        &s[from..file],
+        &s[file..next],
+        index,
+        depths,
+        &mut own,
+    ) {
         LoadAnswer::Refused(_) => false,
         LoadAnswer::Accepted(_) => {
             depths::keep_depths(s, depths, &own, file, next);
-            if later_number(s, at, &s[from..file], &s[file..next], &homes, index, seen) != 0 {
+            if running_number(s, at, &s[from..file], &s[file..next], index, seen) != 0 {
                 return false;
             }
             index::enter_package(s, at, file, next, index);

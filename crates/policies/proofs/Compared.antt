@@ -8,6 +8,7 @@ use mathlib.Core.List.{List, [], _∷_}
 use lib.ListN.{length, take, drop, getD}
 use Rattle.rules.specs.Bytes.{Bytes, Aid, any, all, many}
 use Rattle.rules.specs.Package.{domainIndex}
+use Rattle.rules.proofs.Tests.{and-l, and-r, is-true, of-true}
 use Rattle.places.specs.Reads.{Reads}
 use Rattle.places.proofs.Inverse.{reads-left, reads-done}
 use Rattle.places.proofs.Steady.{steady-index}
@@ -57,6 +58,17 @@ any-through ds p q h (k ∷ ks) (a ∷ xs) x e = go (p k) refl e (any-through ds
     go : (b : Bool) → p k ≡ b → (b || any p ks) ≡ true → (any p ks ≡ true → any q xs ≡ true) → (q a || any q xs) ≡ true
     go true u v rec = let s : q a ≡ true = ap q (sym (x .1)) ∙ h k (x .0) u in rw s
     go false u v rec = rw (rec v) (or-true (q a))
+
+-- every index passes, and every AID
+pub all-through : (ds : List Aid) (p : ℕ → Bool) (q : Aid → Bool) → ((k : ℕ) → k < length ds → p k ≡ true → q (getD ds k []) ≡ true) →
+    (ks : List ℕ) (xs : List Aid) → Indexed ds ks xs → all p ks ≡ true → all q xs ≡ true
+all-through ds p q h [] [] x e = refl
+all-through ds p q h [] (a ∷ xs) x e = absurd x
+all-through ds p q h (k ∷ ks) [] x e = absurd x
+all-through ds p q h (k ∷ ks) (a ∷ xs) x e =
+    let s : q a ≡ true = ap q (sym (x .1)) ∙ h k (x .0) (is-true _ (and-l (p k) (all p ks) (of-true e))) in
+    let rest = all-through ds p q h ks xs (x .2) (is-true _ (and-r (p k) (all p ks) (of-true e))) in
+    rw (s, rest)
 
 -- each index is below the domain count
 pub index-below : (ds : List Aid) (s : Bytes) (n i : ℕ) (aids : List Aid) (j : ℕ) → Reads (many n (domainIndex ds)) s i aids j → (k : ℕ) → i ≤ k → k < i + n →

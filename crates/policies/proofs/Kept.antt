@@ -13,11 +13,10 @@ use Rattle.files.specs.declared.Spot.{Spot}
 use Rattle.files.specs.declared.Spot.the-variants.{At, Nothing}
 use Rattle.policies.specs.Say.{indexesAt, HasAid}
 use Rattle.policies.specs.Numbers.{numberIn, DomainsThere, NumberIs}
-use Rattle.policies.specs.Rows.{hasBit, withBit, HasPlaces, ListOver, unknown, Known, NthNumber, Tells, Kept, NumberKept, MaskKept, WithinKept}
+use Rattle.policies.specs.Rows.{hasBit, HasPlaces, ListOver, unknown, Known, NthNumber, Tells, Kept, NumberKept, WithinKept}
 use Rattle.policies.specs.declared.TwoLists.{TwoLists}
 use Rattle.policies.proofs.Indexes.{byte-fails, byte-passes, byte-all}
 use Rattle.policies.proofs.Numbers.{number-most, domains-length}
-use Rattle.policies.proofs.Gathered.{Gathered, gathered-start, gathered-more, gathered-done}
 use Rattle.policies.proofs.Rules.{only-list, over-indexes, nth-is, nth-none}
 use Rattle.policies.proofs.Compared.{index-below}
 
@@ -79,29 +78,6 @@ left-here {g} {t} {i} {left} {c} o x h =
     let y = only-list (e .0) g i (e .3 .0) (e .3 .1) (e .3 .2) (o .1) in
     let b = index-below (e .0) g (getD g i 0) (i + 1) (y .aids) (e .3 .1) (y .list) c (omega (arith, x .behind)) (omega (arith, x .place)) in
     ((e .0, e .1, e .2, b), omega (arith, x .place, over-indexes e (o .1)))
-
--- the loop that gathers numbers
-abbrev pub MaskLoop : Bytes → Aid → Bytes → TwoLists → ℕ → List ℕ → List ℕ → ℕ → ℕ → ℕ → Type 0
-MaskLoop f d g l i x y left c m = Kept f d g l x y λ w. Gathered (λ k. w (l .base + k)) g i left c m
-
-module _ (f : Bytes) (d : Aid) (g : Bytes) (l : TwoLists) (i : ℕ) (x : List ℕ) where
-  pub mask-start : (n : ℕ) → n ≡ getD g i 0 → MaskLoop f d g l i x x n (i + 1) 0
-  mask-start n h = record { known = λ w t k. k; holds = λ w t k. gathered-start (λ k. w (l .base + k)) g i n h }
-
-  module _ (y : List ℕ) (left c m : ℕ) (s : MaskLoop f d g l i x y left c m) where
-    pub mask-more : (z : List ℕ) (r : ℕ) → 0 < left → c < length g → DomainsThere f (l .own) → HasAid g (l .other) (getD g c 0) →
-        NumberKept f d g l (getD g c 0) y z r →
-        MaskLoop f d g l i x z (left - 1) (c + 1) (withBit m r)
-    mask-more z r h p a o q = record {
-      known = λ w t k. q .known w t (s .known w t k);
-      holds = λ w t k.
-          let e = q .holds w t (s .known w t k) in
-          let j : r < 64 = omega (arith, e, told-small (getD g c 0) a o w t) in
-          gathered-more (λ k. w (l .base + k)) g i left c m (s .holds w t k) r j e h p;
-    }
-
-    pub mask-done : left ≤ 0 → MaskKept f d g l i x y m
-    mask-done h = record { known = s .known; holds = λ w t k. gathered-done (λ k. w (l .base + k)) g i left c m (s .holds w t k) h }
 
 -- the loop that tests numbers
 abbrev pub WithinLoop : Bytes → Aid → Bytes → TwoLists → ℕ → List ℕ → List ℕ → ℕ → ℕ → ℕ → Type 0

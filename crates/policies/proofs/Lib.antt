@@ -11,3 +11,4 @@ pub mod Pairs
 pub mod Sure
 pub mod Looked
 pub mod Covered
+pub mod Alike

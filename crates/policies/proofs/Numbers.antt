@@ -28,7 +28,7 @@ number-in xs a (List·Memᴰ·tail {x = y} {xs = ys} m) = go (same a y) (number-
     go false h = omega arith
 
 -- what has a number below the length stands there
-number-found : (xs : List Aid) (a : Aid) → numberIn xs a < length xs → a ≡ getD xs (numberIn xs a) []
+pub number-found : (xs : List Aid) (a : Aid) → numberIn xs a < length xs → a ≡ getD xs (numberIn xs a) []
 number-found [] a h = absurd (omega arith)
 number-found (x ∷ xs) a h = go (same a x) refl h (number-found xs a)
   where

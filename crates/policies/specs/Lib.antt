@@ -3,3 +3,4 @@ pub mod Say
 pub mod Numbers
 pub mod Rows
 pub mod Covers
+pub mod Order

@@ -9,20 +9,19 @@
 -- Tells w f d g l      == w tells the numbers of the domains of g's list in f's list with d behind it
 -- Kept f d g l x y q   == for such a w of which the row x is a part, the row y is one too, and q holds
 -- NthNumber            == r is the number of domain i
--- NumberKept, MaskKept, WithinKept == the answer is that number; the bits of the answer are the numbers that the policy at i lists; each
---                         of these is a bit of the mask
+-- NumberKept, WithinKept == the answer is that number; each number of a domain that the policy at i lists is a bit of the mask
 -- ownLists u           == a list numbered in itself, from entry 0 on
--- rowNumber ds gs k    == what entry k of the row of two files tells: 32 entries for each list
--- RowTrue a u b v row  == each known entry tells the number of its domain among those of a at u: domains of a first, then those of b at v
+-- rowNumber ds gs k    == what entry k of the row of two files tells: the number of domain k of gs among ds
+-- RowTrue a u b v row  == each known entry tells the number of its domain of b, listed at v, among those of a at u
 -- RowEmpty row         == no entry is known
-use Prim.Native.Nat.{ℕ, _+_, _-_, _/_, _%_, _^_, _≤_, _<_}
+use Prim.Native.Nat.{ℕ, _+_, _/_, _%_, _^_, _≤_, _<_}
 use mathlib.Core.Path.{_≡_}
 use mathlib.Core.List.{List, [], _∷_, _++_}
 use mathlib.Core.Bool.{Bool}
-use lib.Dec.{eqb, ltb}
+use lib.Dec.{eqb}
 use lib.Bits.{bitOr}
 use lib.ListN.{length, getD}
-use Rattle.rules.specs.Bytes.{Bytes, Aid, pick, any, all}
+use Rattle.rules.specs.Bytes.{Bytes, Aid, all}
 use Rattle.rules.specs.Package.{mostDomains}
 use Rattle.policies.specs.Say.{indexesAt, PolicyOver}
 use Rattle.policies.specs.Numbers.{numberIn, OfDomains}
@@ -63,9 +62,6 @@ pub record Kept (f : Bytes) (d : Aid) (g : Bytes) (l : TwoLists) (x y : List ℕ
 abbrev pub NumberKept : Bytes → Aid → Bytes → TwoLists → ℕ → List ℕ → List ℕ → ℕ → Type 0
 NumberKept f d g l i x y r = Kept f d g l x y λ w. r ≡ w (l .base + i)
 
-abbrev pub MaskKept : Bytes → Aid → Bytes → TwoLists → ℕ → List ℕ → List ℕ → ℕ → Type 0
-MaskKept f d g l i x y m = Kept f d g l x y λ w. (n : ℕ) → n < 64 → hasBit m n ≡ any (λ k. eqb (w (l .base + k)) n) (indexesAt g i)
-
 abbrev pub WithinKept : Bytes → Aid → Bytes → TwoLists → ℕ → List ℕ → List ℕ → ℕ → Bool → Type 0
 WithinKept f d g l i x y m r = Kept f d g l x y λ w. r ≡ all (λ k. hasBit m (w (l .base + k))) (indexesAt g i)
 
@@ -75,12 +71,12 @@ ownLists u = record { own = u; other = u; base = 0 }
 
 -- what entry k of the row of two files tells
 abbrev pub rowNumber : List Aid → List Aid → ℕ → ℕ
-rowNumber ds gs k = numberIn (ds ++ [] ∷ []) (pick (ltb k mostDomains) (getD ds k []) (getD gs (k - mostDomains) []))
+rowNumber ds gs k = numberIn (ds ++ [] ∷ []) (getD gs k [])
 
 pub record RowTrue (a : Bytes) (u : ℕ) (b : Bytes) (v : ℕ) (row : List ℕ) : Type 0 where
-  pub size : length row ≡ 64
+  pub size : length row ≡ mostDomains
   pub known : OfDomains a u λ ds. OfDomains b v λ gs. Known (rowNumber ds gs) row
 
 pub record RowEmpty (row : List ℕ) : Type 0 where
-  pub size : length row ≡ 64
-  pub clear : (k : ℕ) → k < 64 → getD row k 0 ≡ unknown
+  pub size : length row ≡ mostDomains
+  pub clear : (k : ℕ) → k < mostDomains → getD row k 0 ≡ unknown

@@ -1,5 +1,6 @@
 // What a policy allows, across files: a policy stands in a file at one place, the domains that its indexes count at another.
 pub mod covering;
+pub mod order;
 pub mod rows;
 
 use fields::same_bytes;

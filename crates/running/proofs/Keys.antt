@@ -1,4 +1,4 @@
--- The bit of a class: a third of its entry's place, and its class number. There is room for it, and two classes of the packages at hand
+-- The bit of a class: three elevenths of its entry's place, and its class number. There is room for it, and two classes of the packages at hand
 -- have two bits. Assumes nothing.
 use Prim.Native.Nat.{ℕ, zero, suc, _+_, _-_, _*_, _/_, _≤_, _<_}
 use native.Mathlib.Omega.{arith}
@@ -6,7 +6,7 @@ use native.Mathlib.Decide.{decLe}
 use mathlib.Core.Path.{_≡_, refl, sym, _∙_, ap, subst}
 use mathlib.Core.List.{List, _∷_, _++_}
 use mathlib.Core.Option.{some}
-use lib.ListN.{length, drop, length-drop}
+use lib.ListN.{length, length-append}
 use Rattle.rules.specs.Bytes.{Bytes, Aid, Reader, at, u1, u2, many, aid, counted}
 use Rattle.rules.specs.Package.{Limits, storeLimits, mostDomains, mostImports, mostReferences, mostClasses, mostMethods, Class, Package, classNumber, reference, method, class, readFile}
 use Rattle.rules.specs.Store.{Entry, loaded, openingLength}
@@ -14,13 +14,12 @@ use Rattle.rules.specs.Classes.{Installed}
 use Rattle.rules.proofs.Lists.{at-below}
 use Rattle.places.specs.Reads.{Reads}
 use Rattle.places.proofs.Steady.{Steady, steady-u1, steady-many, steady-u2, steady-aid, steady-counted, steady-number, steady-reference, steady-method, steady-class}
-use Rattle.places.proofs.Inverse.{reads-forward, reads-left, reads-done, reads-counted, counted-one}
+use Rattle.places.proofs.Inverse.{reads-forward, reads-u1, reads-u2, reads-left, reads-done, reads-counted, counted-one}
 use Rattle.places.proofs.Parts.{aid-part, class-part, file-parts}
 use Rattle.places.proofs.Track.{many-length}
 use Rattle.store.specs.Entries.{part, EntryAt, Entries}
 use Rattle.store.specs.Entries as entries
-use Rattle.store.proofs.Parts.{part-length}
-use Rattle.store.proofs.Stand.{entries-to, entry-one, entry-apart}
+use Rattle.store.proofs.Stand.{entry-next, entries-to, entry-one, entry-apart}
 use Rattle.homes.specs.Homes.{homeOf, Setting, Stored, HomeIs}
 use Rattle.homes.specs.Homes as homes
 use Rattle.homes.specs.declared.Home.{Home}
@@ -47,21 +46,23 @@ class-forward l ds s i k j p =
     omega arith
 
 module _ (l : Limits) (f : Bytes) (p : Package) (r : readFile l f ≡ some p) where
-  -- a file takes 12 bytes, and three for each class, or more; it has no more classes than the greatest count
-  classes-room : (12 + 3 * length (p .classes) ≤ length f) × (length (p .classes) ≤ mostClasses)
+  -- a file takes 18 bytes, and three for each class, or more; it has no more classes than the greatest count
+  classes-room : (18 + 3 * length (p .classes) ≤ length f) × (length (p .classes) ≤ mostClasses)
   classes-room =
       let t = file-parts l f p r in
       let a = aid-part f 7 (p .aid) (t .domainsAt) (t .named) in
       let d = counted-one mostDomains aid steady-aid f (t .domainsAt) (p .domains) (t .importsAt) (t .domains) in
       let i = counted-one mostImports aid steady-aid f (t .importsAt) (p .imports) (t .referencesAt) (t .imports) in
-      let e = reads-forward (counted mostReferences u2 reference) (steady-counted mostReferences u2 reference steady-u2 steady-reference) f (t
-      .referencesAt) (p .references) (t .classesAt) (t .references) in
+      let e = reads-counted mostReferences u2 reference steady-u2 f (t .referencesAt) (p .references) (t .classesAt) (t .references) in
+      let two = reads-u2 f (t .referencesAt) (e .number) (e .place) (e .count) in
+      let rest = reads-forward (many (e .number) reference) (steady-many (e .number) reference steady-reference) f (e .place) (p .references)
+      (t .classesAt) (e .list) in
       let c = reads-counted mostClasses u1 (class l (p .domains)) steady-u1 f (t .classesAt) (p .classes) (length f) (t .classes) in
-      let u = reads-forward u1 steady-u1 f (t .classesAt) (c .number) (c .place) (c .count) in
+      let one = reads-u1 f (t .classesAt) (c .number) (c .place) (c .count) in
       let m = many-length (class l (p .domains)) (steady-class l (p .domains)) (c .number) f (c .place) (p .classes) (length f) (c .list) in
       let g = many-grows (class l (p .domains)) (steady-class l (p .domains)) f (class-forward l (p .domains) f) (c .number) (c .place) (p .classes)
       (length f) (c .list) in
-      (omega (arith, a .next, a .low, m), omega (arith, m, c .small))
+      (omega (arith, a .next, a .low, two .next, one .next, m), omega (arith, m, c .small))
 
 -- the place of an entry in the middle of the others
 entry-before : (s : Bytes) (i : ℕ) (pre : List Entry) (e : Entry) (post : List Entry) (j k end : ℕ) → Entries s i pre j → EntryAt s j e k →
@@ -74,11 +75,14 @@ entry-before s i _ e post j k end (entries.more {j = m} {e = x} {es = ps} v q) t
 
 -- a stored class has its place before that of a package whose entry follows
 module _ (s : Bytes) (es : List Entry) (h : Home) (x : Installed) (t : Stored s es h x) where
-  stored-key : (n : ℕ) (k : Class) → at (x .pack .classes) n ≡ some k → key h n < h .to / 3
+  stored-key : (n : ℕ) (k : Class) → at (x .pack .classes) n ≡ some k → key h n < h .to * 3 / 11
   stored-key n k e =
       let b = at-below (x .pack .classes) n k e in
-      let c = classes-room (storeLimits s) (part s (h .from) (h .to)) (x .pack) (t .reads) in
-      omega (arith, c .0, part-length s (h .from) (h .to) (t .entry .to), t .inside, t .order)
+      let f = part s (h .from) (h .to) in
+      let c = classes-room (storeLimits s) f (x .pack) (t .reads) in
+      let whole = entry-next s (h .before) (loaded (x .domain) f) (h .to) (t .entry) in
+      let behind : h .before + 4 + length f ≤ h .to = omega (arith, whole, length-append (x .domain) f) in
+      omega (arith, b, c .0, c .1, behind)
 
   -- and its entry ends where the entries end, or before
   stored-end : (end : ℕ) → Entries s openingLength es end → h .to ≤ end
@@ -92,7 +96,7 @@ module _ (s : Bytes) (es : List Entry) (h : Home) (x : Installed) (t : Stored s 
 
 -- there is room for a class's bit
 pub key-small : (f s : Bytes) (end : ℕ) (es : List Entry) (self : Installed) → Setting f s end es self →
-    (h : Home) (x : Installed) → HomeIs f s end es self h x → (n : ℕ) (k : Class) → at (x .pack .classes) n ≡ some k → key h n ≤ end / 3 + 31
+    (h : Home) (x : Installed) → HomeIs f s end es self h x → (n : ℕ) (k : Class) → at (x .pack .classes) n ≡ some k → key h n ≤ end * 3 / 11 + 31
 key-small f s end es self g _ _ homes.own n k e = omega (
   arith,
   at-below (self .pack .classes) n k e,

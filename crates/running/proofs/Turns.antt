@@ -25,7 +25,7 @@ file-same : (f s : Bytes) (g h : Home) → g .from ≡ h .from → g .to ≡ h .
 file-same f s g h a b =
     ap (λ (n : ℕ). pick (eqb n 0) f (part s n (g .to))) a ∙ ap (λ (n : ℕ). pick (eqb (h .from) 0) f (part s (h .from) n)) b
 
-pub turn-same : (x : List ℕ) (g h : Home) → length x ≡ 64 → g .from ≡ h .from → g .to ≡ h .to → RowTurned x x g h
+pub turn-same : (x : List ℕ) (g h : Home) → length x ≡ 32 → g .from ≡ h .from → g .to ≡ h .to → RowTurned x x g h
 turn-same x g h z a b = record {
   size = z;
   turned = λ f s k r. record { size = z; known = λ l p q u v. r .known l p q (ap (readFile l) (file-same f s g h a b) ∙ u) v };
@@ -38,9 +38,9 @@ none-known y w e k b n = absurd (n (e .clear k (omega (arith, e .size))))
 pub turn-empty : (x y : List ℕ) (g h : Home) → RowEmpty y → RowTurned x y g h
 turn-empty x y g h e = record { size = e .size; turned = λ f s k r. record { size = e .size; known = λ l p q u v. none-known y _ e } }
 
-pub row-start : (f s : Bytes) (g h : Home) → RowFor f s g h (replicate 64 unknown)
+pub row-start : (f s : Bytes) (g h : Home) → RowFor f s g h (replicate 32 unknown)
 row-start f s g h =
-    let e : RowEmpty (replicate 64 unknown) = record { size = length-replicate {A = ℕ} 64 unknown; clear = λ k b. getD-replicate 64 k unknown 0 b } in
+    let e : RowEmpty (replicate 32 unknown) = record { size = length-replicate {A = ℕ} 32 unknown; clear = λ k b. getD-replicate 32 k unknown 0 b } in
     record { size = e .size; known = λ l p q u v. none-known _ _ e }
 
 -- the row of two files by the places of their domains

@@ -1,5 +1,5 @@
 -- The walk over a class and its ancestors, and the bits of those that passed. Assumes nothing.
-use Prim.Native.Nat.{ℕ, suc, _+_, _/_, _≤_, _<_}
+use Prim.Native.Nat.{ℕ, suc, _+_, _*_, _/_, _≤_, _<_}
 use native.Mathlib.Omega.{arith}
 use native.Mathlib.Decide.{decLe}
 use mathlib.Core.Path.{_≡_, refl, sym, _∙_, ap, subst}
@@ -94,13 +94,13 @@ module _ (f s : Bytes) (end b : ℕ) (h : Home) (n : ℕ) where
     walk-below = home-below f s end (t .entries) (t .self) (t .asked .judged .parents .imported .setting) h (t .pack) (t .home)
 
     -- its bit
-    key-low : key h n ≤ end / 3 + 31
+    key-low : key h n ≤ end * 3 / 11 + 31
     key-low = key-small f s end (t .entries) (t .self) (t .asked .judged .parents .imported .setting) h (t .pack) (t .home) n (t .class) (t .is)
 
     end-inside : end ≤ length s
     end-inside = (entries-to s openingLength (t .entries) end (t .asked .judged .parents .imported .setting .stand)) .1
 
-    pub key-few : length s ≤ 65535 → key h n ≤ 21876
+    pub key-few : length s ≤ 65535 → key h n ≤ 17905
     key-few z = omega (arith, key-low, end-inside)
 
     pub key-inside : (l : ℕ) → seenLength s ≤ l → key h n / 8 < l

@@ -1,5 +1,5 @@
 -- Question 20 of own classes, one after another. Assumes nothing.
-use Prim.Native.Nat.{ℕ, suc, _+_, _/_, _≤_, _<_}
+use Prim.Native.Nat.{ℕ, suc, _+_, _*_, _/_, _≤_, _<_}
 use native.Mathlib.Omega.{arith}
 use native.Mathlib.Numerals.{add-one}
 use mathlib.Core.Path.{_≡_, refl, sym, _∙_, ap, subst}
@@ -123,7 +123,7 @@ module _ (f s : Bytes) (end b : ℕ) where
   own-end t = (entries-to s openingLength (t .0) end (t .2 .parents .imported .setting .stand)) .1
 
   -- no class was seen
-  pub seen-none : (seen : Bytes) → seenLength s ≤ length seen → ((j : ℕ) → j / 8 < end / 24 + 5 → bitAt seen j ≡ false) → SeenPass f s end b seen
+  pub seen-none : (seen : Bytes) → seenLength s ≤ length seen → ((j : ℕ) → j / 8 < end * 3 / 88 + 5 → bitAt seen j ≡ false) → SeenPass f s end b seen
   seen-none seen z w = record {
     room = z;
     hold = λ h n e es self r x o k q.

@@ -19,12 +19,12 @@ use Rattle.chains.specs.declared.RunsFound.the-variants.{At, Nothing}
 use Rattle.running.specs.Say.{BothThere, AllowsAllOf, MethodPasses}
 
 pub record RowFor (f s : Bytes) (g h : Home) (row : List ℕ) : Type 0 where
-  pub size : length row ≡ 64
+  pub size : length row ≡ 32
   pub known : (l : Limits) (p q : Package) → readFile l (fileOf f s g) ≡ some p → readFile l (fileOf f s h) ≡ some q →
       Known (rowNumber (p .domains) (q .domains)) row
 
 pub record RowTurned (x y : List ℕ) (g h : Home) : Type 0 where
-  pub size : length y ≡ 64
+  pub size : length y ≡ 32
   pub turned : (f s : Bytes) (k : Home) → RowFor f s g k x → RowFor f s h k y
 
 abbrev pub BesideIs : Bytes → Bytes → ℕ → ℕ → Home → ℕ → RunsFound → Type 0

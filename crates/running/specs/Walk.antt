@@ -6,10 +6,10 @@
 -- PlacedIs f s v w       == w is the visit v with that place
 -- ParentVisit f s v i w  == w is the visit of its parent with number i, which stands before it
 -- WalkFrom f s index names v == what the walk may use: the class, the names of the own class, the index of the earlier entries
--- key h n                == the number of the bit of class n of the package at home h: a class takes three bytes of its entry or more
+-- key h n                == the number of the bit of class n of the package at home h: c classes, 32 at most, make an entry of 22 + 3 * c bytes or more
 -- SeenPass f s end b seen == there is a bit for each class, and where it is set the class and all its ancestors pass for own class b
 -- ParentsPass f s end b h n r == so do all parents of class n, and their ancestors, or not
-use Prim.Native.Nat.{ℕ, _+_, _/_, _≤_, _<_}
+use Prim.Native.Nat.{ℕ, _+_, _*_, _/_, _≤_, _<_}
 use mathlib.Core.Path.{_≡_}
 use mathlib.Core.Bool.{Bool, true}
 use mathlib.Core.List.{List}
@@ -93,11 +93,11 @@ pub record WalkFrom (f s : Bytes) (index names : List ℕ) (v : Visit) : Type 0 
 
 -- the bit of a class
 abbrev pub key : Home → ℕ → ℕ
-key h n = h .before / 3 + n
+key h n = h .before * 3 / 11 + n
 
 -- how many bytes the bits take
 abbrev pub seenLength : Bytes → ℕ
-seenLength s = length s / 24 + 5
+seenLength s = length s * 3 / 88 + 5
 
 -- where a bit is set the class and all its ancestors pass for own class b
 pub record SeenPass (f s : Bytes) (end b : ℕ) (seen : Bytes) : Type 0 where

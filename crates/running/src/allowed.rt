@@ -17,7 +17,7 @@ pub fn allows_all_of<'a>(
     i: usize,
     h: Home,
     j: usize,
-    row: &mut [u8; 64],
+    row: &mut [u8; 32],
 ) -> bool
     requires { ⌜ BothThere (now f) (now s) g i h j ⌝ }
     requires { ⌜ RowFor (now f) (now s) g h (now row) ⌝ }
@@ -34,8 +34,8 @@ pub fn allows_all_of<'a>(
 }
 
 // The row, for the file at home h in place of that at home g: no number is known, where they are not the same.
-pub fn turn_row(row: &mut [u8; 64], g: Home, h: Home)
-    requires { ⌜ length (now row) ≡ 64 ⌝ }
+pub fn turn_row(row: &mut [u8; 32], g: Home, h: Home)
+    requires { ⌜ length (now row) ≡ 32 ⌝ }
     ensures { λ _. ⌜ RowTurned (now (row .entry)) (now (row .exit)) g h ⌝ }
 {
     if g.from != h.from {

@@ -6,7 +6,9 @@ pub mod visited;
 
 use chains::Names;
 use chains::RunsFound;
+use classes::ClassSpot;
 use fields::wide;
+use slots::parents;
 use visited::Visit;
 use visited::home_of;
 use visited::names_of;
@@ -34,7 +36,7 @@ fn methods_pass<'a>(f: &'a [u8], s: &'a [u8], names: &[u16; 640], v: Visit) -> b
     let start = files::methods_of(g, v.place as usize);
     let mut left = wide(g[start]);
     let mut c = start + 1;
-    let mut row = [255u8; 64];
+    let mut row = [255u8; 32];
     let mut last = h;
     while 0 < left {
         match allowed::method_beside(f, s, names, w, h, c) {
@@ -85,7 +87,7 @@ fn class_passes<'a>(
     ensures { λ _. ⌜ SeenPass (now (f .entry)) (now (s .entry)) (v .end) (v .own) (now (seen .exit)) ⌝ }
     ensures { λ _. ⌜ SlotsTrue (now (f .entry)) (now (s .entry)) (now (slots .exit)) ⌝ }
 {
-    let bit = v.before as usize / 3 + v.number as usize;
+    let bit = v.before as usize * 3 / 11 + v.number as usize;
     if bits::get(seen, bit) {
         return true;
     }
@@ -151,7 +153,7 @@ fn own_class_passes<'a>(
         return true;
     }
     let end = w.end;
-    bits::clear_to(seen, end / 24 + 5);
+    bits::clear_to(seen, end * 3 / 88 + 5);
     let v = visited::visit_for(w, homes::own_home(end), w.own);
     class_passes(f, s, index, names, seen, slots, v)
 }
@@ -170,8 +172,9 @@ pub fn running_ok<'a>(f: &'a [u8], s: &'a [u8], end: usize, index: &[u16], seen:
     let count = wide(f[files::classes_at(f)]);
     let mut b = 0;
     while b < count {
-        if classes::is_kind0(f, s, h, b) {
-            kept = chains::find_names(f, s, index, &mut names, kept, b);
+        let x = ClassSpot { home: h, number: b };
+        if parents::is_kind0(f, s, &mut slots, x) {
+            kept = chains::find_names(f, s, index, &mut names, &mut slots, kept, b);
             if !own_class_passes(f, s, index, &names, seen, &mut slots, kept) {
                 return false;
             }

@@ -1,3 +1,4 @@
 -- Laws of slots.
 pub mod Slots
 pub mod Asked
+pub mod Standing

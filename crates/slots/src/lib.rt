@@ -1,5 +1,7 @@
 // Class places and homes of imports of the packages at hand: a slot for each package, filled as far as it was asked. A slot tells the
 // truth of the package whose home stands in it.
+pub mod parents;
+
 use files::Spot;
 use homes::Home;
 use homes::HomeFound;

@@ -25,7 +25,7 @@ use Rattle.store.proofs.Sound.{over-some, asked-number}
 use Rattle.store.proofs.Stand.{entries-to}
 use Rattle.index.specs.Index.{IndexIs}
 use Rattle.index.proofs.Entering.{index-start}
-use Rattle.depths.specs.Depths.{DepthsKept}
+use Rattle.depths.specs.Depths.{DepthsKept, depthsLength}
 use Rattle.depths.proofs.Kept.{depths-start}
 use Rattle.running.specs.Walk.{seenLength}
 use Rattle.domains.specs.Domains.{domainAccepted, domainsAccepted, AllSay}
@@ -48,7 +48,7 @@ domains-yes s u h es pre post e r are =
     one (loaded d f) t = (and-l (q3-lengths (d ∷ [])) _ t, and-r (q3-lengths (d ∷ [])) _ t)
 
 -- tables of zeros are those of no entries, where they are large enough for the store
-pub tables-start : (s : Bytes) (u n m k : ℕ) → StandFrom s 7 u → length s ≤ 27 * n → length s ≤ 10 * m → seenLength s ≤ k → length s ≤ 65535 →
+pub tables-start : (s : Bytes) (u n m k : ℕ) → StandFrom s 7 u → length s ≤ 27 * n → depthsLength s ≤ m → seenLength s ≤ k → length s ≤ 65535 →
     (IndexIs s 7 (replicate n 0) × DepthsKept s 7 (replicate m 0)) × ((length s ≤ 65535) × (seenLength s ≤ k))
 tables-start s u n m k t i d b l =
     let e = entries-to s 7 (t .0) u (t .1) in

@@ -67,8 +67,8 @@ fn packages_small(s: &[u8], used: usize, budget: usize) -> bool
         return packages_small(s, used, budget - 1);
     }
     let mut index = [0u16; 304];
-    let mut depths = [0u8; 820];
-    let mut seen = [0u8; 347];
+    let mut depths = [0u8; 616];
+    let mut seen = [0u8; 284];
     judge::packages_sound(s, used, &mut index, &mut depths, &mut seen)
 }
 
@@ -81,8 +81,8 @@ fn packages_large(s: &[u8], used: usize, budget: usize) -> bool
         return packages_large(s, used, budget - 1);
     }
     let mut index = [0u16; 2428];
-    let mut depths = [0u8; 6554];
-    let mut seen = [0u8; 2736];
+    let mut depths = [0u8; 4917];
+    let mut seen = [0u8; 2239];
     judge::packages_sound(s, used, &mut index, &mut depths, &mut seen)
 }
 
@@ -112,8 +112,8 @@ fn load_small<'a>(
         return load_small(s, used, domain, file, budget - 1);
     }
     let mut index = [0u16; 304];
-    let mut depths = [0u8; 820];
-    let mut seen = [0u8; 347];
+    let mut depths = [0u8; 616];
+    let mut seen = [0u8; 284];
     if !judge::packages_sound(s, used, &mut index, &mut depths, &mut seen) {
         return LoadAnswer::Refused(2);
     }
@@ -135,8 +135,8 @@ fn load_large<'a>(
         return load_large(s, used, domain, file, budget - 1);
     }
     let mut index = [0u16; 2428];
-    let mut depths = [0u8; 6554];
-    let mut seen = [0u8; 2736];
+    let mut depths = [0u8; 4917];
+    let mut seen = [0u8; 2239];
     if !judge::packages_sound(s, used, &mut index, &mut depths, &mut seen) {
         return LoadAnswer::Refused(2);
     }

@@ -5,7 +5,6 @@ use native.Mathlib.Omega.{arith}
 use lib.ListN.{length, getD, length-set}
 use borrow.Author.Needs.{needs}
 use Rattle.bits.proofs.Bits.{zero-bits, zeros-more}
-use Rattle.bits.proofs.Halves.{zero-halves}
 use Rattle.bits.proofs.clear.Statement.{statement}
 use Rattle.bits.proofs.clear.Tie as tie
 
@@ -39,11 +38,7 @@ same-length : tie.Need-same-length Inv-loop μ-loop
 same-length c = search needs
 
 returns : tie.Need-returns Inv-loop μ-loop
-returns c = (
-  zero-bits (c .before .loop .s) (λ k h. c .before .loop .inv .2 k (omega (arith, h))),
-  zero-halves (c .before .loop .s)
-      (λ k h. c .before .loop .inv .2 k (omega (arith, h))),
-)
+returns c = zero-bits (c .before .loop .s) (λ k h. c .before .loop .inv .2 k (omega (arith, h)))
 
 pub clear-spec : {M : Type 1} → statement M
 clear-spec =

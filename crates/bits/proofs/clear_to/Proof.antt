@@ -5,7 +5,6 @@ use native.Mathlib.Omega.{arith}
 use lib.ListN.{length, getD, length-set}
 use borrow.Author.Needs.{needs}
 use Rattle.bits.proofs.Bits.{zero-bit, zeros-more}
-use Rattle.bits.proofs.Halves.{zero-half}
 use Rattle.bits.proofs.clear_to.Statement.{statement}
 use Rattle.bits.proofs.clear_to.Tie as tie
 
@@ -40,11 +39,7 @@ same-length : tie.Need-same-length Inv-loop μ-loop
 same-length c = search needs
 
 returns : tie.Need-returns Inv-loop μ-loop
-returns c = (
-  λ j h. zero-bit (c .before .loop .s) j (c .before .loop .inv .3 (j / 8) (omega arith)),
-  λ j h. zero-half (c .before .loop .s) j
-      (c .before .loop .inv .3 (j / 2) (omega arith)),
-)
+returns c = λ j h. zero-bit (c .before .loop .s) j (c .before .loop .inv .3 (j / 8) (omega arith))
 
 pub clear-to-spec : {M : Type 1} → statement M
 clear-to-spec =

@@ -24,7 +24,7 @@ walk-requires c κs =
     let start = at-clear .before .before .before .before .before in
     let p = start .pre in (
       (p .0, omega (arith, p .1, at-clear .clear .kept), omega (arith, p .1, p .2, at-clear2 .clear2 .kept)),
-      (at-clear .clear .ensures .0, at-clear2 .clear2 .ensures .0),
+      (at-clear .clear .ensures, at-clear2 .clear2 .ensures),
     )
 
 same-length : tie.Need-same-length

@@ -6,7 +6,7 @@ use mathlib.Core.Bool.{true, _&&_}
 use lib.ListN.{length, set}
 use borrow.Author.Needs.{needs}
 use denote.Ref.{now}
-use Rattle.codes.proofs.Sizes.{whole-is}
+use Rattle.instructions.proofs.Sizes.{whole-is}
 use Rattle.codes.proofs.Walking.{Walking, passed-plain, passed-call, passed-branch, walking-start, walking-on, walking-bad, walking-done}
 use Rattle.codes.proofs.walk.Statement.{statement}
 use Rattle.codes.proofs.walk.Tie as tie

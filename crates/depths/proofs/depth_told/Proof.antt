@@ -28,31 +28,29 @@ returns-2 c =
     let a = c .before .before .before .before .args in
     (kept.told-one (now (a .depths)) (now (a .t)) (a .from) (a .place) (a .c) (a .parents) (c .before .if1 .left) (c .if2 .taken), omega arith)
 
-add-half-get : tie.Need-add-half-get
-add-half-get c =
+add-field-get : tie.Need-add-field-get
+add-field-get c =
     let pre = c .before .before .before .before .pre in
     omega (arith, (pre .1 (omega (arith, c .before .if1 .left))) .0)
 
-half-get-requires : tie.Need-half-get-requires
-half-get-requires c κs =
+field-get-requires : tie.Need-field-get-requires
+field-get-requires c κs =
     let pre = c .before .before .before .before .pre in
-    omega (arith, (pre .1 (omega (arith, c .before .if1 .left))) .1)
-
-wide-requires-2 : tie.Need-wide-requires-2
-wide-requires-2 c κs = search needs
+    let p = pre .1 (omega (arith, c .before .if1 .left)) in
+    (omega arith, omega (arith, p .0), omega (arith, p .1))
 
 add-result : tie.Need-add-result
-add-result c = omega (arith, c .wide2 .ensures .1)
+add-result c = omega (arith, c .field-get .ensures .1)
 
 returns-3 : tie.Need-returns-3
 returns-3 c =
-    let c1 = c .before .before in
+    let c1 = c .before in
     let c2 = c1 .before in
     let a = c2 .before .before .before .args in (
-      kept.told-half (now (a .depths)) (now (a .t)) (a .from) (a .place) (a .c) (a .parents) (c .wide2 .result) (c .before .half-get .result)
-          (c2 .if1 .left) (c1 .if2 .left) (c .before .half-get .ensures .0) (c .wide2 .ensures .0),
+      kept.told-field (now (a .depths)) (now (a .t)) (a .from) (a .place) (a .c) (a .parents) (c .field-get .result)
+          (c2 .if1 .left) (c1 .if2 .left) (c .field-get .ensures .0),
       omega
-          (arith, c .wide2 .ensures .0, c .before .half-get .ensures .1),
+          (arith, c .field-get .ensures .1),
     )
 
 pub depth-told-spec : {M : Type 1} → statement M
@@ -63,8 +61,7 @@ depth-told-spec =
     wide-requires
     returns
     returns-2
-    add-half-get
-    half-get-requires
-    wide-requires-2
+    add-field-get
+    field-get-requires
     add-result
     returns-3)

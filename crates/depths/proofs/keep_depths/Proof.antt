@@ -6,11 +6,10 @@ use mathlib.Core.Path.{_≡_, refl, ap, _∙_}
 use lib.ListN.{length, getD}
 use denote.Ref.{now}
 use borrow.Author.Needs.{needs}
-use Rattle.depths.specs.Depths.{keptHalf, FileKeptTo}
+use Rattle.depths.specs.Depths.{keptField, FileKeptTo, depthField}
 use Rattle.named.specs.Named.{ClassesFrom}
 use Rattle.store.proofs.Parts.{part-length}
 use Rattle.store.specs.Entries.{part}
-use Rattle.bits.specs.Bits.{halfAt}
 use Rattle.depths.proofs.Written as written
 use Rattle.named.proofs.Rows as rows
 use Rattle.depths.proofs.Exist as exist
@@ -18,7 +17,7 @@ use Rattle.depths.proofs.keep_depths.Statement.{statement}
 use Rattle.depths.proofs.keep_depths.Tie as tie
 
 abbrev Inv-loop : tie.InvT-loop
-Inv-loop s t₀ depths from to g n₀ i₀ t n i = ClassesFrom g n i × FileKeptTo g from depths t n × ((j : ℕ) → j < from / 5 → halfAt t j ≡ halfAt t₀ j) ×
+Inv-loop s t₀ depths from to g n₀ i₀ t n i = ClassesFrom g n i × FileKeptTo g from depths t n × ((j : ℕ) → j < from / 5 → depthField t j ≡ depthField t₀ j) ×
     (length t ≡ length t₀)
 
 abbrev μ-loop : tie.MeasureT-loop
@@ -123,7 +122,9 @@ keep-requires c κs =
     let a = start .args in
     let pre = start .pre in
     λ h. let x = (pre .1 .1) .fit (loop .n) (loop .i) (loop .inv .0 .stands) (omega (arith, h, c .before .wide .ensures .0)) in
-    (x .0, x .1, omega (arith, c1 .loop-test .taken, part-length (now (a .s)) (a .from) (a .to) (pre .0 .1), pre .0 .0, pre .0 .1, pre .0 .2, loop .inv .3))
+    let inside = part-length (now (a .s)) (a .from) (a .to) (pre .0 .1) in
+    let before : a .from + loop .i < length (now (a .s)) = omega (arith, c1 .loop-test .taken, inside, pre .0 .0, pre .0 .1) in
+    (x .0, x .1, omega (arith, before, pre .0 .3), omega (arith, before, pre .0 .2, loop .inv .3))
 
 after-class-requires : tie.Need-after-class-requires Inv-loop μ-loop
 after-class-requires c κs =
@@ -180,11 +181,11 @@ loop-again c =
           (record { inside = c3 .loop-test .taken; rest = loop .inv .0 }) (c .after-class .ensures),
       written.kept-more (part (now (a .s)) (a .from) (a .to))
           (a .from) (now (a .depths)) (pre .1 .0) (pre .1 .1) (loop .t) (keep .last .0) (loop .n) (loop .i) (loop .inv .0 .stands)
-          (λ j. keep .ensures j ∙ ap (λ (v : ℕ). keptHalf (loop .t) ((a .from) + loop .i) v (getD (now (a .depths)) (loop .n) 0) j) (wide .ensures .0))
+          (λ j. keep .ensures j ∙ ap (λ (v : ℕ). keptField (loop .t) ((a .from) + loop .i) v (getD (now (a .depths)) (loop .n) 0) j) (wide .ensures .0))
           (loop .inv .1),
       λ j h. written.below-more (part (now (a .s)) (a .from) (a .to)) (a .from) (now (a .depths)) (pre .1 .0) (pre .1 .1) (loop .t)
           (keep .last .0) (loop .n) (loop .i) (loop .inv .0 .stands) (λ j. keep .ensures j ∙ ap
-          (λ (v : ℕ). keptHalf (loop .t) ((a .from) + loop .i) v (getD (now (a .depths)) (loop .n) 0) j) (wide .ensures .0)) j h ∙ loop .inv .2 j h,
+          (λ (v : ℕ). keptField (loop .t) ((a .from) + loop .i) v (getD (now (a .depths)) (loop .n) 0) j) (wide .ensures .0)) j h ∙ loop .inv .2 j h,
       omega
           (arith, loop .inv .3, keep .kept .0),
     )

@@ -7,7 +7,7 @@ use Rattle.judge.proofs.calls_number.Tie as tie
 use Rattle.judge.proofs.calls_number.Reads as reads
 use Rattle.judge.proofs.calls_number.Lts as lts
 use Rattle.calls.proofs.calls_ok.Reads as calls-ok-reads
-use Rattle.codes.proofs.table.Reads as table-reads
+use Rattle.instructions.proofs.table.Reads as table-reads
 
 table-requires : tie.Need-table-requires
 table-requires c κs = search needs

@@ -7,7 +7,7 @@ use Rattle.judge.proofs.codes_number.Statement.{statement}
 use Rattle.judge.proofs.codes_number.Tie as tie
 use Rattle.judge.proofs.codes_number.Reads as reads
 use Rattle.judge.proofs.codes_number.Lts as lts
-use Rattle.codes.proofs.table.Reads as table-reads
+use Rattle.instructions.proofs.table.Reads as table-reads
 use Rattle.file_codes.proofs.codes_ok.Reads as codes-ok-reads
 
 table-requires : tie.Need-table-requires

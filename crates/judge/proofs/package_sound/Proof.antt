@@ -1,58 +1,56 @@
 -- `judge::package_sound` meets its contract. Assumes nothing.
-use Rattle.judge.specs.Says.{ParentsTold}
-use Rattle.store.specs.Entries.{part}
-use mathlib.Core.Path.{_≡_, refl, subst}
 use Prim.Native.Nat.{ℕ}
 use native.Mathlib.Omega.{arith}
+use mathlib.Core.Path.{_≡_, refl, subst}
 use denote.Ref.{now}
+use Rattle.store.specs.Entries.{part}
+use Rattle.judge.specs.Says.{DepthsTold}
 use Rattle.judge.proofs.Packages as packages
 use Rattle.judge.proofs.Loading as loading
 use Rattle.judge.proofs.Stages as stages
 use borrow.Author.Needs.{needs}
 use Rattle.judge.proofs.package_sound.Statement.{statement}
 use Rattle.judge.proofs.package_sound.Tie as tie
-use Rattle.judge.proofs.package_sound.Reads as reads
-use Rattle.judge.proofs.package_sound.Lts as lts
-use Rattle.depths.proofs.keep_depths.Reads as keep-depths-reads
-use Rattle.index.proofs.enter_package.Reads as enter-package-reads
-use Rattle.judge.proofs.later_number.Reads as later-number-reads
-use Rattle.judge.proofs.parents_answer.Reads as parents-answer-reads
 
-sub-parents-answer : tie.Need-sub-parents-answer
-sub-parents-answer c =
-    let start = c .before .before .before .before in
-    let a = start .args in
-    let x = a .x in
-    let t = start .pre .0 .1 in
+sub-inside-answer : tie.Need-sub-inside-answer
+sub-inside-answer c =
+    let t = c .before .before .before .before .pre .0 .1 in
     omega (arith, t .domain, t .file, t .stands .to)
 
-part-parents-answer-start : tie.Need-part-parents-answer-start
-part-parents-answer-start c =
-    let start = c .before .before .before .before in
-    let a = start .args in
-    let x = a .x in
-    let t = start .pre .0 .1 in
+part-inside-answer-start : tie.Need-part-inside-answer-start
+part-inside-answer-start c =
+    let t = c .before .before .before .before .pre .0 .1 in
     omega (arith, t .domain, t .file, t .stands .to)
 
-part-parents-answer-end : tie.Need-part-parents-answer-end
-part-parents-answer-end c =
-    let start = c .before .before .before .before in
-    let a = start .args in
-    let x = a .x in
-    let t = start .pre .0 .1 in
+part-inside-answer-end : tie.Need-part-inside-answer-end
+part-inside-answer-end c =
+    let t = c .before .before .before .before .pre .0 .1 in
     omega (arith, t .domain, t .file, t .stands .to)
 
-slice-aggregate-parents-answer : tie.Need-slice-aggregate-parents-answer
-slice-aggregate-parents-answer c = search needs
+sub-inside-answer-2 : tie.Need-sub-inside-answer-2
+sub-inside-answer-2 c =
+    let t = c .before .before .before .before .before .pre .0 .1 in
+    omega (arith, t .domain, t .file, t .stands .to)
 
-parents-answer-requires : tie.Need-parents-answer-requires
-parents-answer-requires c κs =
+part-inside-answer-start-2 : tie.Need-part-inside-answer-start-2
+part-inside-answer-start-2 c =
+    let t = c .before .before .before .before .before .pre .0 .1 in
+    omega (arith, t .domain, t .file, t .stands .to)
+
+part-inside-answer-end-2 : tie.Need-part-inside-answer-end-2
+part-inside-answer-end-2 c =
+    let t = c .before .before .before .before .before .pre .0 .1 in
+    omega (arith, t .domain, t .file, t .stands .to)
+
+slice-aggregate-inside-answer : tie.Need-slice-aggregate-inside-answer
+slice-aggregate-inside-answer c = search needs
+
+inside-answer-requires : tie.Need-inside-answer-requires
+inside-answer-requires c κs =
     let start = c .before .before .before .before .before .before .before .before .before in
     let a = start .args in
     let pre = start .pre in
-    let x = a .x in
-    let t = pre .0 .1 in
-    (pre .0 .0, ((packages.indexed (now (a .s)) (x .at) _ (pre .0 .0) (pre .1 .0 .0), pre .1 .0 .1, pre .1 .1 .0), (refl, refl)))
+    (pre .0 .0, ((packages.indexed (now (a .s)) (a .x .at) _ (pre .0 .0) (pre .1 .0 .0), pre .1 .0 .1, pre .1 .1 .0), refl))
 
 enum-told : tie.Need-enum-told
 enum-told c = search needs
@@ -65,96 +63,68 @@ slice-aggregate-keep-depths c = search needs
 
 keep-depths-requires : tie.Need-keep-depths-requires
 keep-depths-requires c κs =
-    let c1 = c .before .before in
-    let enum-told2 = c1 .enum-told2 in
-    let c2 = c1 .before .before .before in
-    let parents-answer = c2 .parents-answer in
-    let start = c2 .before .before .before .before .before .before .before .before .before .before in
+    let told2 = c .before .before .enum-told2 in
+    let at-answer = c .before .before .before .before .before in
+    let answer = at-answer .inside-answer in
+    let start = at-answer .before .before .before .before .before .before .before .before .before .before in
     let a = start .args in
     let pre = start .pre in
     let x = a .x in
-    let t = pre .0 .1 in
-    let told = subst (ParentsTold (now (a .s)) (x .at) (part (now (a .s)) (x .file) (x .next)) _ _) (enum-told2 .given .1) (parents-answer .ensures .1) in
-    let asked = loading.asked-14 (now (a .s)) (x .at) (part (now (a .s)) (x .from) (x .file)) (part (now (a .s)) (x .file) (x .next))
-    (parents-answer .result) (parents-answer .ensures .0) (enum-told2 .given .0 .0) (enum-told2 .given .1) (pre .0 .0) in (
-      (t .file, t .stands .to, pre .1 .0 .1 .room, pre .1 .1 .0),
-      (
-        stages.readable (now (a .s)) (x .at) (part (now (a .s)) (x .from) (x .file))
-            (part (now (a .s)) (x .file) (x .next)) asked,
-        told .2,
-      ),
-    )
+    let d = part (now (a .s)) (x .from) (x .file) in
+    let f = part (now (a .s)) (x .file) (x .next) in
+    let kept = subst (DepthsTold (now (a .s)) (x .at) f _) (told2 .given .1) (answer .ensures .1) in
+    let asked = loading.asked-inside (now (a .s)) (x .at) d f (answer .result) (answer .ensures .0) (told2 .given .0 .0) (told2 .given .1) (pre .0 .0) in
+    ((pre .0 .1 .file, pre .0 .1 .stands .to, pre .1 .0 .1 .room, pre .1 .1 .0), (stages.readable (now (a .s)) (x .at) d f asked, kept .1))
 
-sub-later-number : tie.Need-sub-later-number
-sub-later-number c =
-    let c1 = c .before .before .before .before .before .before .before .before .before .before in
-    let start = c1 .before .before .before .before .before .before .before .before in
-    let a = start .args in
-    let x = a .x in
-    let t = start .pre .0 .1 in
+sub-running-number : tie.Need-sub-running-number
+sub-running-number c =
+    let half = c .before .before .before .before .before .before .before .before .before in
+    let t = half .before .before .before .before .before .before .before .before .before .pre .0 .1 in
     omega (arith, t .domain, t .file, t .stands .to)
 
-part-later-number-start : tie.Need-part-later-number-start
-part-later-number-start c =
-    let c1 = c .before .before .before .before .before .before .before .before .before .before in
-    let start = c1 .before .before .before .before .before .before .before .before in
-    let a = start .args in
-    let x = a .x in
-    let t = start .pre .0 .1 in
+part-running-number-start : tie.Need-part-running-number-start
+part-running-number-start c =
+    let half = c .before .before .before .before .before .before .before .before .before in
+    let t = half .before .before .before .before .before .before .before .before .before .pre .0 .1 in
     omega (arith, t .domain, t .file, t .stands .to)
 
-part-later-number-end : tie.Need-part-later-number-end
-part-later-number-end c =
-    let c1 = c .before .before .before .before .before .before .before .before .before .before in
-    let start = c1 .before .before .before .before .before .before .before .before in
-    let a = start .args in
-    let x = a .x in
-    let t = start .pre .0 .1 in
+part-running-number-end : tie.Need-part-running-number-end
+part-running-number-end c =
+    let half = c .before .before .before .before .before .before .before .before .before in
+    let t = half .before .before .before .before .before .before .before .before .before .pre .0 .1 in
     omega (arith, t .domain, t .file, t .stands .to)
 
-sub-later-number-2 : tie.Need-sub-later-number-2
-sub-later-number-2 c =
-    let c1 = c .before .before .before .before .before .before .before .before .before .before in
-    let start = c1 .before .before .before .before .before .before .before .before .before in
-    let a = start .args in
-    let x = a .x in
-    let t = start .pre .0 .1 in
+sub-running-number-2 : tie.Need-sub-running-number-2
+sub-running-number-2 c =
+    let half = c .before .before .before .before .before .before .before .before .before in
+    let t = half .before .before .before .before .before .before .before .before .before .before .pre .0 .1 in
     omega (arith, t .domain, t .file, t .stands .to)
 
-part-later-number-start-2 : tie.Need-part-later-number-start-2
-part-later-number-start-2 c =
-    let c1 = c .before .before .before .before .before .before .before .before .before .before in
-    let start = c1 .before .before .before .before .before .before .before .before .before in
-    let a = start .args in
-    let x = a .x in
-    let t = start .pre .0 .1 in
+part-running-number-start-2 : tie.Need-part-running-number-start-2
+part-running-number-start-2 c =
+    let half = c .before .before .before .before .before .before .before .before .before in
+    let t = half .before .before .before .before .before .before .before .before .before .before .pre .0 .1 in
     omega (arith, t .domain, t .file, t .stands .to)
 
-part-later-number-end-2 : tie.Need-part-later-number-end-2
-part-later-number-end-2 c =
-    let c1 = c .before .before .before .before .before .before .before .before .before .before in
-    let start = c1 .before .before .before .before .before .before .before .before .before in
-    let a = start .args in
-    let x = a .x in
-    let t = start .pre .0 .1 in
+part-running-number-end-2 : tie.Need-part-running-number-end-2
+part-running-number-end-2 c =
+    let half = c .before .before .before .before .before .before .before .before .before in
+    let t = half .before .before .before .before .before .before .before .before .before .before .pre .0 .1 in
     omega (arith, t .domain, t .file, t .stands .to)
 
-later-number-requires : tie.Need-later-number-requires
-later-number-requires c κs =
-    let c1 = c .before .before .before .before .before .before .before .before .before .before in
-    let enum-told2 = c1 .enum-told2 in
-    let c2 = c1 .before .before .before in
-    let parents-answer = c2 .parents-answer in
-    let start = c2 .before .before .before .before .before .before .before .before .before .before in
+running-number-requires : tie.Need-running-number-requires
+running-number-requires c κs =
+    let told2 = c .before .before .before .before .before .before .before .before .before .enum-told2 in
+    let at-answer = c .before .before .before .before .before .before .before .before .before .before .before .before in
+    let answer = at-answer .inside-answer in
+    let start = at-answer .before .before .before .before .before .before .before .before .before .before in
     let a = start .args in
     let pre = start .pre in
     let x = a .x in
-    let t = pre .0 .1 in
-    let told = subst (ParentsTold (now (a .s)) (x .at) (part (now (a .s)) (x .file) (x .next)) _ _) (enum-told2 .given .1) (parents-answer .ensures .1) in (
-      loading.asked-14 (now (a .s)) (x .at) (part (now (a .s)) (x .from) (x .file)) (part (now (a .s)) (x .file) (x .next)) (parents-answer .result)
-          (parents-answer .ensures .0) (enum-told2 .given .0 .0) (enum-told2 .given .1) (pre .0 .0),
-      ((told .0, packages.indexed (now (a .s)) (x .at) _ (pre .0 .0) (pre .1 .0 .0)), pre .1 .1),
-    )
+    let d = part (now (a .s)) (x .from) (x .file) in
+    let f = part (now (a .s)) (x .file) (x .next) in
+    let asked = loading.asked-inside (now (a .s)) (x .at) d f (answer .result) (answer .ensures .0) (told2 .given .0 .0) (told2 .given .1) (pre .0 .0) in
+    ((asked, packages.indexed (now (a .s)) (x .at) _ (pre .0 .0) (pre .1 .0 .0)), pre .1 .1)
 
 same-length : tie.Need-same-length
 same-length c = search needs
@@ -167,40 +137,34 @@ same-length-3 c = search needs
 
 returns : tie.Need-returns
 returns c =
-    let c1 = c .before .before .before in
-    let later-number = c1 .later-number in
-    let c2 = c1 .before .before .before .before .before .before .before .before .before .before .before in
-    let enum-told2 = c2 .enum-told2 in
-    let c3 = c2 .before .before .before in
-    let parents-answer = c3 .parents-answer in
-    let start = c3 .before .before .before .before .before .before .before .before .before .before in
-    let a = start .args in
-    let x = a .x in
-    let t = start .pre .0 .1 in (
-      packages.entry-no (now (a .s)) x t (later-number .result) (c .if1 .taken)
-          (loading.file-number (now (a .s)) (x .at) (part (now (a .s)) (x .from) (x .file)) (part (now (a .s)) (x .file) (x .next)) (parents-answer .result)
-          (parents-answer .ensures .0) (enum-told2 .given .0 .0) (enum-told2 .given .1) (later-number .result) (later-number .ensures)),
-      λ e. let z : _≡_
-          {A = ℕ} 0 1 = cc in absurd (omega arith),
-    )
-
-enter-package-requires : tie.Need-enter-package-requires
-enter-package-requires c κs =
-    let c1 = c .before .before .before .before .before .before .before .before .before .before in
-    let c2 = c1 .before .before .before .before .before in
-    let enum-told2 = c2 .enum-told2 in
-    let c3 = c2 .before .before .before in
-    let parents-answer = c3 .parents-answer in
-    let start = c3 .before .before .before .before .before .before .before .before .before .before in
+    let number = c .before .before .before .running-number in
+    let told2 = c .before .before .before .before .before .before .before .before .before .before .before .before .before .enum-told2 in
+    let at-answer = c .before .before .before .before .before .before .before .before .before .before .before .before .before .before .before .before in
+    let answer = at-answer .inside-answer in
+    let start = at-answer .before .before .before .before .before .before .before .before .before .before in
     let a = start .args in
     let pre = start .pre in
     let x = a .x in
-    let t = pre .0 .1 in
-    let asked = loading.asked-14 (now (a .s)) (x .at) (part (now (a .s)) (x .from) (x .file)) (part (now (a .s)) (x .file) (x .next))
-    (parents-answer .result) (parents-answer .ensures .0) (enum-told2 .given .0 .0) (enum-told2 .given .1) (pre .0 .0) in (
-      (pre .1 .0 .0, packages.files-stand (now (a .s)) (x .at) (pre .0 .0)),
-      (packages.package-stands (now (a .s)) x t (asked .0) (asked .1) (asked .2), pre .1 .1 .0),
-    )
+    let d = part (now (a .s)) (x .from) (x .file) in
+    let f = part (now (a .s)) (x .file) (x .next) in
+    let is = loading.later-number (now (a .s)) (x .at) d f (answer .result) (answer .ensures .0) (told2 .given .0 .0) (told2 .given .1) (number .result)
+    (number .ensures) in
+    (packages.entry-no (now (a .s)) x (pre .0 .1) (number .result) (c .if1 .taken) is, λ e. let z : _≡_ {A = ℕ} 0 1 = cc in absurd (omega arith))
+
+enter-package-requires : tie.Need-enter-package-requires
+enter-package-requires c κs =
+    let told2 = c .before .before .before .before .before .before .before .before .before .before .before .before .before .before .enum-told2 in
+    let at-answer = c .before .before .before .before .before .before .before .before .before .before .before .before .before .before .before .before .before in
+    let answer = at-answer .inside-answer in
+    let start = at-answer .before .before .before .before .before .before .before .before .before .before in
+    let a = start .args in
+    let pre = start .pre in
+    let x = a .x in
+    let d = part (now (a .s)) (x .from) (x .file) in
+    let f = part (now (a .s)) (x .file) (x .next) in
+    let asked = loading.asked-inside (now (a .s)) (x .at) d f (answer .result) (answer .ensures .0) (told2 .given .0 .0) (told2 .given .1) (pre .0 .0) in
+    let stands = packages.package-stands (now (a .s)) x (pre .0 .1) (asked .0) (asked .1) (asked .2) in
+    ((pre .1 .0 .0, packages.files-stand (now (a .s)) (x .at) (pre .0 .0)), (stands, pre .1 .1 .0))
 
 same-length-4 : tie.Need-same-length-4
 same-length-4 c = search needs
@@ -210,16 +174,16 @@ same-length-5 c = search needs
 
 returns-2 : tie.Need-returns-2
 returns-2 c =
-    let c1 = c .before .before .before in
-    let parents-answer = c1 .parents-answer in
-    let start = c1 .before .before .before .before .before .before .before .before .before .before in
+    let at-answer = c .before .before .before in
+    let answer = at-answer .inside-answer in
+    let start = at-answer .before .before .before .before .before .before .before .before .before .before in
     let a = start .args in
-    let pre = start .pre in
     let x = a .x in
-    let t = pre .0 .1 in
-    let no = packages.first-number (now (a .s)) (x .at) (part (now (a .s)) (x .from) (x .file)) (part (now (a .s)) (x .file) (x .next))
-    (parents-answer .result) (c .enum-told .given .0 .0) (parents-answer .ensures .0) (c .enum-told .given .1) (pre .0 .0) in
-    (packages.entry-no (now (a .s)) x t (c .enum-told .given .0 .0) (no .0) (no .1), λ e. let z : _≡_ {A = ℕ} 0 1 = cc in absurd (omega arith))
+    let n = c .enum-told .given .0 .0 in
+    let d = part (now (a .s)) (x .from) (x .file) in
+    let f = part (now (a .s)) (x .file) (x .next) in
+    let no = packages.first-number (now (a .s)) (x .at) d f (answer .result) n (answer .ensures .0) (c .enum-told .given .1) (start .pre .0 .0) in
+    (packages.entry-no (now (a .s)) x (start .pre .0 .1) n (no .0) (no .1), λ e. let z : _≡_ {A = ℕ} 0 1 = cc in absurd (omega arith))
 
 same-length-6 : tie.Need-same-length-6
 same-length-6 c = search needs
@@ -232,53 +196,50 @@ same-length-8 c = search needs
 
 returns-3 : tie.Need-returns-3
 returns-3 c =
-    let c1 = c .before .before in
-    let c2 = c1 .before .before in
-    let c3 = c2 .before .before .before in
-    let later-number = c3 .later-number in
-    let c4 = c3 .before .before .before .before .before .before .before .before in
-    let keep-depths = c4 .keep-depths in
-    let c5 = c4 .before .before .before in
-    let enum-told2 = c5 .enum-told2 in
-    let c6 = c5 .before .before .before in
-    let parents-answer = c6 .parents-answer in
-    let start = c6 .before .before .before .before .before .before .before .before .before .before in
+    let number = c .before .before .before .before .before .before .before .running-number in
+    let keep = c .before .before .before .before .before .before .before .before .before .before .before .before .before .before .keep-depths in
+    let half = c .before .before .before .before .before .before .before .before in
+    let told2 = half .before .before .before .before .before .before .before .before .before .enum-told2 in
+    let half = c .before .before .before .before .before .before .before .before .before in
+    let at-answer = half .before .before .before .before .before .before .before .before .before .before .before in
+    let answer = at-answer .inside-answer in
+    let start = at-answer .before .before .before .before .before .before .before .before .before .before in
     let a = start .args in
     let pre = start .pre in
     let x = a .x in
-    let t = pre .0 .1 in
-    let told = subst (ParentsTold (now (a .s)) (x .at) (part (now (a .s)) (x .file) (x .next)) _ _) (enum-told2 .given .1) (parents-answer .ensures .1) in (
-      packages.entry-yes (now (a .s)) x t (later-number .result) (c2 .if1 .left)
-          (loading.file-number (now (a .s)) (x .at) (part (now (a .s)) (x .from) (x .file)) (part (now (a .s)) (x .file) (x .next))
-          (parents-answer .result) (parents-answer .ensures .0) (enum-told2 .given .0 .0) (enum-told2 .given .1) (later-number .result)
-          (later-number .ensures)),
-      λ e. (
-        c1 .enter-package .ensures,
-        packages.depths-behind (now (a .s)) x t (pre .0 .0) (pre .1 .0 .1) (told .2) (told .1) (keep-depths .ensures .0) (keep-depths .ensures .1)
-            (omega (arith, keep-depths .kept .1 .0)),
-      ),
-    )
+    let d = part (now (a .s)) (x .from) (x .file) in
+    let f = part (now (a .s)) (x .file) (x .next) in
+    let kept = subst (DepthsTold (now (a .s)) (x .at) f _) (told2 .given .1) (answer .ensures .1) in
+    let is = loading.later-number (now (a .s)) (x .at) d f (answer .result) (answer .ensures .0) (told2 .given .0 .0) (told2 .given .1) (number .result)
+    (number .ensures) in
+    let behind = packages.depths-behind (now (a .s)) x (pre .0 .1) (pre .0 .0) (pre .1 .0 .1) (kept .1) (kept .0) (keep .ensures .0) (keep .ensures .1)
+    (omega (arith, keep .kept .1 .0)) in
+    let accepted = packages.entry-yes (now (a .s)) x (pre .0 .1) (number .result) (c .before .before .before .before .if1 .left) is in
+    (accepted, λ e. (c .before .before .enter-package .ensures, behind))
 
 pub package-sound-spec : {M : Type 1} → statement M
 package-sound-spec =
     tie.close
     (tie.spec
-    sub-parents-answer
-    part-parents-answer-start
-    part-parents-answer-end
-    slice-aggregate-parents-answer
-    parents-answer-requires
+    sub-inside-answer
+    part-inside-answer-start
+    part-inside-answer-end
+    sub-inside-answer-2
+    part-inside-answer-start-2
+    part-inside-answer-end-2
+    slice-aggregate-inside-answer
+    inside-answer-requires
     enum-told
     enum-told-2
     slice-aggregate-keep-depths
     keep-depths-requires
-    sub-later-number
-    part-later-number-start
-    part-later-number-end
-    sub-later-number-2
-    part-later-number-start-2
-    part-later-number-end-2
-    later-number-requires
+    sub-running-number
+    part-running-number-start
+    part-running-number-end
+    sub-running-number-2
+    part-running-number-start-2
+    part-running-number-end-2
+    running-number-requires
     same-length
     same-length-2
     same-length-3

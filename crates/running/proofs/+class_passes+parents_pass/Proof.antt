@@ -86,6 +86,10 @@ class-passes-cast-bit : (t : ℕ) →
     class-passes-lts.Need-cast-bit (class-passes-claims t) (class-passes-at t) class-passes.Post
 class-passes-cast-bit t c = search needs
 
+class-passes-mul-bit : (t : ℕ) →
+    class-passes-lts.Need-mul-bit (class-passes-claims t) (class-passes-at t) class-passes.Post
+class-passes-mul-bit t c = search needs
+
 class-passes-cast-bit-2 : (t : ℕ) →
     class-passes-lts.Need-cast-bit-2 (class-passes-claims t) (class-passes-at t) class-passes.Post
 class-passes-cast-bit-2 t c = search needs
@@ -373,6 +377,7 @@ pub +class-passes+parents-pass-spec : {M : Type 1} → statement M
 +class-passes+parents-pass-spec = close μ-class-passes μ-parents-pass
     (λ t. class-passes-lts.spec (class-passes-claims t) (class-passes-at t) class-passes.Post
     (class-passes-cast-bit t)
+    (class-passes-mul-bit t)
     (class-passes-cast-bit-2 t)
     (class-passes-add-bit t)
     (class-passes-get-requires t)

@@ -32,6 +32,12 @@ returns c =
     let w = b .args .w in
     (whole.own-nothing f s (w .end) (w .own) (b .pre .0 .1) (c .before .none-run .ensures (c .if1 .taken)), b .pre .1 .1 .1 .1)
 
+mul-clear-to : tie.Need-mul-clear-to
+mul-clear-to c =
+    let b = c .before .before .before .before .before .before .before .before in
+    let w = b .args .w in
+    record { fits = omega (arith, whole.own-end (now (b .args .f)) (now (b .args .s)) (w .end) (w .own) (b .pre .0 .0), b .pre .1 .1 .0 .1) }
+
 add-clear-to : tie.Need-add-clear-to
 add-clear-to c = search needs
 
@@ -70,7 +76,7 @@ class-passes-requires c κs =
     let i = b .pre .1 .1 .0 in
     let from = whole.own-from f s (now (b .args .index)) (now (b .args .names)) w (b .pre .0 .1) (b .pre .0 .0) (n .0) (n .1) (i .0) (i .1) in
     let seen = whole.seen-none f s (w .end) (w .own) _ (omega (arith, b .pre .1 .1 .1 .0)) (c2 .clear-to
-    .ensures .0) in
+    .ensures) in
     (subst (WalkFrom f s (now (b .args .index)) (now (b .args .names))) (sym e) from, (whole.own-seen f s w _ _ e seen, b .pre .1 .1 .1 .1))
 
 same-length : tie.Need-same-length
@@ -100,6 +106,7 @@ own-class-passes-spec =
     (tie.spec
     none-run-requires
     returns
+    mul-clear-to
     add-clear-to
     clear-to-requires
     own-home-requires

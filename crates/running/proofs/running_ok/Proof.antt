@@ -14,21 +14,12 @@ use Rattle.classes.proofs.Places as places
 use Rattle.chains.specs.Say.{RunningThere}
 use Rattle.chains.specs.Names.{Kept}
 use Rattle.slots.specs.Slots.{SlotsTrue}
-use Rattle.slots.proofs.Asked as asked
+use Rattle.slots.proofs.Asked as asked-of
 use Rattle.running.specs.Say.{OwnPasses}
 use Rattle.running.proofs.Whole as whole
 use borrow.Author.Needs.{needs}
 use Rattle.running.proofs.running_ok.Statement.{statement}
 use Rattle.running.proofs.running_ok.Tie as tie
-use Rattle.running.proofs.running_ok.Reads as reads
-use Rattle.running.proofs.running_ok.Lts as lts
-use Rattle.chains.proofs.find_names.Reads as find-names-reads
-use Rattle.chains.proofs.no_names.Reads as no-names-reads
-use Rattle.classes.proofs.is_kind0.Reads as is-kind0-reads
-use Rattle.homes.proofs.own_home.Reads as own-home-reads
-use Rattle.fields.proofs.wide.Reads as wide-reads
-use Rattle.files.proofs.classes_at.Reads as classes-at-reads
-use Rattle.running.proofs.own_class_passes.Reads as own-class-passes-reads
 
 abbrev Inv-loop : tie.InvT-loop
 Inv-loop f s end index seen₀ slots₀ names₀ h kept₀ count b₀ seen slots names kept b =
@@ -68,169 +59,169 @@ loop-holds c =
     let f = now (b .args .f) in
     let s = now (b .args .s) in
     let end = b .args .end in
+    let list = c .before .before .classes-at in
     let none = c .before .before .before .no-names .ensures in (
-      whole.own-start f s end (c .before .before .classes-at .result) (c .before .before .classes-at .ensures) (c .wide .result) (c .wide .ensures .0),
-      asked.slots-start f s,
+      whole.own-start f s end (list .result) (list .ensures) (c .wide .result) (c .wide .ensures .0),
+      asked-of.slots-start f s,
       refl,
       none .0,
       none .1 f s _,
       length-replicate {A = ℕ} 640 0,
     )
 
+slice-aggregate-is-kind0 : tie.Need-slice-aggregate-is-kind0 Inv-loop μ-loop
+slice-aggregate-is-kind0 c = search needs
+
 is-kind0-requires : tie.Need-is-kind0-requires Inv-loop μ-loop
 is-kind0-requires c κs =
-    let b = c .before .before .before .before .before .before .before .before .before .before .before in
+    let c1 = c .before .before .before .before .before .before .before in
+    let b = c1 .before .before .before .before .before in
     let f = now (b .args .f) in
     let s = now (b .args .s) in
     let end = b .args .end in
-    let i = c .before .loop .b in
-    let inv = c .before .loop .inv in
-    let own = whole.own-there′ f s end (c .before .before .wide .result) i (inv .0) (c .loop-test .taken) (b .pre .0) in
-    subst (λ (a : Home). ClassThere f s a i) (sym (c .before .before .before .before .before .before .own-home .ensures)) (places.own-class-there f s end i
-    own)
+    let count = c .before .before .before .wide .result in
+    let i = c .before .before .loop .b in
+    let inv = c .before .before .loop .inv in
+    let below = c .before .loop-test .taken in
+    let own = whole.own-there′ f s end count i (inv .0) below (b .pre .0) in
+    let there = subst (λ (a : Home). ClassThere f s a i) (sym (c1 .own-home .ensures)) (places.own-class-there f s end i own) in
+    ((there, b .pre .1 .0 .1), inv .1)
 
 slice-aggregate-find-names : tie.Need-slice-aggregate-find-names Inv-loop μ-loop
 slice-aggregate-find-names c = search needs
 
+slice-aggregate-find-names-2 : tie.Need-slice-aggregate-find-names-2 Inv-loop μ-loop
+slice-aggregate-find-names-2 c = search needs
+
 find-names-requires : tie.Need-find-names-requires Inv-loop μ-loop
 find-names-requires c κs =
-    let b = c .before .before .before .before .before .before .before .before .before .before .before .before .before .before in
+    let c1 = c .before .before .before .before in
+    let c2 = c1 .before .before .before .before in
+    let c3 = c2 .before .before .before .before in
+    let c4 = c3 .before .before .before .before in
+    let b = c4 .before in
     let f = now (b .args .f) in
     let s = now (b .args .s) in
     let end = b .args .end in
-    let i = c .before .before .before .before .loop .b in
-    let inv = c .before .before .before .before .loop .inv in
-    let own = whole.own-there′ f s end (c .before .before .before .before .before .wide .result) i (inv .0) (c .before .before .before .loop-test .taken) (b
-    .pre .0) in
-    let kind : Kind0Is f s (ownHome end) i true = subst (λ (a : Home). Kind0Is f s a i true) (c .before .before .before .before .before .before .before
-    .before .before .own-home .ensures) (subst (Kind0Is f s (c .before .before .before .before .before .before .before .before .before .own-home .result)
-    i) (c .before .if1 .taken) (c .before .before .is-kind0 .ensures)) in
-    let byte = c .before .before .before .before .before .before .before .before .before .before .before .before .before .shared-slice-known .given in (
-      subst (λ (n : ℕ). RunningThere f s n i) (sym (inv .3)) (whole.own-runs f s end i kind own),
-      (
-        (inv .4, whole.names-room f s _ (whole.judged-reads f s end (b .pre .0)) (omega (arith, byte 5)) (omega (arith, byte 6)) (b .pre .1 .0 .1) (inv .5)),
-        subst (λ (n : ℕ). Indexed s n (now (b .args .index))) (sym (inv .3)) (b .pre .1 .0 .0),
-      ),
-    )
+    let count = c2 .wide .result in
+    let i = c1 .before .before .before .loop .b in
+    let inv = c1 .before .before .before .loop .inv in
+    let below = c1 .before .before .loop-test .taken in
+    let own = whole.own-there′ f s end count i (inv .0) below (b .pre .0) in
+    let h = c3 .own-home in
+    let asked = subst (Kind0Is f s (h .result) i) (c .before .before .if1 .taken) (c1 .is-kind0 .ensures .0) in
+    let kind = subst (λ (a : Home). Kind0Is f s a i true) (h .ensures) asked in
+    let byte = c4 .shared-slice-known .given in
+    let room = whole.names-room f s _ (whole.judged-reads f s end (b .pre .0)) (omega (arith, byte 5)) (omega (arith, byte 6)) (b .pre .1 .0 .1) (inv .5) in
+    let indexed = subst (λ (n : ℕ). Indexed s n (now (b .args .index))) (sym (inv .3)) (b .pre .1 .0 .0) in
+    (subst (λ (n : ℕ). RunningThere f s n i) (sym (inv .3)) (whole.own-runs f s end i kind own), ((inv .4, room), (indexed, c1 .is-kind0 .ensures .1)))
 
 own-class-passes-requires : tie.Need-own-class-passes-requires Inv-loop μ-loop
 own-class-passes-requires c κs =
-    let b = c .before .before .before .before .before .before .before .before .before .before .before .before .before .before .before .before .before .before
-    .before in
+    let c1 = c .before .before .before .before .before in
+    let c2 = c1 .before .before .before .before .before in
+    let c3 = c2 .before .before .before .before in
+    let c4 = c3 .before .before .before .before in
+    let b = c4 .before .before .before .before .before in
     let f = now (b .args .f) in
     let s = now (b .args .s) in
     let end = b .args .end in
-    let i = c .before .before .before .before .before .before .before .before .before .loop .b in
-    let inv = c .before .before .before .before .before .before .before .before .before .loop .inv in
-    let own = whole.own-there′ f s end (c .before .before .before .before .before .before .before .before .before .before .wide .result) i (inv .0) (c
-    .before .before .before .before .before .before .before .before .loop-test .taken) (b .pre .0) in
-    let kind : Kind0Is f s (ownHome end) i true = subst (λ (a : Home). Kind0Is f s a i true) (c .before .before .before .before .before .before .before
-    .before .before .before .before .before .before .before .own-home .ensures) (subst (Kind0Is f s (c .before .before .before .before .before .before
-    .before .before .before .before .before .before .before .before .own-home .result) i) (c .before .before .before .before .before .before .if1 .taken)
-    (c .before .before .before .before .before .before .before .is-kind0 .ensures)) in
-    let w = c .before .before .before .before .find-names .result in
-    let told = c .before .before .before .before .find-names .ensures .0 in
-    let at = told .0 ∙ inv .3 in (
-      whole.at-own (λ (x y : ℕ). OwnThere f s x y × Kind0Is f s (ownHome x) y true) (w .end) (w .own) end i at (told .1) (own, kind),
-      (
-        (told .2, omega (arith, inv .5)),
-        (
-          (subst (λ (n : ℕ). Indexed s n (now (b .args .index))) (sym at) (b .pre .1 .0 .0), b .pre .1 .0 .1),
-          (
-            omega (
-              arith,
-              b
-                  .pre .1 .1,
-              inv .2,
-            ),
-            inv .1,
-          ),
-        ),
-      ),
-    )
+    let count = c3 .wide .result in
+    let i = c2 .before .before .before .loop .b in
+    let inv = c2 .before .before .before .loop .inv in
+    let below = c2 .before .before .loop-test .taken in
+    let own = whole.own-there′ f s end count i (inv .0) below (b .pre .0) in
+    let h = c4 .own-home in
+    let asked = subst (Kind0Is f s (h .result) i) (c1 .before .before .before .if1 .taken) (c2 .is-kind0 .ensures .0) in
+    let kind = subst (λ (a : Home). Kind0Is f s a i true) (h .ensures) asked in
+    let w = c1 .find-names .result in
+    let told = c1 .find-names .ensures .0 in
+    let at = told .0 ∙ inv .3 in
+    let there = whole.at-own (λ (x y : ℕ). OwnThere f s x y × Kind0Is f s (ownHome x) y true) (w .end) (w .own) end i at (told .1) (own, kind) in
+    let indexed = subst (λ (n : ℕ). Indexed s n (now (b .args .index))) (sym at) (b .pre .1 .0 .0) in
+    let slots = c1 .find-names .ensures .1 .1 in
+    (there, ((told .2, omega (arith, inv .5, c1 .find-names .kept .1 .1 .1 .0)), ((indexed, b .pre .1 .0 .1), (omega (arith, b .pre .1 .1, inv .2), slots))))
 
 same-length : tie.Need-same-length Inv-loop μ-loop
-same-length c = omega (arith, c .before .before .before .before .before .before .before .before .before .before .before .before .before .loop .inv .2)
+same-length c =
+    let c1 = c .before .before .before .before .before .before .before .before .before .before .before .before .before .before .before .before in
+    let c2 = c1 .before in
+    omega (arith, c2 .loop .inv .2)
 
 returns : tie.Need-returns Inv-loop μ-loop
 returns c =
-    let b = c .before .before .before .before .before .before .before .before .before .before .before .before .before .before .before .before .before .before
-    .before .before .before .before .before in
+    let c1 = c .before .before .before .before .before .before .before .before .before in
+    let c2 = c1 .before .before .before .before .before .before .before in
+    let b = c2 .before .before .before .before .before .before .before .before .before .before .before in
     let f = now (b .args .f) in
     let s = now (b .args .s) in
     let end = b .args .end in
-    let i = c .before .before .before .before .before .before .before .before .before .before .before .before .before .loop .b in
-    let inv = c .before .before .before .before .before .before .before .before .before .before .before .before .before .loop .inv in
-    let w = c .before .before .before .before .before .before .before .before .find-names .result in
-    let told = c .before .before .before .before .before .before .before .before .find-names .ensures .0 in
+    let count = c2 .before .before .wide .result in
+    let i = c2 .before .loop .b in
+    let inv = c2 .before .loop .inv in
+    let below = c2 .loop-test .taken in
+    let w = c1 .find-names .result in
+    let told = c1 .find-names .ensures .0 in
     let at = told .0 ∙ inv .3 in
     let r = c .before .before .before .own-class-passes in
     let passes = whole.own-at (λ (x y : ℕ). OwnPasses f s x y (r .result)) (w .end) (w .own) end i at (told .1) (r .ensures .0) in
-    whole.own-no f s end (c .before .before .before .before .before .before .before .before .before .before .before .before .before .before .wide .result) i
-    (inv .0) (c .before .before .before .before .before .before .before .before .before .before .before .before .loop-test .taken) (subst (OwnPasses f s
-    end i) (not-true (r .result) (c .if2 .taken)) passes)
+    whole.own-no f s end count i (inv .0) below (subst (OwnPasses f s end i) (not-true (r .result) (c .if2 .taken)) passes)
 
 add-b : tie.Need-add-b Inv-loop μ-loop
 add-b c =
-    omega (
-      arith,
-      c .before .before .before .before .before .before .before .before .before .before .before .before .loop-test .taken,
-      c .before .before
-          .before .before .before .before .before .before .before .before .before .before .before .before .wide .ensures .1,
-    )
+    let c1 = c .before .before .before .before .before .before .before .before .before .before .before .before .before .before .before .before in
+    omega (arith, c1 .loop-test .taken, c1 .before .before .wide .ensures .1)
 
 loop-less : tie.Need-loop-less Inv-loop μ-loop
-loop-less c = omega (arith, c .before .before .before .before .before .before .before .before .before .before .before .before .loop-test .taken)
+loop-less c =
+    let c1 = c .before .before .before .before .before .before .before .before .before .before .before .before .before .before .before .before in
+    omega (arith, c1 .loop-test .taken)
 
 loop-again : tie.Need-loop-again Inv-loop μ-loop
 loop-again c =
-    let b = c .before .before .before .before .before .before .before .before .before .before .before .before .before .before .before .before .before .before
-    .before .before .before .before .before in
+    let c1 = c .before .before .before .before .before .before .before .before .before in
+    let c2 = c1 .before .before .before .before .before .before .before in
+    let b = c2 .before .before .before .before .before .before .before .before .before .before .before in
     let f = now (b .args .f) in
     let s = now (b .args .s) in
     let end = b .args .end in
-    let i = c .before .before .before .before .before .before .before .before .before .before .before .before .before .loop .b in
-    let inv = c .before .before .before .before .before .before .before .before .before .before .before .before .before .loop .inv in
-    let w = c .before .before .before .before .before .before .before .before .find-names .result in
-    let told = c .before .before .before .before .before .before .before .before .find-names .ensures .0 in
+    let count = c2 .before .before .wide .result in
+    let i = c2 .before .loop .b in
+    let inv = c2 .before .loop .inv in
+    let below = c2 .loop-test .taken in
+    let w = c1 .find-names .result in
+    let told = c1 .find-names .ensures .0 in
     let at = told .0 ∙ inv .3 in
     let r = c .before .before .before .own-class-passes in
-    let passes = whole.own-at (λ (x y : ℕ). OwnPasses f s x y (r .result)) (w .end) (w .own) end i at (told .1) (r .ensures .0) in (
-      whole.own-yes f s end (c .before .before .before .before .before .before .before .before .before .before .before .before .before .before .wide .result) i
-          (inv .0) (c .before .before .before .before .before .before .before .before .before .before .before .before .loop-test .taken) (subst (OwnPasses f s
-          end i) (not-false (r .result) (c .if2 .left)) passes),
-      r .ensures .1,
-      omega (arith, inv .2),
-      at,
-      c .before .before .before .before .before .before .before .before .find-names .ensures .1,
-      omega (arith, inv .5),
-    )
+    let passes = whole.own-at (λ (x y : ℕ). OwnPasses f s x y (r .result)) (w .end) (w .own) end i at (told .1) (r .ensures .0) in
+    let left = whole.own-yes f s end count i (inv .0) below (subst (OwnPasses f s end i) (not-false (r .result) (c .if2 .left)) passes) in
+    (left, r .ensures .1, omega (arith, inv .2), at, c1 .find-names .ensures .1 .0, omega (arith, inv .5, c1 .find-names .kept .1 .1 .1 .0))
 
 add-b-2 : tie.Need-add-b-2 Inv-loop μ-loop
-add-b-2 c = omega (arith, c .before .before .loop-test .taken, c .before .before .before .before .wide .ensures .1)
+add-b-2 c =
+    let c1 = c .before .before .before .before in
+    omega (arith, c1 .loop-test .taken, c1 .before .before .wide .ensures .1)
 
 loop-less-2 : tie.Need-loop-less-2 Inv-loop μ-loop
-loop-less-2 c = omega (arith, c .before .before .loop-test .taken)
+loop-less-2 c = omega (arith, c .before .before .before .before .loop-test .taken)
 
 loop-again-2 : tie.Need-loop-again-2 Inv-loop μ-loop
 loop-again-2 c =
-    let b = c .before .before .before .before .before .before .before .before .before .before .before .before .before in
+    let c1 = c .before .before .before .before in
+    let c2 = c1 .before .before .before .before .before .before in
+    let b = c2 .before .before .before .before .before in
     let f = now (b .args .f) in
     let s = now (b .args .s) in
     let end = b .args .end in
-    let i = c .before .before .before .loop .b in
-    let inv = c .before .before .before .loop .inv in
-    let kind : Kind0Is f s (ownHome end) i false = subst (λ (a : Home). Kind0Is f s a i false) (c .before .before .before .before .before .before .before
-    .before .own-home .ensures) (subst (Kind0Is f s (c .before .before .before .before .before .before .before .before .own-home .result) i) (c .if1
-    .left) (c .before .is-kind0 .ensures)) in (
-      whole.own-yes f s end (c .before .before .before .before .wide .result) i (inv .0) (c .before .before .loop-test .taken) (whole.own-interface f s end i
-          kind),
-      inv .1,
-      inv .2,
-      inv .3,
-      inv .4,
-      inv .5,
-    )
+    let count = c1 .before .before .wide .result in
+    let i = c1 .before .loop .b in
+    let inv = c1 .before .loop .inv in
+    let below = c1 .loop-test .taken in
+    let h = c2 .own-home in
+    let asked = subst (Kind0Is f s (h .result) i) (c .if1 .left) (c .before .before .is-kind0 .ensures .0) in
+    let kind = subst (λ (a : Home). Kind0Is f s a i false) (h .ensures) asked in
+    let left = whole.own-yes f s end count i (inv .0) below (whole.own-interface f s end i kind) in
+    (left, c .before .before .is-kind0 .ensures .1, inv .2, inv .3, inv .4, inv .5)
 
 same-length-2 : tie.Need-same-length-2 Inv-loop μ-loop
 same-length-2 c = c .before .loop .inv .2
@@ -255,8 +246,10 @@ running-ok-spec =
     shared-slice-read-wide
     wide-requires
     loop-holds
+    slice-aggregate-is-kind0
     is-kind0-requires
     slice-aggregate-find-names
+    slice-aggregate-find-names-2
     find-names-requires
     own-class-passes-requires
     same-length

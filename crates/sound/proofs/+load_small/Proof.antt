@@ -105,7 +105,7 @@ load-small-packages-sound-requires t c κs =
     let b = c .before .before .before .before .before .before .before in
     let p = b .pre .1 in (
       (p .0, p .1),
-      laws.tables-start (now (b .args .s)) (b .args .used) 304 820 347 (p .0) (omega (arith, p .2)) (omega (arith, p .2))
+      laws.tables-start (now (b .args .s)) (b .args .used) 304 616 284 (p .0) (omega (arith, p .2)) (omega (arith, p .2))
           (omega (arith, p .2)) (omega (arith, p .2)),
     )
 

@@ -93,7 +93,7 @@ packages-large-packages-sound-requires t c κs =
     let b = c .before .before .before .before .before in
     let p = b .pre .1 in (
       (p .0, p .1),
-      laws.tables-start (now (b .args .s)) (b .args .used) 2428 6554 2736 (p .0) (omega (arith, p .2)) (omega (arith, p .2))
+      laws.tables-start (now (b .args .s)) (b .args .used) 2428 4917 2239 (p .0) (omega (arith, p .2)) (omega (arith, p .2))
           (omega (arith, p .2)) (omega (arith, p .2)),
     )
 

@@ -4,7 +4,7 @@ use mathlib.Core.Path.{refl, sym, ap}
 use borrow.Author.Needs.{needs}
 use denote.Ref.{now}
 use Rattle.rules.specs.Code.{Switch}
-use Rattle.codes.proofs.Sizes.{switch-75, switch-76, whole-size, whole-entries, switch-room, entry-2, offset-0}
+use Rattle.instructions.proofs.Sizes.{switch-75, switch-76, whole-size, whole-entries, switch-room, entry-2, offset-0}
 use Rattle.codes.proofs.Targets.{entries-are}
 use Rattle.codes.proofs.Adding.{adds-is}
 use Rattle.codes.proofs.branches.mark_switch.Statement.{statement}

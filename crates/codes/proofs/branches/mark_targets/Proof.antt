@@ -7,7 +7,7 @@ use lib.IntN.{pos, _+ℤ_}
 use borrow.Author.Needs.{needs}
 use denote.Ref.{now}
 use Rattle.rules.specs.Code.{signed}
-use Rattle.codes.proofs.Sizes.{room-s1, room-s2}
+use Rattle.instructions.proofs.Sizes.{room-s1, room-s2}
 use Rattle.codes.proofs.Targets.{s1-target, s2-target, switch-targets, wide-target}
 use Rattle.codes.proofs.Adding.{adds-is, adds-yes, adds-no}
 use Rattle.codes.proofs.branches.mark_targets.Statement.{statement}

@@ -1,0 +1,2 @@
+-- What the functions over fields ensure.
+pub mod Words
