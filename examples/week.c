@@ -144,7 +144,7 @@ static void remove_package(struct store store, const struct aid *package, uint32
     line(store, 'R', package, NULL);
 }
 
-/* A load. The depth figure may be anything from the depth of the deepest class to 8. */
+/* A load. An accepted one carries the depth of the deepest class. */
 static uint32_t load(struct store store, const char *what, const struct aid *domain,
                      const struct file *file, unsigned deepest, uint32_t expected)
 {
@@ -154,12 +154,11 @@ static uint32_t load(struct store store, const char *what, const struct aid *dom
     remember(store);
     answer = loader_load(store.bytes, store.length, domain->bytes, domain->length, file->bytes,
                          file->length);
-    snprintf(remark, sizeof remark, "done, deepest class %u", deepest);
+    snprintf(remark, sizeof remark, "done, deepest class %u", (unsigned)LOADER_FIGURE(answer));
     row(store, answer, expected, remark, "load %s into %s", what, domain->name);
     line(store, 'L', domain, file);
-    if (LOADER_NUMBER(answer) == LOADER_DONE
-        && (LOADER_FIGURE(answer) < deepest || LOADER_FIGURE(answer) > LOADER_DEPTH_MOST)) {
-        unexpected(what, "a depth figure outside its bounds");
+    if (LOADER_NUMBER(answer) == LOADER_DONE && LOADER_FIGURE(answer) != deepest) {
+        unexpected(what, "another depth");
     }
     return LOADER_NUMBER(answer);
 }

@@ -3,9 +3,9 @@
  *
  * Every operation answers number + 256 * figure. The number is 0 when the
  * operation was done; else it is that of the first question answered no
- * (enum loader_number). The figure is the depth figure of an accepted load,
- * 1 for a query's yes, and 0 otherwise. LOADER_NUMBER and LOADER_FIGURE take
- * an answer apart.
+ * (enum loader_number). The figure is the depth of an accepted load's deepest
+ * class, 1 for a query's yes, and 0 otherwise. LOADER_NUMBER and LOADER_FIGURE
+ * take an answer apart.
  *
  * Slices. Bytes are passed as a pointer and then their number. An AID is passed
  * as its 5 to 16 bare bytes, without the length that stands before it in a
@@ -103,10 +103,11 @@ extern "C" {
 /*
  * The version of this header and of the library that goes with it: the major
  * number grows where a call that was right before means something else, the
- * minor one where something is added.
+ * minor one where something is added. Since 1.1 an accepted load's figure is the
+ * depth itself; in 1.0 it was only not less.
  */
 #define LOADER_VERSION_MAJOR 1u
-#define LOADER_VERSION_MINOR 0u
+#define LOADER_VERSION_MINOR 1u
 #define LOADER_VERSION (LOADER_VERSION_MAJOR * 256u + LOADER_VERSION_MINOR)
 
 /* The number of an answer: the question that was answered no. */
@@ -223,8 +224,9 @@ uint32_t loader_delete(uint8_t *store, size_t store_length,
  * Changes: the package's entry is written at used: kind, length, the domain's
  *          AID with its length, the file as it is. Used grows by its
  *          4 + domain_length + file_length bytes. All other bytes stay.
- * Figure:  accepted, the depth figure: at least the depth of the file's deepest
- *          class (0 if it has none) and at most LOADER_DEPTH_MOST. Refused, 0.
+ * Figure:  accepted, exactly the depth of the file's deepest class or interface,
+ *          the installed classes above it counted; 0 for a file without classes.
+ *          It is at most LOADER_DEPTH_MOST. Refused, 0.
  */
 uint32_t loader_load(uint8_t *store, size_t store_length,
                      const uint8_t *domain, size_t domain_length,

@@ -5,7 +5,7 @@
  * CALLS, a step a line: N length fill bytes (a new buffer: the bytes, then the fill byte), P offset bytes
  * (bytes written into it), F (fresh), C and D (domain), L (domain, file), R (package), Q (domain, package,
  * class, name). ANSWERS, a line a call: step, number, depth, yes or no, and the FNV-1a hash of the buffer.
- * Bytes are in hexadecimal, - for none. The depth given is the least right one; LOADER_DEPTH_MOST is the most.
+ * Bytes are in hexadecimal, - for none.
  *
  * Prints how many calls were answered alike, or the first that was not; exit status 0 only for the former.
  */
@@ -135,27 +135,26 @@ static uint64_t hash(void)
     return h;
 }
 
+static void same(const char *what, unsigned long expected, unsigned long answered, unsigned long step)
+{
+    if (expected != answered) {
+        fprintf(stderr, "vectors: %s %lu expected, %lu answered\n", what, expected, answered);
+        stop("another answer", step);
+    }
+}
+
 /* Compares an answer with the next line of the answers. */
 static void compare(FILE *answers, char kind, uint32_t answer, unsigned long step)
 {
     unsigned long at, number, depth;
     char said[4];
     uint64_t bytes;
-    uint32_t figure_given = LOADER_FIGURE(answer);
-    int yes;
 
     if (fscanf(answers, "%lu %lu %lu %3s %" SCNx64, &at, &number, &depth, said, &bytes) != 5 || at != step) {
         stop("no answer to compare with", step);
     }
-    yes = strcmp(said, "yes") == 0;
-    if (LOADER_NUMBER(answer) != number) {
-        fprintf(stderr, "vectors: %lu expected, %lu answered\n", number, (unsigned long)LOADER_NUMBER(answer));
-        stop("another number", step);
-    }
-    if (kind == 'L' ? figure_given < depth || figure_given > (number == 0 ? LOADER_DEPTH_MOST : 0)
-                    : figure_given != (uint32_t)yes) {
-        stop("another figure", step);
-    }
+    same("number", number, LOADER_NUMBER(answer), step);
+    same("figure", kind == 'L' ? depth : strcmp(said, "yes") == 0, LOADER_FIGURE(answer), step);
     if (hash() != bytes) {
         stop("other bytes", step);
     }

@@ -1,5 +1,6 @@
-//! How often each operation answered each number.
+//! How often each operation answered each number, and loads by their depth figure.
 
+use independent::depths::DepthCounts;
 use independent::loader::{Independent, Loader};
 use std::cell::RefCell;
 
@@ -24,21 +25,25 @@ const CAN_ANSWER: [&[usize]; 6] = [
 #[derive(Default)]
 pub struct Counts {
     answers: [[u64; NUMBERS]; 6],
-    /// Accepted loads by the depth of the deepest class.
-    depths: [u64; 9],
+    depths: DepthCounts,
     /// Queries answered yes.
     yes: u64,
 }
 
 impl Counts {
     fn note(&mut self, operation: usize, answer: u32) {
-        let (number, figure) = ((answer & 0xFF) as usize, (answer >> 8) as usize);
+        let (number, figure) = ((answer & 0xFF) as usize, answer >> 8);
         self.answers[operation][number] += 1;
-        if number == 0 && operation == LOAD {
-            self.depths[figure] += 1;
-        }
         if number == 0 && operation == QUERY {
-            self.yes += figure as u64;
+            self.yes += u64::from(figure);
+        }
+    }
+
+    /// Notes a load; the store is as it left it.
+    fn note_load(&mut self, answer: u32, store: &[u8]) {
+        self.note(LOAD, answer);
+        if answer & 0xFF == 0 {
+            self.depths.note(answer >> 8, store);
         }
     }
 
@@ -66,13 +71,13 @@ impl Counts {
             println!();
         }
         let (loads, accepted) = (self.loads(), self.answers[LOAD][0]);
-        println!(
-            "{accepted} of {loads} loads accepted, by depth {:?}; {} of {} queries answered yes",
-            self.depths, self.yes, self.answers[QUERY][0]
-        );
+        println!("{accepted} of {loads} loads accepted: {}", self.depths);
+        let (yes, queries) = (self.yes, self.answers[QUERY][0]);
+        println!("{yes} of {queries} queries answered yes");
     }
 
-    /// What falls short of this many answers of each number and a fifth of loads accepted.
+    /// What falls short of this many answers of each number, this many accepted loads by
+    /// each depth and origin, and a fifth of loads accepted.
     pub fn shortfalls(&self, least: u64) -> Vec<String> {
         let mut found = Vec::new();
         for (operation, numbers) in CAN_ANSWER.iter().enumerate() {
@@ -87,6 +92,7 @@ impl Counts {
         if 5 * self.answers[LOAD][0] < self.loads() {
             found.push("fewer than a fifth of loads were accepted".into());
         }
+        found.extend(self.depths.shortfalls(least));
         found
     }
 }
@@ -122,7 +128,9 @@ impl Loader for Counting {
     }
 
     fn load(&self, store: &mut [u8], domain: &[u8], file: &[u8]) -> u32 {
-        self.noted(LOAD, Independent.load(store, domain, file))
+        let answer = Independent.load(store, domain, file);
+        self.counts.borrow_mut().note_load(answer, store);
+        answer
     }
 
     fn remove(&self, store: &mut [u8], package: &[u8]) -> u32 {

@@ -1,6 +1,7 @@
 //! The cases that every run compares, whatever its count.
 
 use independent::generate::faults::faulty_file;
+use independent::generate::lineages::lineages;
 use independent::generate::random::Random;
 use independent::generate::scene::Scene;
 use independent::generate::special;
@@ -37,6 +38,10 @@ pub fn groups(seed: u64) -> Vec<Group> {
         group(
             "stores full to the byte",
             special::full_stores().into_iter(),
+        ),
+        group(
+            "parents of three classes in every way",
+            lineages().into_iter(),
         ),
         group("hostile ladders", special::hostile().into_iter()),
         group("one and two faults per file", faults),

@@ -1,9 +1,11 @@
-//! An independent reading of document 01: the staff card loader.
+//! An independent reading of document 01 with request 5 of document 02: the staff
+//! card loader.
 
 pub mod bytes;
 pub mod card;
 pub mod code;
 pub mod contents;
+pub mod depths;
 pub mod generate;
 pub mod ledger;
 pub mod load_questions;
@@ -17,7 +19,7 @@ pub mod store;
 #[derive(Clone, Copy, Debug, PartialEq, Eq)]
 pub struct Answer {
     pub number: u8,
-    /// An accepted load's depth, or 1 for a query's yes; else 0.
+    /// The depth of an accepted load's deepest own class, or 1 for a query's yes; else 0.
     pub figure: u8,
 }
 

@@ -103,17 +103,6 @@ pub struct Difference {
     pub place: Option<usize>,
 }
 
-/// May the other answer stand beside ours? An accepted load's figure is free
-/// between the deepest own class and 8.
-pub fn agrees(call: &Call, ours: u32, theirs: u32) -> bool {
-    match call {
-        Call::Load { .. } if ours & 0xFF == 0 => {
-            theirs & 0xFF == 0 && (ours >> 8..=8).contains(&(theirs >> 8))
-        }
-        _ => ours == theirs,
-    }
-}
-
 /// Runs a sequence through both, each over its own buffer; tells the first difference.
 pub fn compare(ours: &dyn Loader, theirs: &dyn Loader, sequence: &Sequence) -> Option<Difference> {
     let mut our_store = sequence.start.clone();
@@ -127,7 +116,7 @@ pub fn compare(ours: &dyn Loader, theirs: &dyn Loader, sequence: &Sequence) -> O
             Step::Call(call) => {
                 let our = ours.call(&mut our_store, call);
                 let their = theirs.call(&mut their_store, call);
-                if !agrees(call, our, their) || our_store != their_store {
+                if our != their || our_store != their_store {
                     let mut pairs = our_store.iter().zip(&their_store);
                     return Some(Difference {
                         step: number,

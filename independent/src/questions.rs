@@ -104,8 +104,8 @@ pub fn judge_creation(contents: &Contents, room: Room, domain: &[u8]) -> Result<
 }
 
 /// Asks 3, 5 and 10 to 21 of a load. With all yes the package is among the
-/// contents and the depth of its deepest class is given; with a no the contents
-/// are of no further use.
+/// contents and the depth of its deepest class is given, 0 if it has none; with a no
+/// the contents are of no further use.
 pub fn judge_load<'a>(
     contents: &mut Contents<'a>,
     room: Room,

@@ -11,10 +11,11 @@ use independent::loader::{compare, Sequence};
 use std::process::ExitCode;
 use std::time::Instant;
 
-/// From this many sequences on, each number must have been answered often enough.
+/// From this many sequences on, each number and depth must have been answered often enough.
 const FULL_RUN: u64 = 20_000;
 
-/// How often each operation must answer each of its numbers in a full run.
+/// How often each operation must answer each of its numbers in a full run, and loads
+/// carry each depth.
 const LEAST: u64 = 100;
 
 const LIBRARY: Guarded<Library> = Guarded(Library);

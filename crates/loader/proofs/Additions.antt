@@ -10,9 +10,10 @@ use Rattle.rules.specs.Bytes.{Bytes, Aid, aidLength}
 use Rattle.rules.specs.Package.{Limits, storeLimits, readFile}
 use Rattle.rules.specs.Store.{domain, loaded, write}
 use Rattle.rules.specs.Questions.{q1-size, q3-lengths}
-use Rattle.rules.specs.Operations.{create, load, firstNo, loadQuestions, number, after, deepestOf, leastDepth, mostDepth, freshNumber, freshBytes}
+use Rattle.rules.specs.Operations.{create, load, firstNo, loadQuestions, number, after, deepestOf, depthFigure, freshNumber, freshBytes}
 use Rattle.rules.proofs.Tests.{and-l, and-r, is-true}
 use Rattle.rules.proofs.Asked.{create-yes, load-yes, deepest-limit}
+use Rattle.rules.proofs.Results.{figure-refused}
 use Rattle.rules.proofs.Limits.{store-limits, limits-range}
 use Rattle.store.specs.Sound.{SoundAt, Asked}
 use Rattle.writing.specs.Changes.{Room, Appended}
@@ -20,7 +21,7 @@ use Rattle.store.proofs.Asked.{size-is}
 use Rattle.judge.specs.Says.{LoadSays}
 use Rattle.judge.specs.declared.LoadAnswer.the-variants.{Accepted}
 use Rattle.loader.specs.Promises.{LoadPromise}
-use Rattle.store.proofs.Sound.{kept, opening, laid, small, asked-number, asked-done, refused-after}
+use Rattle.store.proofs.Sound.{opening, laid, small, asked-number, asked-done, refused-after}
 
 -- fresh
 pub fresh-room : (s : Bytes) → q1-size s ≡ true → 7 ≤ length s
@@ -36,11 +37,7 @@ fresh-done s t h e = (rw h, e ∙ rw h)
 
 -- a load's refusal
 pub refused-promise : (s : Bytes) (d : Aid) (f : Bytes) (n : ℕ) → (n ≡ 0 → ⊥) → n ≡ number s (load d f) → LoadPromise s d f n
-unfolding leastDepth mostDepth
-refused-promise s d f n z e =
-    let l : leastDepth s d f ≡ 0 = kept (number s (load d f)) _ 0 (λ y. z (e ∙ y)) in
-    let m : mostDepth s d f ≡ 0 = kept (number s (load d f)) _ 0 (λ y. z (e ∙ y)) in
-    record { figure = 0; result = omega (arith, e); least = omega (arith, l); most = omega (arith, m) }
+refused-promise s d f n z e = omega (arith, e, figure-refused s d f (λ y. z (e ∙ y)))
 
 pub load-refused : (s : Bytes) (d : Aid) (f : Bytes) (n : ℕ) → (n ≡ 0 → ⊥) × (n ≡ number s (load d f)) → LoadPromise s d f n × (s ≡ after s (load d f))
 load-refused s d f n p = (refused-promise s d f n (p .0) (p .1), refused-after s (load d f) n (p .0) (p .1))
@@ -83,13 +80,9 @@ module _ (s : Bytes) (u : ℕ) (h : SoundAt s u) where
     figure-within = omega (arith, figure-limit, (limits-range s) .0)
 
     pub load-done : (t : Bytes) → Appended s t (loaded d f) → LoadPromise s d f (256 * depth) × (t ≡ after s (load d f))
-    unfolding leastDepth mostDepth
+    unfolding depthFigure
     load-done t w =
         let x = opening s u h in
         let e : number s (load d f) ≡ 0 = sym (asked-number s u h (load d f) 0 load-asked) in
-        let l : leastDepth s d f ≡ depth = rw (e, x .reads) (sym (figure-is ∙ ap (λ (v : Limits). deepestOf v (x .es) d (readFile v f)) (store-limits s))) in
-        let k : mostDepth s d f ≡ storeLimits s .depth = rw e (ap (λ (v : Limits). v .depth) (sym (store-limits s))) in
-        let b = figure-limit in (
-          record { figure = depth; result = omega (arith, e); least = omega (arith, l); most = omega (arith, k, b) },
-          (asked-done s u h (load d f) t load-asked w) .1,
-        )
+        let l : depthFigure s d f ≡ depth = rw (e, x .reads) (sym (figure-is ∙ ap (λ (v : Limits). deepestOf v (x .es) d (readFile v f)) (store-limits s))) in
+        (omega (arith, e, l), (asked-done s u h (load d f) t load-asked w) .1)

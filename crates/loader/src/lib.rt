@@ -101,7 +101,7 @@ pub extern "C" fn loader_delete(store: &mut [u8], domain: &[u8]) -> u32
     }
 }
 
-// Loads a package file into a domain; the figure is a depth of its classes.
+// Loads a package file into a domain; the figure is the depth of its deepest class, 0 where it has none.
 #[no_mangle]
 pub extern "C" fn loader_load(store: &mut [u8], domain: &[u8], file: &[u8]) -> u32
     ensures { λ r. ⌜ LoadPromise (now (store .entry)) (now (domain .entry)) (now (file .entry)) r ⌝ }

@@ -1,7 +1,7 @@
 -- DEMAND 1, of the operations as functions of the store's bytes, any bytes, and of arguments, any bytes. Assumes nothing.
 --   Each operation's number is 0 or one of the numbers that document 01 lists for it.
 --   A number other than 0 leaves every byte of the buffer (a query only reads it); a load's figure is then 0, a query's answer no.
---   An accepted load's figure lies between the deepest own class and 8, and there is such a figure.
+--   A load's figure is never above 8; demand 2 says what it is.
 -- That the entry points answer so is what each promises in crates/loader/src/lib.rt, on all buffers. That they end is part of every such
 -- promise: for each loop and each recursion under them the prover asks for a number that falls (the measures in crates/*/proofs).
 use Prim.Native.Nat.{ℕ, _≤_}
@@ -10,20 +10,17 @@ use mathlib.Core.Bool.{false}
 use lib.Dec.{T, eqb}
 use Rattle.rules.specs.Bytes.{Bytes, Aid, any}
 use Rattle.rules.specs.Package.{standard}
-use Rattle.rules.specs.Operations.{Operation, load, number, after, ownDeepest, leastDepth, mostDepth, freshNumber, freshBytes, queryNumber, queryYes}
+use Rattle.rules.specs.Operations.{Operation, load, number, after, depthFigure, freshNumber, freshBytes, queryNumber, queryYes}
 use Rattle.rules.specs.Demands.{refusalsOf, freshRefusals, queryRefusals, withDone}
 use Rattle.rules.proofs.Claims.{number-listed, fresh-listed, query-listed, refused-leaves, fresh-leaves}
-use Rattle.rules.proofs.Results.{figure-refused, figure-accepted, figure-room, refused-query}
+use Rattle.rules.proofs.Results.{figure-refused, figure-within, refused-query}
 
 pub demand1 : (s : Bytes) (o : Operation) → T (any (eqb (number s o)) (withDone (refusalsOf o))) × ((number s o ≡ 0 → ⊥) → after s o ≡ s)
 demand1 s o = (number-listed s o, refused-leaves s o)
 
--- a load's figure: every k that its promise lets it answer, and that one is there
 pub demand1-figure : (s : Bytes) (d : Aid) (f : Bytes) →
-    ((k : ℕ) → leastDepth s d f ≤ k → k ≤ mostDepth s d f →
-    ((number s (load d f) ≡ 0 → ⊥) → k ≡ 0) × (number s (load d f) ≡ 0 → (ownDeepest s d f ≤ k) × (k ≤ standard .depth)))
-    × (leastDepth s d f ≤ mostDepth s d f)
-demand1-figure s d f = (λ k a b. (figure-refused s d f k b, figure-accepted s d f k a b), figure-room s d f)
+    ((number s (load d f) ≡ 0 → ⊥) → depthFigure s d f ≡ 0) × (depthFigure s d f ≤ standard .depth)
+demand1-figure s d f = (figure-refused s d f, figure-within s d f)
 
 pub demand1-fresh : (s : Bytes) → T (any (eqb (freshNumber s)) (withDone freshRefusals)) × ((freshNumber s ≡ 0 → ⊥) → freshBytes s ≡ s)
 demand1-fresh s = (fresh-listed s, fresh-leaves s)

@@ -2,20 +2,24 @@
 --   An operation's number is 0 exactly where all its questions are answered yes (asked: specs/Demands.antt).
 --   Otherwise it is the number of the first no: the questions before it are answered yes, and its own no (FirstNo).
 --   These questions are document 01's list of the operation, in its order; of a file that does not read, up to 11.
---   Fresh then leaves an empty store; a query says yes exactly where the method that the store has allows the domain.
+--   Fresh then leaves an empty store; a load carries the depth of its deepest own class (Deepest: specs/Unbounded.antt);
+--   a query says yes exactly where the method that the store has allows the domain.
 use Prim.Native.Nat.{ℕ}
 use mathlib.Core.Path.{_≡_, refl}
 use mathlib.Core.List.{[], _∷_}
-use mathlib.Core.Option.{none}
+use mathlib.Core.Option.{none, some}
 use lib.Dec.{T}
 use lib.ListN.{length}
 use Rattle.rules.specs.Bytes.{Bytes, Aid}
-use Rattle.rules.specs.Package.{standard, readFile}
+use Rattle.rules.specs.Package.{standard, Package, readFile}
 use Rattle.rules.specs.Entries.{WrittenFrom}
-use Rattle.rules.specs.Operations.{sound, Operation, load, number, freshNumber, freshBytes, queryNumber, queryYes}
+use Rattle.rules.specs.Classes.{installed}
+use Rattle.rules.specs.Operations.{sound, entries, Operation, load, number, depthFigure, freshNumber, freshBytes, queryNumber, queryYes}
+use Rattle.rules.specs.Unbounded.{Deepest}
 use Rattle.rules.specs.Demands.{refusalsOf, freshRefusals, queryRefusals, asked, askedFresh, askedQuery, numbersIn, HasFile, allYes, FirstNo, storedAllows}
 use Rattle.rules.proofs.Claims.{done-yes, yes-done, refused-first, fresh-done-yes, fresh-yes-done, fresh-refused-first, query-done-yes, query-yes-done, query-refused-first, asked-order, unread-order, query-order, yes-allows, allows-yes}
 use Rattle.rules.proofs.Fresh.{fresh-empty}
+use Rattle.rules.proofs.Results.{figure-deepest}
 
 pub demand2 : (s : Bytes) (o : Operation) →
     (number s o ≡ 0 → T (allYes (asked s o))) × (T (allYes (asked s o)) → number s o ≡ 0) × ((number s o ≡ 0 → ⊥) → FirstNo (number s o) (asked s o))
@@ -31,6 +35,10 @@ pub demand2-fresh : (s : Bytes) →
     × (T (allYes (askedFresh s)) → freshNumber s ≡ 0)
     × ((freshNumber s ≡ 0 → ⊥) → FirstNo (freshNumber s) (askedFresh s))
 demand2-fresh s = (λ e. (fresh-done-yes s e, fresh-empty s e), fresh-yes-done s, fresh-refused-first s)
+
+pub demand2-load : (s : Bytes) (d : Aid) (f : Bytes) → number s (load d f) ≡ 0 → (p : Package) × (readFile standard f ≡ some p)
+    × Deepest (installed standard (entries s)) (record { domain = d; pack = p }) (depthFigure s d f)
+demand2-load = figure-deepest
 
 pub demand2-query : (s : Bytes) (d a : Aid) (c n : ℕ) →
     (queryNumber s d a c n ≡ 0 → T (allYes (askedQuery s d a c n)))

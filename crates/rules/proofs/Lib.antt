@@ -1,8 +1,9 @@
--- The laws about the definitions of document 01. Demand1, Demand2 and Demand3 are the claims; Exact says what single definitions are exactly;
--- Witness shows that demand 3 is not empty.
+-- The laws about the definitions. Demand1, Demand2 and Demand3 are the claims of document 01, Request5 that of document 02; Exact says what
+-- single definitions are exactly; Witness shows that demand 3 is not empty.
 pub mod Demand1
 pub mod Demand2
 pub mod Demand3
+pub mod Request5
 pub mod Exact
 pub mod Claims
 pub mod Answers
@@ -19,6 +20,7 @@ pub mod Running
 pub mod Called
 pub mod Distinct
 pub mod Unbounded
+pub mod Depths
 pub mod Fresh
 pub mod Results
 pub mod Runs

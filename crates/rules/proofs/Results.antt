@@ -1,16 +1,20 @@
--- Demand 1, with the results fixed there: a refused load's figure is 0, an accepted one's bounds leave room, a refused query says no.
--- Assumes nothing.
+-- The results besides number and bytes: a refused load's figure is 0, an accepted one's the depth of its deepest own class, a refused
+-- query says no. Assumes nothing.
 use Prim.Native.Nat.{ℕ, zero, suc, _≤_}
 use native.Mathlib.Omega.{arith}
-use mathlib.Core.Path.{_≡_, refl}
+use mathlib.Core.Path.{_≡_, refl, sym, _∙_, subst}
 use mathlib.Core.Bool.{false}
-use mathlib.Core.Option.{some}
-use Rattle.rules.specs.Bytes.{Bytes, Aid}
-use Rattle.rules.specs.Package.{standard, readFile}
-use Rattle.rules.specs.Operations.{sound, entries, load, ifDone, number, ownDeepest, leastDepth, mostDepth, queryNumber, queryYes}
+use mathlib.Core.List.{List}
+use mathlib.Core.Option.{some, Option·some-injective}
 use lib.ListN.{length}
+use Rattle.rules.specs.Bytes.{Bytes, Aid}
+use Rattle.rules.specs.Package.{standard, Package, readFile}
+use Rattle.rules.specs.Classes.{Installed, installed}
 use Rattle.rules.specs.Questions.{q1-size}
-use Rattle.rules.proofs.Asked.{first-yes, load-yes, deepest-limit}
+use Rattle.rules.specs.Operations.{sound, entries, load, ifDone, number, deepest, ownDeepest, depthFigure, queryNumber, queryYes}
+use Rattle.rules.specs.Unbounded.{Deepest}
+use Rattle.rules.proofs.Asked.{first-yes, LoadYes, load-yes, parents-yes, deepest-limit}
+use Rattle.rules.proofs.Depths.{deepest-is, deepest-one}
 
 pub if-refused : {A : Type 0} (k : ℕ) (a b : A) → (k ≡ 0 → ⊥) → ifDone k a b ≡ b
 if-refused zero a b h = absurd (h refl)
@@ -18,31 +22,46 @@ if-refused (suc k) a b h = refl
 
 module _ (s : Bytes) (d : Aid) (f : Bytes) where
   -- a refused load's figure
-  pub figure-refused : (k : ℕ) → k ≤ mostDepth s d f → (number s (load d f) ≡ 0 → ⊥) → k ≡ 0
-  unfolding mostDepth
-  figure-refused k b h = let z = if-refused (number s (load d f)) (standard .depth) 0 h in omega arith
+  pub figure-refused : (number s (load d f) ≡ 0 → ⊥) → depthFigure s d f ≡ 0
+  unfolding depthFigure
+  figure-refused h = if-refused (number s (load d f)) _ 0 h
 
-  -- an accepted one's
-  pub figure-accepted : (k : ℕ) → leastDepth s d f ≤ k → k ≤ mostDepth s d f → number s (load d f) ≡ 0 → (ownDeepest s d f ≤ k) × (k ≤ standard .depth)
-  unfolding leastDepth mostDepth
-  figure-accepted k a b z = (rw z at a, rw z at b)
-
-  accepted-room : number s (load d f) ≡ 0 → ownDeepest s d f ≤ standard .depth
+  -- an accepted load's file reads, and all its questions are answered yes
+  accepted-yes : number s (load d f) ≡ 0 → (p : Package) × LoadYes standard (length s) (entries s) d f p
   unfolding number
-  accepted-room z =
+  accepted-yes z =
       let a = first-yes 1 (q1-size s) _ tt z in
       let b = first-yes 2 (sound s) _ tt (a .1) in
-      let y = load-yes standard (length s) (entries s) d f (b .1) in
-      let r : readFile standard f ≡ some (y .0) = y .1 .q11 in
-      rw r (deepest-limit standard (length s) (entries s) d f (y .0) (y .1))
+      load-yes standard (length s) (entries s) d f (b .1)
 
-  -- its bounds leave room
-  pub figure-room : leastDepth s d f ≤ mostDepth s d f
-  unfolding leastDepth mostDepth
-  figure-room = go (number s (load d f)) refl
+  -- its figure is the depth of the deepest own class
+  pub figure-deepest : number s (load d f) ≡ 0 → (p : Package) × (readFile standard f ≡ some p)
+      × Deepest (installed standard (entries s)) (record { domain = d; pack = p }) (depthFigure s d f)
+  unfolding depthFigure deepest
+  figure-deepest z =
+      let y = accepted-yes z in
+      let is : List Installed = installed standard (entries s) in
+      let self : Installed = record { domain = d; pack = y .0 } in
+      (y .0, y .1 .q11, rw (z, y .1 .q11) (deepest-is standard is self ((parents-yes standard is self (y .1 .inside .q14)) .depths)))
+
+  -- and no other number is
+  pub figure-exactly : (p : Package) → number s (load d f) ≡ 0 → readFile standard f ≡ some p → (n : ℕ) →
+      (n ≡ depthFigure s d f → Deepest (installed standard (entries s)) (record { domain = d; pack = p }) n)
+      × (Deepest (installed standard (entries s)) (record { domain = d; pack = p }) n → n ≡ depthFigure s d f)
+  figure-exactly p z r n =
+      let y = figure-deepest z in
+      let q : y .0 ≡ p = Option·some-injective _ _ (sym (y .1) ∙ r) in
+      let is : List Installed = installed standard (entries s) in
+      let here = subst (λ (x : Package). Deepest is (record { domain = d; pack = x }) (depthFigure s d f)) q (y .2) in
+      (λ e. subst (Deepest is (record { domain = d; pack = p })) (sym e) here, λ h. deepest-one is (record { domain = d; pack = p }) n _ h here)
+
+  -- no figure is above 8
+  pub figure-within : depthFigure s d f ≤ standard .depth
+  unfolding depthFigure
+  figure-within = go (number s (load d f)) refl
     where
-      go : (n : ℕ) → number s (load d f) ≡ n → ifDone n (ownDeepest s d f) 0 ≤ ifDone n (standard .depth) 0
-      go zero e = accepted-room e
+      go : (n : ℕ) → number s (load d f) ≡ n → ifDone n (ownDeepest s d f) 0 ≤ standard .depth
+      go zero e = let y = accepted-yes e in rw (y .1 .q11) (deepest-limit standard (length s) (entries s) d f (y .0) (y .1))
       go (suc n) e = omega arith
 
 -- a refused query

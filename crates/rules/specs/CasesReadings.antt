@@ -1,9 +1,9 @@
--- Rows of the table of cases: what the questions do and do not ask, and the depth figure. Assumes nothing.
+-- Rows of the table of cases: what the questions do and do not ask. Assumes nothing.
 use mathlib.Core.Bool.{true, false}
 use mathlib.Core.List.{List, [], _∷_, _++_}
 use Rattle.rules.specs.Store.{domain, loaded, write}
 use Rattle.rules.specs.Operations.{create, delete, load, remove}
-use Rattle.rules.specs.CasesForm.{hex, times, query, _answers_, _gives_used_, _says_yes_, depth, holds, Row, steps}
+use Rattle.rules.specs.CasesForm.{hex, times, query, _answers_, _gives_used_, _says_yes_, holds, Row, steps}
 use Rattle.rules.specs.CasesFiles.{D1, D2, P1, P2, bare, importer, library, domainsOnly, withLibrary, alone, beside}
 
 -- entries, AIDs and queries
@@ -65,18 +65,6 @@ files =
     ∷ steps "20: n two packages up" (write 256 (domain D1 ∷ loaded D1 (hex "42504B 0001 0023  05A000000101  01 05A0000000D1  00  0000  01  00 00 01  40 0007 0100 0001 7A") ∷ loaded D1 (hex "42504B 0001 001D  05A000000102  00  01 05A000000101  0000  01  00 01 0100 00") ∷ [])) (load D1 (hex "42504B 0001 0024  05A000000103  00  01 05A000000102  0000  01  00 01 0100 01  40 0007 00 0001 7A") answers 20 ∷ [])
     ∷ []
 
--- depths
-abbrev depths : List Row
-depths =
-    steps "no class: depth 0" (write 64 (domain D1 ∷ [])) (depth D1 bare 0 8 ∷ [])
-    ∷ steps "three classes, the second deepest: depth 2" domainsOnly (depth D1 (hex "42504B 0001 001D  05A000000101  00  00  0000  03  00 00 00  00 01 0000 00  00 00 00") 2 8 ∷ [])
-    ∷ steps "the second of two parents deeper: depth 3" domainsOnly (depth D1 (hex "42504B 0001 0024  05A000000101  00  00  0000  04  01 00 00  01 01 0000 00  01 00 00  00 02 0002 0001 00") 3 8 ∷ [])
-    ∷ steps "a refused load: depth 0" domainsOnly (depth D2 (hex "42504B 0001 0017  05A000000101  00  00  0000  01  00 01 0000 00") 0 0 ∷ [])
-    ∷ alone "interfaces, depth 8" "42504B 0001 0038  05A000000101  00  00  0000  08  01 00 00  01 01 0000 00  01 01 0001 00  01 01 0002 00  01 01 0003 00  01 01 0004 00  01 01 0005 00  01 01 0006 00" 0
-    ∷ alone "interfaces, depth 9: 14" "42504B 0001 003D  05A000000101  00  00  0000  09  01 00 00  01 01 0000 00  01 01 0001 00  01 01 0002 00  01 01 0003 00  01 01 0004 00  01 01 0005 00  01 01 0006 00  01 01 0007 00" 14
-    ∷ steps "depth 3 in the store and 6 more: 14, 5 more: 8" (write 256 (domain D1 ∷ loaded D1 (hex "42504B 0001 001F  05A000000101  00  00  0000  03  01 00 00  01 01 0000 00  01 01 0001 00") ∷ [])) (load D1 (hex "42504B 0001 0036  05A000000102  00  01 05A000000101  0000  06  01 01 0102 00  01 01 0000 00  01 01 0001 00  01 01 0002 00  01 01 0003 00  01 01 0004 00") answers 14 ∷ depth D1 (hex "42504B 0001 0031  05A000000102  00  01 05A000000101  0000  05  01 01 0102 00  01 01 0000 00  01 01 0001 00  01 01 0002 00  01 01 0003 00") 8 8 ∷ load D1 (hex "42504B 0001 0031  05A000000102  00  01 05A000000101  0000  05  01 01 0102 00  01 01 0000 00  01 01 0001 00  01 01 0002 00  01 01 0003 00") answers 0 ∷ [])
-    ∷ []
-
 -- the rows of this file
 abbrev pub readings : List Row
-readings = stored ++ files ++ depths
+readings = stored ++ files

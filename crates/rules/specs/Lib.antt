@@ -1,4 +1,4 @@
--- Document 01 as definitions, in its order.
+-- Document 01 and request 5 of document 02 as definitions, in document 01's order.
 pub mod Bytes
 pub mod Code
 pub mod Table
@@ -22,5 +22,6 @@ pub mod CasesLimits
 pub mod CasesCodes
 pub mod CasesOrder
 pub mod CasesReadings
+pub mod CasesDepths
 pub mod Cases
 pub mod CasesCalls

@@ -1,6 +1,8 @@
 //! `sequences SEED COUNT`: runs generated sequences through the byte operations
-//! and the ledger side by side and prints how often each number was answered.
+//! and the ledger side by side and prints how often each number was answered and how
+//! deep the accepted files were.
 
+use independent::depths::DepthCounts;
 use independent::generate::sequences::sequence;
 use independent::ledger::{Call, Ledger};
 use independent::loader::{damage, shrink, Independent, Loader, Sequence, Step};
@@ -14,8 +16,7 @@ const NUMBERS: usize = 22;
 struct Counts {
     answers: [[u64; NUMBERS]; 6],
     with_ledger: u64,
-    /// Accepted loads by depth figure.
-    depths: [u64; 9],
+    depths: DepthCounts,
     yes: u64,
 }
 
@@ -54,7 +55,7 @@ fn run(sequence: &Sequence, counts: &mut Counts) -> Result<(), (usize, String)> 
         };
         let before = store.clone();
         let answer = Independent.call(&mut store, call);
-        count(counts, call, answer);
+        count(counts, call, answer, &store);
         if answer & 0xFF != 0 && store != before {
             return Err((number, "a refusal changed the store".into()));
         }
@@ -75,7 +76,8 @@ fn run(sequence: &Sequence, counts: &mut Counts) -> Result<(), (usize, String)> 
     Ok(())
 }
 
-fn count(counts: &mut Counts, call: &Call, answer: u32) {
+/// Counts an answer; the store is as the call left it.
+fn count(counts: &mut Counts, call: &Call, answer: u32, store: &[u8]) {
     let row = match call {
         Call::Fresh => 0,
         Call::Create(_) => 1,
@@ -86,7 +88,7 @@ fn count(counts: &mut Counts, call: &Call, answer: u32) {
     };
     counts.answers[row][(answer & 0xFF) as usize] += 1;
     match call {
-        Call::Load { .. } if answer & 0xFF == 0 => counts.depths[(answer >> 8) as usize] += 1,
+        Call::Load { .. } if answer & 0xFF == 0 => counts.depths.note(answer >> 8, store),
         Call::Query { .. } => counts.yes += u64::from(answer >> 8),
         _ => {}
     }
@@ -104,10 +106,7 @@ fn print_table(counts: &Counts) {
     }
     let loads: u64 = counts.answers[3].iter().sum();
     let accepted = 100 * counts.answers[3][0] / loads.max(1);
-    println!(
-        "{accepted}% of {loads} loads accepted, by depth {:?}",
-        counts.depths
-    );
+    println!("{accepted}% of {loads} loads accepted: {}", counts.depths);
     println!("{} queries answered yes", counts.yes);
 }
 

@@ -125,7 +125,7 @@ fn plant_14(random: &mut Random, scene: &Scene, model: &mut FileModel) {
     let next = model.classes.len() as u8;
     let past_imports = model.imports.len() as u8 + 1;
     let kind = random.below(2) as u8;
-    match random.below(7) {
+    match random.below(8) {
         0 => add(model, kind, &[(0, next)], vec![]),
         1 => add(model, kind, &[(past_imports, 0)], vec![]),
         2 => {
@@ -148,12 +148,25 @@ fn plant_14(random: &mut Random, scene: &Scene, model: &mut FileModel) {
             add(model, 0, &[], vec![]);
             add(model, 0, &[(0, next), (0, next)], vec![]);
         }
-        _ => {
-            add(model, kind, &[], vec![]);
-            for level in 0..8 {
-                add(model, kind, &[(0, next + level)], vec![]);
-            }
-        }
+        _ => plant_past_depth(random, scene, model, kind),
+    }
+}
+
+/// A chain of classes to depth 9, half of the time below an installed class.
+fn plant_past_depth(random: &mut Random, scene: &Scene, model: &mut FileModel, kind: u8) {
+    let (mut kind, mut parents, mut depth) = (kind, vec![], 0);
+    let package = random.pick_any(&scene.packages);
+    let last = package.and_then(|p| Some((p, p.classes.last()?)));
+    if let Some((package, class)) = last.filter(|_| random.chance(50)) {
+        model.imports.push(package.model.aid.clone());
+        parents.push((model.imports.len() as u8, package.classes.len() as u8 - 1));
+        kind = u8::from(class.interface);
+        depth = class.depth;
+    }
+    for _ in depth..9 {
+        let number = model.classes.len() as u8;
+        add(model, kind, &parents, vec![]);
+        parents = vec![(0, number)];
     }
 }
 

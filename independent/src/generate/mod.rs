@@ -5,6 +5,7 @@ pub mod codes;
 pub mod faults;
 pub mod files;
 pub mod limits;
+pub mod lineages;
 pub mod lines;
 pub mod model;
 pub mod random;

@@ -12,9 +12,9 @@ use crate::loader::{Independent, Loader, Sequence, Step};
 
 const DOMAIN: &[u8] = &[0xA0, 0, 0, 0, 0xD1];
 const OTHER: &[u8] = &[0xA0, 0, 0, 0, 0xD2, 7];
-const FIRST: &[u8] = &[0xA0, 0, 0, 1, 1];
-const SECOND: &[u8] = &[0xA0, 0, 0, 1, 2];
-const THIRD: &[u8] = &[0xA0, 0, 0, 1, 3];
+pub(super) const FIRST: &[u8] = &[0xA0, 0, 0, 1, 1];
+pub(super) const SECOND: &[u8] = &[0xA0, 0, 0, 1, 2];
+pub(super) const THIRD: &[u8] = &[0xA0, 0, 0, 1, 3];
 
 fn over(start: Vec<u8>, calls: Vec<Call>) -> Sequence {
     let steps = calls.into_iter().map(Step::Call).collect();
@@ -22,7 +22,7 @@ fn over(start: Vec<u8>, calls: Vec<Call>) -> Sequence {
 }
 
 /// Fresh, both domains, then these calls.
-fn after_fresh(length: usize, calls: Vec<Call>) -> Sequence {
+pub(super) fn after_fresh(length: usize, calls: Vec<Call>) -> Sequence {
     let mut all = vec![Call::Fresh];
     all.push(Call::Create(DOMAIN.to_vec()));
     all.push(Call::Create(OTHER.to_vec()));
@@ -30,7 +30,7 @@ fn after_fresh(length: usize, calls: Vec<Call>) -> Sequence {
     over(vec![0x5A; length], all)
 }
 
-fn load(model: &FileModel) -> Call {
+pub(super) fn load(model: &FileModel) -> Call {
     Call::Load {
         domain: DOMAIN.to_vec(),
         file: model.bytes(),

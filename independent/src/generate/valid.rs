@@ -6,6 +6,9 @@ use super::random::Random;
 use super::scene::{ClassFacts, MethodFacts, Policy, Scene};
 use crate::package::{IMPLEMENTED, MAX_DOMAINS, STATIC, VISIBLE};
 
+/// Package and class numbers and facts of a class.
+type Reached<'a> = (u8, u8, &'a ClassFacts);
+
 struct Draft<'a> {
     scene: &'a Scene,
     domain: &'a [u8],
@@ -32,9 +35,13 @@ pub fn valid_file(random: &mut Random, scene: &Scene, domain: &[u8], aid: &[u8])
     for _ in 0..random.below(4) {
         draft.model.domains.push(random.pick(pool).clone());
     }
-    let count = *random.pick(&[0, 1, 1, 2, 2, 3, 3, 4, 5, 8]);
+    let deep = random.chance(5);
+    let count = match deep {
+        true => random.between(6, 12),
+        false => *random.pick(&[0, 1, 1, 2, 2, 3, 3, 4, 5, 8]),
+    };
     for _ in 0..count {
-        draft.add_class(random);
+        draft.add_class(random, deep);
     }
     draft.add_codes(random);
     draft.model
@@ -53,8 +60,8 @@ impl Draft<'_> {
         }
     }
 
-    /// Package and class numbers and facts of each class within reach.
-    fn within_reach(&self) -> Vec<(u8, u8, &ClassFacts)> {
+    /// The classes within reach.
+    fn within_reach(&self) -> Vec<Reached<'_>> {
         let packages = self
             .imports
             .iter()
@@ -68,19 +75,24 @@ impl Draft<'_> {
         found
     }
 
-    fn add_class(&mut self, random: &mut Random) {
-        let interface = random.chance(35);
-        let reach = self.within_reach();
-        let mut parents: Vec<(u8, u8, &ClassFacts)> = Vec::new();
-        if !reach.is_empty() {
-            for _ in 0..*random.pick(&[0, 1, 2, 3, 4]) {
-                let &(package, class, facts) = random.pick(&reach);
-                let taken = interface || parents.iter().any(|p| !p.2.interface);
-                if facts.depth < 8 && (facts.interface || !taken) {
-                    parents.push((package, class, facts));
-                }
-            }
+    /// Parents for a class or an interface; deep ones are the deepest of three picks.
+    fn parents(&self, random: &mut Random, interface: bool, deep: bool) -> Vec<Reached<'_>> {
+        let mut reach = self.within_reach();
+        reach.retain(|class| class.2.depth < 8);
+        let picks = if deep { 3 } else { 1 };
+        let mut parents: Vec<Reached> = Vec::new();
+        for _ in 0..random.below(5) {
+            let taken = interface || parents.iter().any(|p| !p.2.interface);
+            let picked = (0..picks).filter_map(|_| random.pick_any(&reach));
+            let fitting = picked.filter(|class| class.2.interface || !taken);
+            parents.extend(fitting.max_by_key(|class| class.2.depth));
         }
+        parents
+    }
+
+    fn add_class(&mut self, random: &mut Random, deep: bool) {
+        let interface = random.chance(35);
+        let parents = self.parents(random, interface, deep);
         let facts: Vec<&ClassFacts> = parents.iter().map(|p| p.2).collect();
         let mut facts = ClassFacts::under(interface, &facts);
         let numbers: Vec<(u8, u8)> = parents.iter().map(|p| (p.0, p.1)).collect();

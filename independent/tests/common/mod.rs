@@ -47,6 +47,12 @@ pub fn interface(parents: &[(u8, u8)], methods: Vec<MethodModel>) -> ClassModel 
     ClassModel::new(1, parents, methods)
 }
 
+/// A package of interfaces, each with these parents.
+pub fn interfaces(aid: &[u8], parents: &[&[(u8, u8)]]) -> FileModel {
+    let classes = parents.iter().map(|p| interface(p, vec![])).collect();
+    package(aid, classes)
+}
+
 /// A method; one with a body returns at once.
 pub fn method(bits: u8, name: u16, allowed: Option<&[u8]>) -> MethodModel {
     MethodModel::new(bits, name, allowed, &[0x7A])
@@ -63,11 +69,16 @@ pub fn judged(model: &FileModel) -> u8 {
 
 /// The same with packages loaded before, in D1.
 pub fn judged_after(earlier: &[FileModel], model: &FileModel) -> u8 {
+    load(&mut store_with(earlier), D1, &model.bytes()).number
+}
+
+/// A store with domains D1 and D2 and these packages, loaded in D1.
+pub fn store_with(packages: &[FileModel]) -> Vec<u8> {
     let mut store = store(65_535);
-    for earlier in earlier {
-        assert_eq!(load(&mut store, D1, &earlier.bytes()).number, 0);
+    for package in packages {
+        assert_eq!(load(&mut store, D1, &package.bytes()).number, 0);
     }
-    load(&mut store, D1, &model.bytes()).number
+    store
 }
 
 /// A package whose only method has this code.
