@@ -128,18 +128,19 @@ static void put_one_class_below(struct file *file, unsigned package, unsigned me
     put_u1(file, methods);
 }
 
-/* The allowed count, and the index of each domain of the set. */
+/* The allowed count, and the index of each domain of the set, FE for the own one. */
 static void put_allowed(struct file *file, unsigned allowed)
 {
+    static const unsigned indexes[] = {0, 1, 2, 0xFE};
     unsigned count = 0;
 
-    for (unsigned i = 0; i < 3; i++) {
+    for (unsigned i = 0; i < 4; i++) {
         count += allowed >> i & 1u;
     }
     put_u1(file, count);
-    for (unsigned i = 0; i < 3; i++) {
+    for (unsigned i = 0; i < 4; i++) {
         if (allowed >> i & 1u) {
-            put_u1(file, i);
+            put_u1(file, indexes[i]);
         }
     }
 }

@@ -35,7 +35,8 @@ enum {
     BY_NONE = 0,
     BY_CANTEEN = 1,
     BY_DIRECTORY = 2,
-    BY_PHARMACY = 4
+    BY_PHARMACY = 4,
+    BY_OWN = 8 /* FE: the domain that the package is loaded in */
 };
 
 /* A package file while it is written. */

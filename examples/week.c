@@ -210,9 +210,9 @@ static void tuesday(void)
     memcpy(card_on_monday, card_bytes, sizeof card_on_monday);
     say("Tuesday: the directory's statements are tried on a copy of the card.\n"
         "  Their first draft is open to the pharmacy, but calls order of meals, which is not.");
-    write_statements(&statements, BY_DIRECTORY | BY_PHARMACY);
+    write_statements(&statements, BY_OWN | BY_PHARMACY);
     try_load("statements, draft,", &DIRECTORY, &statements, &STATEMENTS, 1, LOADER_CALL_POLICY);
-    write_statements(&statements, BY_DIRECTORY);
+    write_statements(&statements, BY_OWN);
     try_load("statements", &DIRECTORY, &statements, &STATEMENTS, 1, LOADER_DONE);
     if (memcmp(card_on_monday, card_bytes, sizeof card_on_monday) == 0) {
         say("  The card itself has every byte of Monday.");
@@ -268,7 +268,7 @@ static void thursday(void)
     struct file statements;
 
     say("Thursday: the statements, which import meals, are loaded as they were tried.");
-    write_statements(&statements, BY_DIRECTORY);
+    write_statements(&statements, BY_OWN);
     load(card, "statements", &DIRECTORY, &statements, 1, LOADER_DONE);
 }
 

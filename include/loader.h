@@ -19,6 +19,11 @@
  * 2). This is no checksum: bytes that were changed from outside are noticed
  * only where the store is no longer sound.
  *
+ * Policies. A method allows the domains at its indexes, with FF every domain,
+ * and by index FE the domain that its own package was loaded in, for as long as
+ * it lies there: one package file serves vendors who do not know the domain. The
+ * query tells what a method allows where it lies.
+ *
  * Used. The bytes that a store's opening and its entries take stand in its
  * bytes 5 and 6, the high byte first: LOADER_USED(store). It may be read of any
  * store whose last call answered neither 1 nor 2. docs/FORMATS.md has the whole
@@ -66,11 +71,11 @@
  * it has fewer than LOADER_STORE_MOST bytes.
  *
  * Time. Every operation but fresh judges each installed package again, so its
- * time grows with the bytes installed. Measured on one core of an Intel Xeon with
+ * time grows with the bytes installed. Measured on one core of an AMD EPYC with
  * ordinary packages (docs/BENCHMARKS.md has every figure), an operation takes
- * about 0.08 ms over a full store of 8,192 bytes and 0.7 ms over one of 65,535.
+ * about 0.06 ms over a full store of 8,192 bytes and 0.5 ms over one of 65,535.
  * These are no bounds. Packages can be made for the purpose of taking longer: an
- * operation over the slowest store of 65,535 bytes that was found takes 2 to 3
+ * operation over the slowest store of 65,535 bytes that was found takes 1 to 3
  * seconds. For each package judged the time is at most a constant times its
  * file's bytes times the bytes of the packages that it imports, directly or not.
  *
@@ -80,11 +85,11 @@
  *
  *                       store to 8,192 bytes    larger
  *     loader_fresh                       300       300
- *     loader_create                    7,900    18,400
- *     loader_delete                    7,900    18,400
- *     loader_load                      7,900    18,400
- *     loader_remove                    7,900    18,400
- *     loader_query                     7,900    18,400
+ *     loader_create                    7,900    18,430
+ *     loader_delete                    7,900    18,430
+ *     loader_load                      7,900    18,430
+ *     loader_remove                    7,900    18,430
+ *     loader_query                     7,900    18,430
  *
  * Linking. libloader.a is for x86-64 Linux. It needs one function from outside:
  * memset, as C99 has it. This header compiles where int has 16 bits or more, and
@@ -104,10 +109,12 @@ extern "C" {
  * The version of this header and of the library that goes with it: the major
  * number grows where a call that was right before means something else, the
  * minor one where something is added. Since 1.1 an accepted load's figure is the
- * depth itself; in 1.0 it was only not less.
+ * depth itself; in 1.0 it was only not less. Since 1.2 index FE in an allowed
+ * list means the domain that the package is loaded in; before, it was refused
+ * with 11.
  */
 #define LOADER_VERSION_MAJOR 1u
-#define LOADER_VERSION_MINOR 1u
+#define LOADER_VERSION_MINOR 2u
 #define LOADER_VERSION (LOADER_VERSION_MAJOR * 256u + LOADER_VERSION_MINOR)
 
 /* The number of an answer: the question that was answered no. */

@@ -66,6 +66,9 @@ marked() {
     echo "load 10 FF${package#42}"
     echo "load 11 $(echo "$package" | sed 's/^\(.\{10\}\)..../\1FFFF/')"
     echo "load 11 ${package}00"
+    # FE is an index, FD is none; FE is no count
+    echo "load 11 $(echo "$package" | sed 's/^\(.\{110\}\)FE/\1FD/')"
+    echo "load 11 $(echo "$package" | sed 's/^\(.\{108\}\)01/\1FE/')"
     store=$(dump 2) || exit 1
     echo "store 0 $((${#store} / 2)) $store"
     echo "store 0 300 $store"

@@ -1,7 +1,10 @@
-//! How often each operation answered each number, and loads by their depth figure.
+//! How often each operation answered each number, loads by their depth figure, and what
+//! FE decided.
 
 use independent::depths::DepthCounts;
+use independent::ledger::Call;
 use independent::loader::{Independent, Loader};
+use independent::own_domain::OwnCounts;
 use std::cell::RefCell;
 
 pub const OPERATIONS: [&str; 6] = ["fresh", "create", "delete", "load", "remove", "query"];
@@ -26,6 +29,7 @@ const CAN_ANSWER: [&[usize]; 6] = [
 pub struct Counts {
     answers: [[u64; NUMBERS]; 6],
     depths: DepthCounts,
+    own: OwnCounts,
     /// Queries answered yes.
     yes: u64,
 }
@@ -39,10 +43,11 @@ impl Counts {
         }
     }
 
-    /// Notes a load; the store is as it left it.
-    fn note_load(&mut self, answer: u32, store: &[u8]) {
-        self.note(LOAD, answer);
-        if answer & 0xFF == 0 {
+    /// Notes a load or a query; the store is as it left it.
+    fn note_call(&mut self, operation: usize, call: &Call, answer: u32, store: &[u8]) {
+        self.note(operation, answer);
+        self.own.note(call, answer, store);
+        if operation == LOAD && answer & 0xFF == 0 {
             self.depths.note(answer >> 8, store);
         }
     }
@@ -74,10 +79,12 @@ impl Counts {
         println!("{accepted} of {loads} loads accepted: {}", self.depths);
         let (yes, queries) = (self.yes, self.answers[QUERY][0]);
         println!("{yes} of {queries} queries answered yes");
+        println!("{}", self.own);
     }
 
     /// What falls short of this many answers of each number, this many accepted loads by
-    /// each depth and origin, and a fifth of loads accepted.
+    /// each depth and origin, this many decisions of each kind by FE, and a fifth of loads
+    /// accepted.
     pub fn shortfalls(&self, least: u64) -> Vec<String> {
         let mut found = Vec::new();
         for (operation, numbers) in CAN_ANSWER.iter().enumerate() {
@@ -93,6 +100,7 @@ impl Counts {
             found.push("fewer than a fifth of loads were accepted".into());
         }
         found.extend(self.depths.shortfalls(least));
+        found.extend(self.own.shortfalls(least));
         found
     }
 }
@@ -106,6 +114,13 @@ pub struct Counting {
 impl Counting {
     fn noted(&self, operation: usize, answer: u32) -> u32 {
         self.counts.borrow_mut().note(operation, answer);
+        answer
+    }
+
+    fn noted_call(&self, operation: usize, call: &Call, store: &mut [u8]) -> u32 {
+        let answer = Independent.call(store, call);
+        let mut counts = self.counts.borrow_mut();
+        counts.note_call(operation, call, answer, store);
         answer
     }
 
@@ -128,9 +143,11 @@ impl Loader for Counting {
     }
 
     fn load(&self, store: &mut [u8], domain: &[u8], file: &[u8]) -> u32 {
-        let answer = Independent.load(store, domain, file);
-        self.counts.borrow_mut().note_load(answer, store);
-        answer
+        let call = Call::Load {
+            domain: domain.to_vec(),
+            file: file.to_vec(),
+        };
+        self.noted_call(LOAD, &call, store)
     }
 
     fn remove(&self, store: &mut [u8], package: &[u8]) -> u32 {
@@ -138,7 +155,12 @@ impl Loader for Counting {
     }
 
     fn query(&self, store: &mut [u8], domain: &[u8], package: &[u8], class: u8, name: u16) -> u32 {
-        let answer = Independent.query(store, domain, package, class, name);
-        self.noted(QUERY, answer)
+        let call = Call::Query {
+            domain: domain.to_vec(),
+            package: package.to_vec(),
+            class,
+            name,
+        };
+        self.noted_call(QUERY, &call, store)
     }
 }

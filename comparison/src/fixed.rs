@@ -2,6 +2,7 @@
 
 use independent::generate::faults::faulty_file;
 use independent::generate::lineages::lineages;
+use independent::generate::own_pairs::own_pairs;
 use independent::generate::random::Random;
 use independent::generate::scene::Scene;
 use independent::generate::special;
@@ -26,6 +27,8 @@ fn group(name: &'static str, sequences: impl Iterator<Item = Sequence> + 'static
 pub fn groups(seed: u64) -> Vec<Group> {
     let seeds = move |count: u64| (0..count).map(move |n| seed.wrapping_mul(257).wrapping_add(n));
     let limits = std::iter::once_with(special::limits);
+    let lists = std::iter::once_with(special::own_limit_lists);
+    let pairs = own_pairs().into_iter();
     let faults = seeds(30).flat_map(|s| [with_faults(s, 1), with_faults(s, 2)]);
     let questions = (0..=5).chain(10..=20);
     let stores = questions.flat_map(move |question| seeds(10).map(move |s| over(s, question)));
@@ -35,6 +38,8 @@ pub fn groups(seed: u64) -> Vec<Group> {
             special::lengths().into_iter(),
         ),
         group("limits at their value and one past", limits),
+        group("lists with FE at their limits and past", lists),
+        group("two packages with FE in every way", pairs),
         group(
             "stores full to the byte",
             special::full_stores().into_iter(),

@@ -4,6 +4,7 @@
 use independent::generate::codes::{call, valid_code};
 use independent::generate::model::{ClassModel, FileModel, MethodModel};
 use independent::generate::random::Random;
+use independent::policy::OWN;
 
 /// How many bytes a code has at least, where nothing else is asked for.
 pub const CODE: usize = 24;
@@ -28,9 +29,44 @@ pub fn home(number: usize) -> Vec<u8> {
     domain(number % 4)
 }
 
+/// How a package's lists say the domain in which it is loaded.
+#[derive(Clone, Copy, PartialEq, Eq)]
+pub enum Own {
+    /// By its index, the first; the next domain is the second.
+    Index,
+    /// By FE; the next domain is the only index.
+    Fe,
+}
+
+impl Own {
+    fn domains(self, number: usize) -> Vec<Vec<u8>> {
+        match self {
+            Own::Index => vec![home(number), home(number + 1)],
+            Own::Fe => vec![home(number + 1)],
+        }
+    }
+
+    /// A list of the own domain.
+    fn closed(self) -> &'static [u8] {
+        match self {
+            Own::Index => &[0],
+            Own::Fe => &[OWN],
+        }
+    }
+
+    /// A list of the own domain and the next.
+    fn shared(self) -> &'static [u8] {
+        match self {
+            Own::Index => &[0, 1],
+            Own::Fe => &[OWN, 0],
+        }
+    }
+}
+
 struct Draft<'r> {
     random: &'r mut Random,
     model: FileModel,
+    own: Own,
     /// The least length of a code.
     code: usize,
     /// Calls that every method may have, and those for methods that only allow
@@ -41,11 +77,11 @@ struct Draft<'r> {
 
 /// The package of this number, with this many groups of three classes, over earlier
 /// packages from number 1 on: nothing imports package 0.
-pub fn ordinary(number: usize, groups: u8, code: usize) -> FileModel {
+pub fn ordinary(number: usize, groups: u8, code: usize, own: Own) -> FileModel {
     let random = &mut Random::new(number as u64);
     let mut model = FileModel {
         aid: package(number),
-        domains: vec![home(number), home(number + 1)],
+        domains: own.domains(number),
         ..FileModel::default()
     };
     if number > 1 {
@@ -58,6 +94,7 @@ pub fn ordinary(number: usize, groups: u8, code: usize) -> FileModel {
         open: Vec::new(),
         closed: Vec::new(),
         model,
+        own,
         code,
     };
     for import in 1..=draft.model.imports.len() as u8 {
@@ -79,20 +116,21 @@ impl Draft<'_> {
         self.open.push((0x8B, (0, first, 1)));
         self.closed.push((0x8E, (0, first + 1, 4)));
         self.closed.push((0x8D, (0, first + 2, 6)));
+        let (closed, shared) = (Some(self.own.closed()), Some(self.own.shared()));
         let base = vec![
             self.method(BODY, 1, None),
             self.method(STATIC_BODY, 2, None),
             self.method(STATIC_BODY, 3, None),
         ];
         let interface = vec![
-            self.method(VISIBLE, 4, Some(&[0])),
-            self.method(VISIBLE, 5, Some(&[0])),
+            self.method(VISIBLE, 4, closed),
+            self.method(VISIBLE, 5, closed),
         ];
         let derived = vec![
             self.method(BODY, 1, None),
-            self.method(BODY, 4, Some(&[0])),
-            self.method(BODY, 5, Some(&[0, 1])),
-            self.method(STATIC_BODY, 6, Some(&[0])),
+            self.method(BODY, 4, closed),
+            self.method(BODY, 5, shared),
+            self.method(STATIC_BODY, 6, closed),
         ];
         let classes = &mut self.model.classes;
         classes.push(ClassModel::new(0, &[], base));
@@ -104,7 +142,7 @@ impl Draft<'_> {
     fn method(&mut self, bits: u8, name: u16, allowed: Option<&[u8]>) -> MethodModel {
         let code = match bits {
             VISIBLE => Vec::new(),
-            _ => self.body(allowed == Some(&[0])),
+            _ => self.body(allowed == Some(self.own.closed())),
         };
         MethodModel::new(bits, name, allowed, &code)
     }
@@ -140,7 +178,7 @@ pub fn of_size(number: usize, size: usize) -> FileModel {
     // Ten groups have seventy codes; the rest is not as long as fifty of them.
     let mut code = size / 120;
     loop {
-        let model = ordinary(number, 10, code);
+        let model = ordinary(number, 10, code, Own::Index);
         if model.bytes().len() >= size {
             return model;
         }

@@ -49,7 +49,10 @@ impl Measured {
             let (small, large) = (of(pair[0]), of(pair[1]));
             let library = large.library.best() / small.library.best();
             let independent = large.independent.best() / small.independent.best();
-            println!("| {} to {} KB | {library:.1} | {independent:.1} |", pair[0], pair[1]);
+            println!(
+                "| {} to {} KB | {library:.1} | {independent:.1} |",
+                pair[0], pair[1]
+            );
         }
     }
 
@@ -77,7 +80,13 @@ impl Measured {
         println!("\n## Growth from 8 to 64 KB, bests\n");
         println!("| What | Library | Independent |");
         println!("|---|---:|---:|");
-        for name in [named::LOAD, named::QUERY, named::REMOVE] {
+        for name in [
+            named::LOAD,
+            named::QUERY,
+            named::REMOVE,
+            named::OWN_LOAD,
+            named::OWN_QUERY,
+        ] {
             let (small, large) = (self.of(name, "8 KB"), self.of(name, "64 KB"));
             let library = large.library.best() / small.library.best();
             let independent = large.independent.best() / small.independent.best();

@@ -1,6 +1,6 @@
 //! What the benchmark times: a store, and one call over it.
 
-use crate::ordinary::{domain, home, of_codes, of_size, ordinary, package, CODE};
+use crate::ordinary::{domain, home, of_codes, of_size, ordinary, package, Own, CODE};
 use independent::generate::limits::ladder;
 use independent::generate::model::{ClassModel, FileModel};
 use independent::ledger::{Call, Entry, Ledger};
@@ -18,9 +18,14 @@ pub struct Workload {
 /// The sizes of stores, in KB; the largest has one byte less.
 pub const SIZES: [usize; 6] = [1, 4, 8, 16, 32, 64];
 
+/// The sizes where lists say FE.
+pub const OWN_SIZES: [usize; 2] = [8, 64];
+
 pub const LOAD: &str = "load an ordinary package into a store full but for it";
 pub const QUERY: &str = "query a full store's last package";
 pub const REMOVE: &str = "remove a full store's first package";
+pub const OWN_LOAD: &str = "load an ordinary package with FE into a store full of such";
+pub const OWN_QUERY: &str = "query a full store's last package, with FE";
 pub const CREATE: &str = "create a domain that is there";
 pub const DELETE: &str = "delete the first domain";
 pub const LADDER: &str = "load the ladder into an empty store";
@@ -34,17 +39,15 @@ pub const EMPTY: &str = "query an empty store";
 /// All of them, in the order of the tables.
 pub fn all() -> Vec<Workload> {
     let mut found = Vec::new();
-    let largest = full_entries();
+    let largest = full_entries(Own::Index);
     let full = SIZES.map(|kb| (kb, first_entries(&largest, kb)));
-    found.extend(full.map(|(kb, entries)| last_load(kb, entries)));
-    found.extend(full.map(|(kb, entries)| {
-        let packages = entries.len() - 4;
-        over(QUERY, kb, entries, query(packages - 1))
-    }));
+    found.extend(full.map(|(kb, entries)| last_load(LOAD, kb, entries)));
+    found.extend(full.map(|(kb, entries)| last_query(QUERY, kb, entries, 0, 1)));
     found.extend(full.map(|(kb, entries)| {
         let call = Call::Remove(package(0));
         over(REMOVE, kb, entries, call)
     }));
+    found.extend(with_own());
     for count in [1_023, 8_191] {
         found.extend(of_domains(count));
     }
@@ -83,12 +86,12 @@ fn four_domains() -> Vec<Entry> {
 }
 
 /// Four domains, and ordinary packages for the largest store and one more.
-fn full_entries() -> Vec<Entry> {
+fn full_entries(own: Own) -> Vec<Entry> {
     let mut entries = four_domains();
     for number in 0.. {
         entries.push(Entry::Package {
             domain: home(number),
-            file: ordinary(number, 1, CODE).bytes(),
+            file: ordinary(number, 1, CODE, own).bytes(),
         });
         if used(&entries) > buffer_bytes(64) {
             break;
@@ -104,13 +107,41 @@ fn first_entries(entries: &[Entry], kb: usize) -> &[Entry] {
     &entries[..count.unwrap_or(0)]
 }
 
+/// A load and a query where lists say the own domain by FE.
+fn with_own() -> Vec<Workload> {
+    let largest = full_entries(Own::Fe);
+    let full = OWN_SIZES.map(|kb| (kb, first_entries(&largest, kb)));
+    let loads = full.map(|(kb, entries)| last_load(OWN_LOAD, kb, entries));
+    // The class under the interface: its method 5 lists FE and an index.
+    let queries = full.map(|(kb, entries)| last_query(OWN_QUERY, kb, entries, 2, 5));
+    loads.into_iter().chain(queries).collect()
+}
+
+/// Asks about a method of the last entry.
+fn last_query(
+    name: &'static str,
+    kb: usize,
+    entries: &[Entry],
+    class: u8,
+    method: u16,
+) -> Workload {
+    let last = entries.len() - 5;
+    let call = Call::Query {
+        domain: domain(0),
+        package: package(last),
+        class,
+        name: method,
+    };
+    over(name, kb, entries, call)
+}
+
 /// The last entry loaded over the others.
-fn last_load(kb: usize, entries: &[Entry]) -> Workload {
+fn last_load(name: &'static str, kb: usize, entries: &[Entry]) -> Workload {
     let Some((Entry::Package { domain, file }, earlier)) = entries.split_last() else {
         panic!("a store of {kb} KB has no room for an ordinary package");
     };
     let (domain, file) = (domain.clone(), file.clone());
-    over(LOAD, kb, earlier, Call::Load { domain, file })
+    over(name, kb, earlier, Call::Load { domain, file })
 }
 
 fn over(name: &'static str, kb: usize, entries: &[Entry], call: Call) -> Workload {

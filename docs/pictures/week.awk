@@ -30,6 +30,7 @@ function read_package(p, bytes,    i, j, k, n, m, allowed, bits) {
     aid_of[p] = take_aid()
     n = number(1)
     for (i = 0; i < n; i++) domain_at[i] = take_aid()
+    domain_at[254] = lies[p]
     package_at[0] = aid_of[p]
     n = number(1)
     for (i = 1; i <= n; i++) package_at[i] = take_aid()

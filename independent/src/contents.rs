@@ -1,6 +1,8 @@
 //! What a store holds, read once: its domains, its packages and their classes.
 
-use crate::package::{Allowed, Class, Method, Package};
+use crate::misreadings::Misreading;
+use crate::package::{Class, Method, Package};
+use crate::policy::{Role, Standing};
 use std::collections::HashMap;
 use std::ops::Range;
 
@@ -34,8 +36,9 @@ pub struct Installed<'a> {
     pub imports: Vec<usize>,
     /// One for each class.
     pub lineages: Vec<Lineage>,
-    /// For each domain of the file, a number that equal AIDs share.
+    /// The numbers of the file's domains and of the entry's: equal AIDs share one.
     domain_numbers: Vec<usize>,
+    own_number: usize,
     /// How many classes the earlier packages have.
     classes_before: usize,
 }
@@ -47,9 +50,19 @@ pub struct Contents<'a> {
     pub packages: Vec<Installed<'a>>,
     package_numbers: HashMap<&'a [u8], usize>,
     domain_numbers: HashMap<&'a [u8], usize>,
+    /// How FE is misread, if it is.
+    pub misreading: Option<Misreading>,
 }
 
 impl<'a> Contents<'a> {
+    /// Nothing yet.
+    pub fn by(misreading: Option<Misreading>) -> Self {
+        Contents {
+            misreading,
+            ..Contents::default()
+        }
+    }
+
     /// Puts a package after the others; its imports and lineages have been found.
     pub fn add(
         &mut self,
@@ -59,11 +72,9 @@ impl<'a> Contents<'a> {
         imports: Vec<usize>,
         lineages: Vec<Lineage>,
     ) {
-        let mut domain_numbers = Vec::with_capacity(package.domains.len());
-        for &aid in &package.domains {
-            let next = self.domain_numbers.len();
-            domain_numbers.push(*self.domain_numbers.entry(aid).or_insert(next));
-        }
+        let own_number = self.number_domain(domain);
+        let listed = package.domains.iter();
+        let domain_numbers = listed.map(|&aid| self.number_domain(aid)).collect();
         self.package_numbers
             .insert(package.aid, self.packages.len());
         let classes_before = self.class_count();
@@ -74,8 +85,15 @@ impl<'a> Contents<'a> {
             imports,
             lineages,
             domain_numbers,
+            own_number,
             classes_before,
         });
+    }
+
+    /// The number of a domain that a file lists or that an entry has.
+    fn number_domain(&mut self, aid: &'a [u8]) -> usize {
+        let next = self.domain_numbers.len();
+        *self.domain_numbers.entry(aid).or_insert(next)
     }
 
     fn class_count(&self) -> usize {
@@ -163,30 +181,46 @@ impl<'a> Contents<'a> {
         found
     }
 
-    /// Does a method allow this domain?
-    pub fn allows(&self, place: MethodPlace, domain: &[u8]) -> bool {
-        match self.method(place).allowed {
-            Allowed::Every => true,
-            Allowed::Listed(indexes) => {
-                let domains = &self.packages[place.class.package].package.domains;
-                indexes.iter().any(|&i| domains[usize::from(i)] == domain)
+    /// What a method allows where it stands, with its entry's domain.
+    #[inline]
+    pub fn standing(&self, place: MethodPlace, role: Role) -> Standing<'_> {
+        let holder = &self.packages[place.class.package];
+        let right = Standing {
+            policy: self.method(place).policy,
+            listed: &holder.domain_numbers,
+            own: Some(holder.own_number),
+        };
+        match self.misreading {
+            None => right,
+            Some(wrong) => {
+                let last = self.packages.len() - 1;
+                wrong.standing(right, role, self.packages[last].own_number)
             }
         }
     }
 
-    /// Does the first method allow all that the second one allows?
-    pub fn allows_all(&self, first: MethodPlace, second: MethodPlace) -> bool {
-        let numbers = |place: MethodPlace| &self.packages[place.class.package].domain_numbers;
-        match (self.method(first).allowed, self.method(second).allowed) {
-            (Allowed::Every, _) => true,
-            (Allowed::Listed(_), Allowed::Every) => false,
-            (Allowed::Listed(have), Allowed::Listed(need)) => {
-                let (ours, theirs) = (numbers(first), numbers(second));
-                need.iter().all(|&i| {
-                    let wanted = theirs[usize::from(i)];
-                    have.iter().any(|&k| ours[usize::from(k)] == wanted)
-                })
-            }
-        }
+    /// The number of a domain, if a file lists it or an entry has it.
+    pub fn domain_number(&self, domain: &[u8]) -> Option<usize> {
+        self.domain_numbers.get(domain).copied()
+    }
+
+    /// Does a method allow this domain?
+    pub fn allows(&self, place: MethodPlace, role: Role, domain: &[u8]) -> bool {
+        let number = self.domain_number(domain);
+        self.standing(place, role).allows(number)
+    }
+
+    /// Question 19 for one call, the loading domain apart: does the method that it names
+    /// allow all that the caller allows?
+    pub fn called_allows(&self, named: MethodPlace, caller: MethodPlace) -> bool {
+        let caller = self.standing(caller, Role::Caller);
+        self.standing(named, Role::Called).allows_all(&caller)
+    }
+
+    /// Question 20 for one method of a class or its ancestors: does the method that runs
+    /// allow all that it allows?
+    pub fn runs_allows(&self, runs: MethodPlace, asked: MethodPlace) -> bool {
+        let asked = self.standing(asked, Role::Ancestor);
+        self.standing(runs, Role::Runs).allows_all(&asked)
     }
 }

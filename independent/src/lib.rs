@@ -1,5 +1,5 @@
-//! An independent reading of document 01 with request 5 of document 02: the staff
-//! card loader.
+//! An independent reading of document 01 with requests 2 and 5 of document 02: the
+//! staff card loader.
 
 pub mod bytes;
 pub mod card;
@@ -10,8 +10,11 @@ pub mod generate;
 pub mod ledger;
 pub mod load_questions;
 pub mod loader;
+pub mod misreadings;
 pub mod operations;
+pub mod own_domain;
 pub mod package;
+pub mod policy;
 pub mod questions;
 pub mod store;
 

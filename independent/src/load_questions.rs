@@ -2,7 +2,9 @@
 
 use crate::code::{self, CallKind};
 use crate::contents::{Contents, Lineage, MethodPlace, Place};
+use crate::misreadings::Misreading;
 use crate::package::{self, Class, Method, Package};
+use crate::policy::Role;
 
 /// The greatest depth of a class.
 const MAX_DEPTH: u8 = 8;
@@ -13,8 +15,8 @@ pub fn q10(file: &[u8]) -> bool {
 }
 
 /// Does the rest read exactly to its end as laid out, size, counts and ranges included?
-pub fn q11(file: &[u8]) -> Option<Package<'_>> {
-    package::read(file)
+pub fn q11(file: &[u8], misreading: Option<Misreading>) -> Option<Package<'_>> {
+    package::read_by(file, misreading)
 }
 
 /// Is the package AID not installed?
@@ -126,8 +128,8 @@ pub fn q17(codes: &[Code]) -> bool {
 
 /// A call in the file: the method whose code has it and the method it names.
 pub struct Call {
-    caller: MethodPlace,
-    named: MethodPlace,
+    pub caller: MethodPlace,
+    pub named: MethodPlace,
 }
 
 /// Does each call's reference exist and name a class that declares it, visible if
@@ -180,30 +182,42 @@ fn named_method(
 /// Does the method each call names allow the loading domain and all that the
 /// caller allows?
 pub fn q19(contents: &Contents, domain: &[u8], calls: &[Call]) -> bool {
+    let loading = contents.domain_number(domain);
     calls.iter().all(|call| {
-        contents.allows(call.named, domain) && contents.allows_all(call.named, call.caller)
+        let entered = contents.standing(call.named, Role::Entered);
+        entered.allows(loading) && contents.called_allows(call.named, call.caller)
     })
 }
 
 /// For each own class B and n, does the method that runs allow all that each
 /// non-static n of B and its ancestors allows?
 pub fn q20(contents: &Contents, judged: usize) -> bool {
-    let classes = &contents.packages[judged].package.classes;
-    (0..classes.len())
-        .filter(|&class| !classes[class].interface)
-        .all(|class| {
-            runs_for_all(
-                contents,
-                Place {
-                    package: judged,
-                    class,
-                },
-            )
-        })
+    for_all_running(contents, judged, |runs, asked| {
+        contents.runs_allows(runs, asked)
+    })
 }
 
-/// Question 20 for one kind-0 class.
-fn runs_for_all(contents: &Contents, class: Place) -> bool {
+/// Does this hold of the method that runs for each own class B and n and each non-static
+/// n of B and its ancestors?
+pub fn for_all_running(
+    contents: &Contents,
+    judged: usize,
+    holds: impl Fn(MethodPlace, MethodPlace) -> bool,
+) -> bool {
+    let classes = contents.packages[judged].package.classes.iter();
+    let mut kind_0 = classes.enumerate().filter(|(_, class)| !class.interface);
+    kind_0.all(|(class, _)| {
+        let package = judged;
+        runs_for_all(contents, Place { package, class }, &holds)
+    })
+}
+
+/// The same for one kind-0 class.
+fn runs_for_all(
+    contents: &Contents,
+    class: Place,
+    holds: &impl Fn(MethodPlace, MethodPlace) -> bool,
+) -> bool {
     let running = contents.running(class);
     contents.with_ancestors(class).iter().all(|&holder| {
         let methods = contents.class(holder).methods.iter().enumerate();
@@ -213,7 +227,7 @@ fn runs_for_all(contents: &Contents, class: Place) -> bool {
             match found.ok().and_then(|place| running[place].1) {
                 Some(runs) => {
                     let class = holder;
-                    contents.allows_all(runs, MethodPlace { class, method })
+                    holds(runs, MethodPlace { class, method })
                 }
                 None => true,
             }

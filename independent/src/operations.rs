@@ -1,5 +1,6 @@
 //! The six operations on a lent buffer.
 
+use crate::policy::Role;
 use crate::questions::{judge_creation, judge_load, number, q1, q2, q3, q5, q6, q7, q8, q9, Room};
 use crate::store::{self, Body};
 use crate::Answer;
@@ -59,10 +60,11 @@ pub mod asked {
         number(q3(&[domain, package]), 3)?;
         let package = q7(&contents, package).ok_or(7)?;
         let method = q9(&contents, package, class, name).ok_or(9)?;
-        Ok(contents.allows(method, domain))
+        Ok(contents.allows(method, Role::Queried, domain))
     }
 
-    fn room(store: &[u8]) -> Room {
+    /// The room that a sound store has.
+    pub fn room(store: &[u8]) -> Room {
         Room {
             used: store::used(store),
             length: store.len(),

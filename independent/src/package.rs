@@ -1,6 +1,8 @@
 //! The package file, parsed to structures.
 
 use crate::bytes::Reader;
+use crate::misreadings::Misreading;
+use crate::policy::{Policy, PolicyReader};
 
 /// The mark "BPK" and version 1.
 pub const MARK_AND_VERSION: [u8; 5] = [0x42, 0x50, 0x4B, 0, 1];
@@ -11,15 +13,11 @@ pub const MAX_REFERENCES: usize = 1024;
 pub const MAX_CLASSES: usize = 32;
 pub const MAX_PARENTS: usize = 4;
 pub const MAX_METHODS: usize = 64;
-pub const MAX_ALLOWED: usize = 32;
 pub const MAX_CODE: usize = 4096;
 
 pub const VISIBLE: u8 = 0x80;
 pub const IMPLEMENTED: u8 = 0x40;
 pub const STATIC: u8 = 0x20;
-
-/// The allowed count that stands for every domain.
-pub const EVERY: u8 = 0xFF;
 
 #[derive(Clone, Debug)]
 pub struct Package<'a> {
@@ -51,16 +49,9 @@ pub struct Method<'a> {
     pub visible: bool,
     pub is_static: bool,
     pub name: u16,
-    pub allowed: Allowed<'a>,
+    pub policy: Policy<'a>,
     /// Present when the method is implemented.
     pub code: Option<&'a [u8]>,
-}
-
-#[derive(Clone, Copy, Debug)]
-pub enum Allowed<'a> {
-    Every,
-    /// Indexes into the package's domains.
-    Listed(&'a [u8]),
 }
 
 impl Class<'_> {
@@ -78,6 +69,11 @@ impl Method<'_> {
 
 /// Reads the file after mark and version; `None` unless it reads exactly to its end.
 pub fn read(file: &[u8]) -> Option<Package<'_>> {
+    read_by(file, None)
+}
+
+/// The same with FE misread.
+pub fn read_by(file: &[u8], misreading: Option<Misreading>) -> Option<Package<'_>> {
     let mut reader = Reader::new(file);
     reader.take(MARK_AND_VERSION.len())?;
     if usize::from(reader.u2()?) != file.len() {
@@ -88,8 +84,12 @@ pub fn read(file: &[u8]) -> Option<Package<'_>> {
     let imports = read_aids(&mut reader, MAX_IMPORTS)?;
     let references = read_references(&mut reader)?;
     let class_count = reader.count1(MAX_CLASSES)?;
+    let policies = PolicyReader {
+        domain_count: domains.len(),
+        misreading,
+    };
     let classes = (0..class_count)
-        .map(|_| read_class(&mut reader, domains.len()))
+        .map(|_| read_class(&mut reader, &policies))
         .collect::<Option<Vec<_>>>()?;
     reader.rest().is_empty().then_some(Package {
         aid,
@@ -119,7 +119,7 @@ fn read_references(reader: &mut Reader) -> Option<Vec<Reference>> {
     Some(references.collect())
 }
 
-fn read_class<'a>(reader: &mut Reader<'a>, domain_count: usize) -> Option<Class<'a>> {
+fn read_class<'a>(reader: &mut Reader<'a>, policies: &PolicyReader) -> Option<Class<'a>> {
     let kind = reader.count1(1)?;
     let parent_count = reader.count1(MAX_PARENTS)?;
     let parents = reader.take(2 * parent_count)?.chunks_exact(2);
@@ -128,18 +128,18 @@ fn read_class<'a>(reader: &mut Reader<'a>, domain_count: usize) -> Option<Class<
         interface: kind == 1,
         parents: parents.map(|pair| (pair[0], pair[1])).collect(),
         methods: (0..method_count)
-            .map(|_| read_method(reader, domain_count))
+            .map(|_| read_method(reader, policies))
             .collect::<Option<Vec<_>>>()?,
     })
 }
 
-fn read_method<'a>(reader: &mut Reader<'a>, domain_count: usize) -> Option<Method<'a>> {
+fn read_method<'a>(reader: &mut Reader<'a>, policies: &PolicyReader) -> Option<Method<'a>> {
     let bits = reader.u1()?;
     if bits & !(VISIBLE | IMPLEMENTED | STATIC) != 0 {
         return None;
     }
     let name = reader.u2()?;
-    let allowed = read_allowed(reader, domain_count)?;
+    let policy = policies.read(reader)?;
     let code = if bits & IMPLEMENTED != 0 {
         Some(read_code(reader)?)
     } else {
@@ -149,22 +149,9 @@ fn read_method<'a>(reader: &mut Reader<'a>, domain_count: usize) -> Option<Metho
         visible: bits & VISIBLE != 0,
         is_static: bits & STATIC != 0,
         name,
-        allowed,
+        policy,
         code,
     })
-}
-
-fn read_allowed<'a>(reader: &mut Reader<'a>, domain_count: usize) -> Option<Allowed<'a>> {
-    let count = reader.u1()?;
-    if count == EVERY {
-        return Some(Allowed::Every);
-    }
-    if usize::from(count) > MAX_ALLOWED {
-        return None;
-    }
-    let indexes = reader.take(usize::from(count))?;
-    let in_range = indexes.iter().all(|&i| usize::from(i) < domain_count);
-    in_range.then_some(Allowed::Listed(indexes))
 }
 
 fn read_code<'a>(reader: &mut Reader<'a>) -> Option<&'a [u8]> {

@@ -3,6 +3,7 @@
 use crate::bytes::AID_LENGTHS;
 use crate::contents::{Contents, MethodPlace, Place};
 use crate::load_questions::{q10, q11, q12, q13, q14, q15, q16, q17, q18, q19, q20};
+use crate::misreadings::Misreading;
 use crate::store::{self, Body, HEAD};
 
 /// Has the store 64 to 65,535 bytes?
@@ -12,7 +13,12 @@ pub fn q1(store: &[u8]) -> bool {
 
 /// Is it sound? If so, what it holds.
 pub fn q2(store: &[u8]) -> Option<Contents<'_>> {
-    let mut contents = Contents::default();
+    q2_by(store, None)
+}
+
+/// The same with FE misread.
+pub fn q2_by(store: &[u8], misreading: Option<Misreading>) -> Option<Contents<'_>> {
+    let mut contents = Contents::by(misreading);
     let mut used = HEAD;
     for entry in store::entries(store)? {
         let room = Room {
@@ -115,7 +121,7 @@ pub fn judge_load<'a>(
     number(q3(&[domain]), 3)?;
     number(q5(contents, domain), 5)?;
     number(q10(file), 10)?;
-    let package = q11(file).ok_or(11)?;
+    let package = q11(file, contents.misreading).ok_or(11)?;
     number(q12(contents, &package), 12)?;
     let imports = q13(contents, &package).ok_or(13)?;
     let lineages = q14(contents, &package, &imports).ok_or(14)?;

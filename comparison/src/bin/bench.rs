@@ -8,6 +8,7 @@ use comparison::stack::peaks;
 use comparison::tables::{print_stack, Measured};
 use comparison::timing::measure;
 use comparison::workloads::{self, Workload};
+use independent::generate::own_pairs::own_pairs;
 use independent::generate::sequences::sequence;
 use independent::generate::special;
 use independent::loader::{Sequence, Step};
@@ -33,7 +34,9 @@ fn main() -> ExitCode {
 }
 
 fn usage() -> ExitCode {
-    eprintln!("usage: bench ROUNDS DATE, with at least {ROUNDS} rounds; bench stack; bench instructions");
+    eprintln!(
+        "usage: bench ROUNDS DATE, with at least {ROUNDS} rounds; bench stack; bench instructions"
+    );
     ExitCode::FAILURE
 }
 
@@ -56,7 +59,9 @@ fn bench(rounds: usize, date: &str) {
 /// The peak stack of each operation, on stores to 8,192 bytes and on larger ones.
 fn stack(ordinary: &[Workload], hostile: &[Workload]) {
     let all = ordinary.iter().chain(hostile);
-    let (small, large) = stack_sequences(all).into_iter().partition(|s| s.start.len() <= 8_192);
+    let (small, large) = stack_sequences(all)
+        .into_iter()
+        .partition(|s| s.start.len() <= 8_192);
     print_stack(&peaks(small), &peaks(large));
 }
 
@@ -68,10 +73,12 @@ fn processor() -> String {
     name.map_or("unknown processor".into(), |(_, name)| name.trim().into())
 }
 
-/// Calls that reach deep: limits, ladders, full stores, all that is timed, and others.
+/// Calls that reach deep: limits, lists with FE, ladders, full stores, all that is timed, and others.
 fn stack_sequences<'a>(workloads: impl Iterator<Item = &'a Workload>) -> Vec<Sequence> {
     let mut found = special::lengths();
     found.push(special::limits());
+    found.push(special::own_limit_lists());
+    found.extend(own_pairs());
     found.extend(special::full_stores());
     found.extend(special::hostile());
     found.extend((0..300).map(sequence));

@@ -1,22 +1,25 @@
--- What a method allows where it stands: its policy and the domains that this counts. Assumes nothing.
+-- What a method allows where it stands: its policy, the domains that this counts, the domain of its package. Assumes nothing.
 use Prim.Native.Nat.{ℕ}
-use mathlib.Core.Path.{_≡_, subst}
+use mathlib.Core.Path.{_≡_, refl, _∙_, subst}
 use mathlib.Core.List.{List}
-use Rattle.rules.specs.Bytes.{Bytes}
+use Rattle.rules.specs.Bytes.{Bytes, aid}
 use Rattle.rules.specs.Package.{storeLimits}
-use Rattle.rules.specs.Classes.{rights}
+use Rattle.rules.specs.Store.{Entry}
+use Rattle.rules.specs.Classes.{Installed}
 use Rattle.rules.specs.Questions.{methodNamed, ownMethod}
-use Rattle.files.specs.Say.{Readable, DomainsAt, PolicyAt, MethodThere}
+use Rattle.places.specs.Reads.{Ends}
+use Rattle.files.specs.Say.{AidBytes, Readable, DomainsAt, PolicyAt, MethodThere}
 use Rattle.files.proofs.Walks.{domains-read}
 use Rattle.policies.specs.Say.{PolicyOver}
-use Rattle.homes.specs.Homes.{ownHome, fileOf, own, HomeThere}
+use Rattle.policies.specs.declared.RightsPlace.{RightsPlace}
+use Rattle.homes.specs.Homes.{Setting, HomeIs, ownHome, fileOf, aidAt, domainPlace, own, stored, HomeThere}
 use Rattle.homes.specs.declared.Home.{Home}
 use Rattle.homes.proofs.Homes.{home-reads}
+use Rattle.homes.proofs.Domains.{aid-at, domain-there}
 use Rattle.named.specs.Named.{Judged, homeOf}
 use Rattle.calls.specs.Named.{ReferenceIs}
 use Rattle.calls.specs.Rights.{StandsThere, RightsAt}
 use Rattle.calls.specs.Calls.{OwnMethod}
-use Rattle.calls.specs.declared.RightsPlace.{RightsPlace}
 use Rattle.calls.specs.declared.NamedFound.the-variants as found
 
 module _ {f s : Bytes} {h : Home} {m : ℕ} where
@@ -42,7 +45,23 @@ module _ {f s : Bytes} {h : Home} {m : ℕ} where
         let k = t .4 .class .home in
         let a = domains-read (q .0) (storeLimits s) (k .pack) (home-reads f s (t .0) (t .1) (t .2) (t .3 .setting) h k (t .5 .lies)) in
         let b = q .1 (t .0) (t .1) (t .2) (t .3) (t .4) (t .5) in
-        rw e (k .pack .domains, a .0, a .1, (rights (t .4), b .0, b .1))
+        rw e (k .pack .domains, a .0, a .1, (t .4 .method .policy, b .0, b .1))
+
+-- the bytes of the AID at a place
+pub aid-is : {s r : Bytes} {i : ℕ} → Ends aid s i → AidBytes s i r → r ≡ aidAt s i
+aid-is t q = q (t .0) (t .1) (t .2) ∙ aid-at (t .2)
+
+-- the domain of the package at a home stands in the store: no setting need lie in the loading domain
+home-domain : {f s : Bytes} {end : ℕ} {es : List Entry} {self : Installed} {h : Home} {x : Installed} (at : ℕ) → Setting f s end es self →
+    HomeIs f s end es self h x → Ends aid s at → Ends aid s (domainPlace h at)
+home-domain at g own e = e
+home-domain {f} {s} {end} {es} {self} at g (stored t) e =
+    let loads : Installed = record { domain = aidAt s at; pack = self .pack } in
+    let setting : Setting f s end es loads = record { stand = g .stand; size = g .size; sound = g .sound; reads = g .reads } in
+    domain-there setting (stored t) (record { there = e; is = refl })
+
+pub stands-domain : {f s : Bytes} {h : Home} {m : ℕ} (at : ℕ) → StandsThere f s h m → Ends aid s at → Ends aid s (domainPlace h at)
+stands-domain at t e = home-domain at (t .3 .setting) (t .5 .lies) e
 
 -- the caller
 module _ {f s : Bytes} {end i : ℕ} (g : OwnMethod f s end i) where

@@ -3,7 +3,6 @@ mod allowed;
 mod references;
 
 use allowed::call_number;
-use codes::Calling;
 use codes::CodeOffset;
 use codes::NextCall;
 use fields::wide;
@@ -11,8 +10,9 @@ use references::called;
 use refusals::first_no;
 ghost use mathlib.Core.Path.{_≡_};
 ghost use Rattle.instructions.specs.Table.{TableIs};
-ghost use Rattle.rules.specs.Bytes.{Bytes};
-ghost use Rattle.files.specs.Say.{Readable};
+ghost use Rattle.rules.specs.Bytes.{aid};
+ghost use Rattle.places.specs.Reads.{Ends};
+ghost use Rattle.homes.specs.Homes.{aidAt};
 ghost use Rattle.homes.specs.Found.{ImportHomes};
 ghost use Rattle.named.specs.Named.{Judged};
 ghost use Rattle.calls.specs.Maps.{askerAt, AskerTrue, TablesTrue};
@@ -25,16 +25,12 @@ pub enum NamedFound {
     Nothing,
 }
 
-// Where a method's rights stand in the file at its home: the list of domains, and the policy over it.
-pub struct RightsPlace {
-    pub domains: usize,
-    pub policy: usize,
-}
-
-// What a walk over the calls of the file being judged carries: where the earlier entries end, how many imports the file has, where its
-// references stand, the number of the loading domain among its domains, and the place of the method or class at hand.
+// What a walk over the calls of the file being judged carries: where the earlier entries end, where in the store the loading domain
+// stands, how many imports the file has, where its references stand, the number of the loading domain among its domains, and the place of
+// the method or class at hand.
 pub struct Asker {
     pub end: usize,
+    pub domain: usize,
     pub imports: usize,
     pub references: usize,
     pub loading: usize,
@@ -54,6 +50,7 @@ fn asker_at(a: Asker, at: usize) -> Asker
 {
     Asker {
         end: a.end,
+        domain: a.domain,
         imports: a.imports,
         references: a.references,
         loading: a.loading,
@@ -65,7 +62,6 @@ fn asker_at(a: Asker, at: usize) -> Asker
 fn method_calls<'a>(
     f: &'a [u8],
     s: &'a [u8],
-    domain: &[u8],
     table: &[u8; 256],
     a: Asker,
     homes: &[usize; 48],
@@ -73,10 +69,10 @@ fn method_calls<'a>(
     map: &mut [u8],
 ) -> u8
     requires { ⌜ OwnMethod (now f) (now s) (a .end) (a .at) × TableIs (now table) ⌝ }
-    requires { ⌜ AskerTrue (now f) (now s) (now domain) a ⌝ }
-    requires { ⌜ TablesTrue (now f) (now s) (a .end) (now domain) (now homes) (now rows) (now map) ⌝ }
-    ensures { λ r. ⌜ MethodCallsAre (now (f .entry)) (now (s .entry)) (a .end) (now (domain .entry)) (a .at) r ⌝ }
-    ensures { λ _. ⌜ TablesTrue (now (f .entry)) (now (s .entry)) (a .end) (now (domain .entry)) (now (homes .entry)) (now (rows .exit)) (now (map .exit)) ⌝ }
+    requires { ⌜ AskerTrue (now f) (now s) a ⌝ }
+    requires { ⌜ TablesTrue (now f) (now s) (a .end) (a .domain) (now homes) (now rows) (now map) ⌝ }
+    ensures { λ r. ⌜ MethodCallsAre (now (f .entry)) (now (s .entry)) (a .end) (aidAt (now (s .entry)) (a .domain)) (a .at) r ⌝ }
+    ensures { λ _. ⌜ TablesTrue (now (f .entry)) (now (s .entry)) (a .end) (a .domain) (now (homes .entry)) (now (rows .exit)) (now (map .exit)) ⌝ }
 {
     let code = files::code_of(f, a.at);
     let mut from = 0;
@@ -85,7 +81,7 @@ fn method_calls<'a>(
         match codes::next_call(table, code, CodeOffset(from)) {
             NextCall::Call { kind, index, next } => {
                 let found = called(f, s, a, homes, rows, kind, index);
-                number = first_no(number, call_number(f, s, domain, a, homes, map, found));
+                number = first_no(number, call_number(f, s, a, homes, map, found));
                 from = next.0;
             }
             NextCall::Nothing => {
@@ -99,7 +95,6 @@ fn method_calls<'a>(
 fn class_calls<'a>(
     f: &'a [u8],
     s: &'a [u8],
-    domain: &[u8],
     table: &[u8; 256],
     a: Asker,
     homes: &[usize; 48],
@@ -107,10 +102,10 @@ fn class_calls<'a>(
     map: &mut [u8],
 ) -> u8
     requires { ⌜ OwnClass (now f) (now s) (a .end) (a .at) × TableIs (now table) ⌝ }
-    requires { ⌜ AskerTrue (now f) (now s) (now domain) a ⌝ }
-    requires { ⌜ TablesTrue (now f) (now s) (a .end) (now domain) (now homes) (now rows) (now map) ⌝ }
-    ensures { λ r. ⌜ ClassCallsAre (now (f .entry)) (now (s .entry)) (a .end) (now (domain .entry)) (a .at) r ⌝ }
-    ensures { λ _. ⌜ TablesTrue (now (f .entry)) (now (s .entry)) (a .end) (now (domain .entry)) (now (homes .entry)) (now (rows .exit)) (now (map .exit)) ⌝ }
+    requires { ⌜ AskerTrue (now f) (now s) a ⌝ }
+    requires { ⌜ TablesTrue (now f) (now s) (a .end) (a .domain) (now homes) (now rows) (now map) ⌝ }
+    ensures { λ r. ⌜ ClassCallsAre (now (f .entry)) (now (s .entry)) (a .end) (aidAt (now (s .entry)) (a .domain)) (a .at) r ⌝ }
+    ensures { λ _. ⌜ TablesTrue (now (f .entry)) (now (s .entry)) (a .end) (a .domain) (now (homes .entry)) (now (rows .exit)) (now (map .exit)) ⌝ }
 {
     let start = files::methods_of(f, a.at);
     let mut left = wide(f[start]);
@@ -119,7 +114,7 @@ fn class_calls<'a>(
     while 0 < left {
         number = first_no(
             number,
-            method_calls(f, s, domain, table, asker_at(a, c), homes, rows, map),
+            method_calls(f, s, table, asker_at(a, c), homes, rows, map),
         );
         c = files::after_method(f, c);
         left -= 1;
@@ -131,7 +126,6 @@ fn class_calls<'a>(
 fn file_calls<'a>(
     f: &'a [u8],
     s: &'a [u8],
-    domain: &[u8],
     table: &[u8; 256],
     a: Asker,
     homes: &[usize; 48],
@@ -139,9 +133,9 @@ fn file_calls<'a>(
     map: &mut [u8],
 ) -> u8
     requires { ⌜ Judged (now f) (now s) (a .end) × CodesSplit (now f) × TableIs (now table) ⌝ }
-    requires { ⌜ AskerTrue (now f) (now s) (now domain) a ⌝ }
-    requires { ⌜ TablesTrue (now f) (now s) (a .end) (now domain) (now homes) (now rows) (now map) ⌝ }
-    ensures { λ r. ⌜ FileCallsAre (now (f .entry)) (now (s .entry)) (a .end) (now (domain .entry)) r ⌝ }
+    requires { ⌜ AskerTrue (now f) (now s) a ⌝ }
+    requires { ⌜ TablesTrue (now f) (now s) (a .end) (a .domain) (now homes) (now rows) (now map) ⌝ }
+    ensures { λ r. ⌜ FileCallsAre (now (f .entry)) (now (s .entry)) (a .end) (aidAt (now (s .entry)) (a .domain)) r ⌝ }
 {
     let start = files::classes_at(f);
     let mut left = wide(f[start]);
@@ -150,7 +144,7 @@ fn file_calls<'a>(
     while 0 < left {
         number = first_no(
             number,
-            class_calls(f, s, domain, table, asker_at(a, c), homes, rows, map),
+            class_calls(f, s, table, asker_at(a, c), homes, rows, map),
         );
         c = files::after_class(f, c);
         left -= 1;
@@ -158,39 +152,43 @@ fn file_calls<'a>(
     number
 }
 
-// What is told of the file being judged, loaded in a domain.
-fn told_of(f: &[u8], end: usize, domain: &[u8]) -> Asker
-    requires { ⌜ Readable (now f) ⌝ }
-    ensures { λ r. ⌜ (r .end ≡ end) × ((s : Bytes) → Judged (now (f .entry)) s end → AskerTrue (now (f .entry)) s (now (domain .entry)) r) ⌝ }
+// What is told of the file being judged, loaded in the domain at a place of the store.
+fn told_of(f: &[u8], s: &[u8], end: usize, domain: usize) -> Asker
+    requires { ⌜ Judged (now f) (now s) end ⌝ }
+    requires { ⌜ Ends aid (now s) domain ⌝ }
+    ensures { λ r. ⌜ (r .end ≡ end) × (r .domain ≡ domain) × AskerTrue (now (f .entry)) (now (s .entry)) r ⌝ }
 {
     let imports = files::imports_at(f);
+    let loading = files::aid_bytes(s, domain);
     Asker {
         end,
+        domain,
         imports: wide(f[imports]),
         references: files::after_aids(f, imports),
-        loading: policies::number_of(f, files::domains_at(f), domain, domain),
+        loading: policies::number_of(f, files::domains_at(f), loading, loading),
         at: 0,
     }
 }
 
-// Questions 18 and 19 of a file loaded in a domain and judged over the entries that end at a place, each code of which splits: the
-// number of the first no, or 0.
+// Questions 18 and 19 of a file loaded in the domain at a place of the store and judged over the entries that end at a place, each code
+// of which splits: the number of the first no, or 0.
 pub fn calls_ok<'a>(
     f: &'a [u8],
     s: &'a [u8],
     end: usize,
-    domain: &[u8],
+    domain: usize,
     table: &[u8; 256],
     homes: &[usize; 48],
 ) -> u8
     requires { ⌜ Judged (now f) (now s) end ⌝ }
+    requires { ⌜ Ends aid (now s) domain ⌝ }
     requires { ⌜ CodesSplit (now f) ⌝ }
     requires { ⌜ TableIs (now table) ⌝ }
     requires { ⌜ ImportHomes (now f) (now s) end (now homes) ⌝ }
-    ensures { λ r. ⌜ CallsNumberIs (now (f .entry)) (now (s .entry)) end (now (domain .entry)) r ⌝ }
+    ensures { λ r. ⌜ CallsNumberIs (now (f .entry)) (now (s .entry)) end (aidAt (now (s .entry)) domain) r ⌝ }
 {
     let mut rows = [0u16; 512];
-    let mut map = [255u8; 512];
-    let a = told_of(f, end, domain);
-    file_calls(f, s, domain, table, a, homes, &mut rows, &mut map)
+    let mut map = [255u8; 528];
+    let a = told_of(f, s, end, domain);
+    file_calls(f, s, table, a, homes, &mut rows, &mut map)
 }

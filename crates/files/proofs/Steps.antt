@@ -11,12 +11,12 @@ use lib.ListN.{length, take, drop, getD}
 use borrow.Author.Tests.{eq-eqb, ne-eqb}
 use Rattle.rules.specs.Bytes.{Bytes, Aid, at, u1, u2, many, aid, counted}
 use Rattle.rules.specs.Code.{u2At}
-use Rattle.rules.specs.Package.{Limits, mostReferences, mostMethods, mostClasses, ClassNumber, Reference, Method, classNumber, reference, domainIndex, codeIf, bit, method, class}
+use Rattle.rules.specs.Package.{Limits, mostReferences, mostMethods, mostClasses, ClassNumber, Reference, Item, Method, classNumber, reference, item, codeIf, bit, method, class}
 use Rattle.places.specs.Reads.{Reads, Ends, EndsAt}
 use Rattle.places.specs.Parts.{CodePart}
 use Rattle.places.proofs.Inverse.{reads-counted, reads-u1, reads-u2}
-use Rattle.places.proofs.Steady.{steady-u1, steady-u2, steady-number, steady-reference, steady-index}
-use Rattle.places.proofs.Parts.{moved, aid-part, number-part, reference-part, index-part, policy-part, code-none, code-part, method-part, class-part}
+use Rattle.places.proofs.Steady.{steady-u1, steady-u2, steady-number, steady-reference, steady-item}
+use Rattle.places.proofs.Parts.{moved, aid-part, number-part, reference-part, item-part, policy-part, code-none, code-part, method-part, class-part}
 use Rattle.places.proofs.Track.{many-wide, many-nth, many-length, placed-at, counted-inside}
 use Rattle.files.specs.Say.{Aids, References, AfterReferences, ReferenceNth, PolicyThere, AfterPolicy, MethodThere, AfterMethod, PolicyAt, NameIs, VisibleIs, ImplementedIs, StaticIs, InstanceIs, CodeIs, Methods, AfterMethods, ClassThere, AfterClass, ParentsAt, MethodsAt, InterfaceIs, Classes}
 use Rattle.files.specs.declared.Referenced.the-variants.{Nothing}
@@ -86,8 +86,8 @@ module _ {s : Bytes} {i : ℕ} where
         go x e q r = let t = reference-part s (i + 2 + 4 * k) x e r in rw (q, t .pack, t .class, t .name)
 
 -- policies
-indexes : (ds : List Aid) (s : Bytes) (n i : ℕ) (xs : List Aid) (j : ℕ) → Reads (many n (domainIndex ds)) s i xs j → i + n ≡ j
-indexes ds s n i xs j p = let w = many-wide (domainIndex ds) (steady-index ds) 1 s (λ i a j p. (index-part ds s i a j p) .next) n i xs j p in omega arith
+indexes : (ds : List Aid) (s : Bytes) (n i : ℕ) (xs : List Item) (j : ℕ) → Reads (many n (item ds)) s i xs j → i + n ≡ j
+indexes ds s n i xs j p = let w = many-wide (item ds) (steady-item ds) 1 s (λ i a j p. (item-part ds s i a j p) .next) n i xs j p in omega arith
 
 module _ {s : Bytes} {i : ℕ} where
   pub policy-in : PolicyThere s i → i < length s
@@ -97,7 +97,7 @@ module _ {s : Bytes} {i : ℕ} where
   policy-every h ds q j p = elim (policy-part ds s i q j p) [ inl x ↦ x .next | inr x ↦ absurd (omega (arith, x .few)) ]
 
   pub policy-only : (getD s i 0 ≡ 255 → ⊥) → AfterPolicy s i (i + 1 + getD s i 0)
-  policy-only h ds q j p = elim (policy-part ds s i q j p) [ inl x ↦ absurd (h (x .mark)) | inr x ↦ indexes ds s (getD s i 0) (i + 1) (x .aids) j (x .list) ]
+  policy-only h ds q j p = elim (policy-part ds s i q j p) [ inl x ↦ absurd (h (x .mark)) | inr x ↦ indexes ds s (getD s i 0) (i + 1) (x .listed) j (x .list) ]
 
   pub policy-to : (getD s i 0 ≡ 255 → ⊥) → PolicyThere s i → i + 1 + getD s i 0 ≤ length s
   policy-to h e = let n = policy-only h (e .0) (e .1 .0) (e .1 .1) (e .1 .2) in omega (arith, e .1 .2 .to)

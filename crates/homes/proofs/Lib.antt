@@ -3,3 +3,4 @@ pub mod Places
 pub mod Homes
 pub mod Earlier
 pub mod Lookups
+pub mod Domains

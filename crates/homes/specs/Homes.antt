@@ -6,15 +6,18 @@
 -- ownHome end, homeOf s p == the home of the file being judged; of the package whose entry stands at place p
 -- fileOf f s h          == the file at home h
 -- HomeIs f s end es self h x == the file of the installed package x, or of self, is the one at home h
+-- aidAt s i             == the AID that stands at place i of the store, its length before it
+-- DomainAt s d self     == the domain of the package being judged stands at place d
+-- domainPlace h d       == where the domain of the package at home h stands, if that of the file being judged stands at d
 -- HomeThere, OfHome     == what a function over a home requires, and how it ensures
 -- NumberedIs f s h k r  == r is the home of the package that number k stands for in the file at h
 -- ClassPlaced, RecordIs == the record of a class, by its place and as a part of its file
-use Prim.Native.Nat.{ℕ, zero, suc, _<_, _≤_}
+use Prim.Native.Nat.{ℕ, zero, suc, _+_, _<_, _≤_}
 use mathlib.Core.Path.{_≡_}
 use mathlib.Core.List.{List, [], _∷_, _++_}
 use mathlib.Core.Option.{Option, none, some}
 use lib.Dec.{T, eqb}
-use lib.ListN.{drop}
+use lib.ListN.{take, drop, getD}
 use Rattle.rules.specs.Bytes.{Bytes, Aid, pick, all, allFrom, at, aid}
 use Rattle.rules.specs.Package.{Limits, storeLimits, Package, class, readFile}
 use Rattle.rules.specs.Store.{Entry, loaded, openingLength}
@@ -23,7 +26,7 @@ use Rattle.rules.specs.Questions.{q13-imports, parentExists}
 use Rattle.rules.specs.Operations.{acceptedAll}
 use Rattle.store.specs.Entries.{part, EntryAt, Entries, AllRead, PackageAt}
 use Rattle.index.specs.Index.{fileFrom, entryTo}
-use Rattle.places.specs.Reads.{Placed}
+use Rattle.places.specs.Reads.{Ends, Placed}
 use Rattle.files.specs.Say.{spot}
 use Rattle.files.specs.declared.Spot.{Spot}
 use Rattle.files.specs.declared.Spot.the-variants as At′
@@ -83,6 +86,19 @@ pub record Stored (s : Bytes) (es : List Entry) (h : Home) (x : Installed) : Typ
 pub data HomeIs (f s : Bytes) (end : ℕ) (es : List Entry) (self : Installed) : Home → Installed → Type 0 where
   own : HomeIs f s end es self (ownHome end) self
   stored : {h : Home} {x : Installed} → Stored s es h x → HomeIs f s end es self h x
+
+-- the AID that stands at a place, its length before it
+abbrev pub aidAt : Bytes → ℕ → Aid
+aidAt s i = take (getD s i 0) (drop (i + 1) s)
+
+-- the domain of the package being judged stands at a place
+pub record DomainAt (s : Bytes) (d : ℕ) (self : Installed) : Type 0 where
+  pub there : Ends aid s d
+  pub is : self .domain ≡ aidAt s d
+
+-- where the domain of the package at a home stands: behind kind and body length of its entry, or for the file being judged at d
+abbrev pub domainPlace : Home → ℕ → ℕ
+domainPlace h d = pick (eqb (h .from) 0) d (h .before + 3)
 
 -- a package being judged, and a package at a home, whose file lies in it
 abbrev pub HomeThere : Bytes → Bytes → Home → Type 0

@@ -4,9 +4,11 @@ use store::FileSpot;
 ghost use mathlib.Core.Path.{_≡_};
 ghost use Prim.Native.Nat.{_≤_};
 ghost use lib.ListN.{length};
+ghost use Rattle.rules.specs.Bytes.{aid};
+ghost use Rattle.places.specs.Reads.{Ends};
 ghost use Rattle.files.specs.Say.{Readable};
 ghost use Rattle.homes.specs.Found.{Indexed};
-ghost use Rattle.homes.specs.Homes.{ownHome, homeOf, PackageFrom, fileOf, HomeThere, ByAid, ImportPlaced, NumberedIs};
+ghost use Rattle.homes.specs.Homes.{ownHome, homeOf, PackageFrom, fileOf, aidAt, domainPlace, HomeThere, ByAid, ImportPlaced, NumberedIs};
 
 // The bounds of a file in the store, and the place where the entries before it end; 0 and 0 for the file being judged.
 pub struct Home {
@@ -57,6 +59,19 @@ pub fn file_of<'a>(f: &'a [u8], s: &'a [u8], h: Home) -> &'a [u8]
         return f;
     }
     &s[from..to]
+}
+
+// The domain of the package at a home, as a part of the store; that of the file being judged stands at place d.
+pub fn domain_of<'a>(s: &'a [u8], h: Home, d: usize) -> &'a [u8]
+    requires { ⌜ Ends aid (now s) (domainPlace h d) ⌝ }
+    ensures { λ r. ⌜ now r ≡ aidAt (now (s .entry)) (domainPlace h d) ⌝ }
+{
+    let from = h.from;
+    let before = h.before;
+    if from == 0 {
+        return files::aid_bytes(s, d);
+    }
+    files::aid_bytes(s, before + 3)
 }
 
 // The place of the AID of import k of a file, counted from 0.

@@ -1,28 +1,36 @@
 -- A load over sound entries: questions 3, 5 and 10 to 14, and what follows them. Assumes nothing.
-use Prim.Native.Nat.{ℕ, _<_}
+use Prim.Native.Nat.{ℕ, _+_, _<_}
 use native.Mathlib.Omega.{arith}
 use mathlib.Core.Path.{_≡_, refl, sym, _∙_, ap, subst}
 use mathlib.Core.Bool.{Bool, true, false}
 use mathlib.Core.List.{List, [], _∷_}
 use mathlib.Core.Option.{Option, none, some}
+use lib.Dec.{T}
 use lib.ListN.{length}
-use Rattle.rules.specs.Bytes.{Bytes, Aid, aidLength}
+use Rattle.rules.specs.Bytes.{Bytes, Aid, aidLength, aid}
 use Rattle.rules.specs.Package.{Limits, storeLimits, Package, readFile}
-use Rattle.rules.specs.Store.{Entry}
+use Rattle.rules.specs.Store.{Entry, domain, loaded}
 use Rattle.rules.specs.Classes.{Installed, installed}
 use Rattle.rules.specs.Questions.{q3-lengths, q5-created, q10-marked, q11-reads, q12-new, q13-imports, q14-parents}
-use Rattle.rules.specs.Operations.{firstNo, packageQuestions, loadQuestions, deepest, deepestOf}
-use Rattle.rules.proofs.Tests.{is-true, of-true}
+use Rattle.rules.specs.Operations.{firstNo, packageQuestions, loadQuestions, deepest, deepestOf, isDomain}
+use Rattle.rules.proofs.Tests.{is-true, of-true, same-eq}
 use Rattle.reader.specs.Answers.{PackageRead}
 use Rattle.reader.specs.Answers as said
 use Rattle.reader.specs.declared.Places.{Places}
 use Rattle.reader.specs.declared.Read.{Read}
 use Rattle.reader.specs.declared.Read.the-variants as reads
 use Rattle.imports.specs.Say.{NewIs, ImportsIs}
-use Rattle.homes.specs.Homes.{Imports}
+use Rattle.places.specs.Reads.{Ends}
+use Rattle.homes.specs.Homes.{Imports, aidAt}
+use Rattle.homes.proofs.Domains.{created-domain}
 use Rattle.depths.specs.Depths.{ParentedIs}
 use Rattle.depths.specs.declared.Parented.the-variants as parented
-use Rattle.store.specs.Sound.{Over}
+use Rattle.store.specs.Entries.{EntryAt}
+use Rattle.store.specs.Answers.{spot, SpotAt}
+use Rattle.store.specs.Sound.{Over, OverSome}
+use Rattle.store.specs.declared.Spot.{Spot}
+use Rattle.store.specs.declared.Spot.the-variants.{At}
+use Rattle.store.proofs.Walk.{FoundAt, found-at}
 use Rattle.store.proofs.Sound.{one-length}
 use Rattle.judge.specs.Says.{FileRead, Asked14, asks, from, AnswerIs, Asked14Some, NumberFrom, NumberBefore, fileAsks, ParentsSay, ParentsAnswer, InsideAnswer, FileSays, LoadSays}
 use Rattle.judge.specs.declared.LoadAnswer.{LoadAnswer}
@@ -262,3 +270,17 @@ module _ (s : Bytes) (l : Limits) (e : l ≡ storeLimits s) (f : Bytes) (r : Rea
   said-0 t q =
       let x = read-0 (q10-marked f) (q11-reads (readFile l f)) (number-said (reads.Package t) q) in
       (x .0, reads-some (readFile (storeLimits s) f) (ap (λ (m : Limits). q11-reads (readFile m f)) (sym e) ∙ x .1))
+
+-- the place of the loading domain's AID, by that of its entry
+pub domain-place : (s : Bytes) (end : ℕ) (a : Aid) (r : Spot) (i j : ℕ) → SpotAt (isDomain a) s end r → r ≡ At i j → OverSome s end →
+    aidLength (length a) ≡ true → Ends aid s (i + 2) × (a ≡ aidAt s (i + 2))
+domain-place s end a r i j h e o l = go (x .one) (x .stands) (of-true (x .found))
+  where
+    x : FoundAt (isDomain a) s 7 (o .0) end i j
+    x = found-at (isDomain a) s 7 (o .0) end i j (o .1 .stand) (sym (h (o .0) (o .1 .stand)) ∙ ap spot e)
+
+    go : (y : Entry) → EntryAt s i y j → T (isDomain a y) → Ends aid s (i + 2) × (a ≡ aidAt s (i + 2))
+    go (domain b) t q =
+        let same : a ≡ b = same-eq a b q in
+        created-domain s i a j (subst (λ (z : Aid). EntryAt s i (domain z) j) (sym same) t) (of-true (one-length a ∙ l))
+    go (loaded d f) t q = absurd q

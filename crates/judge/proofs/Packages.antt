@@ -24,7 +24,9 @@ use Rattle.store.proofs.Stand.{entry-later, entry-next, entries-to, entries-mor
 use Rattle.store.proofs.Sound.{over-used, one-length}
 use Rattle.index.specs.Index.{IndexIs, PackageStands}
 use Rattle.homes.specs.Found.{Indexed}
+use Rattle.homes.specs.Homes.{aidAt}
 use Rattle.homes.proofs.Homes.{all-read}
+use Rattle.homes.proofs.Domains.{entry-domain, entry-there}
 use Rattle.depths.specs.Depths.{DepthsKept, DepthsFit, OwnDepths, FileKept, depthField}
 use Rattle.depths.proofs.Kept.{depths-next}
 use Rattle.judge.specs.Says.{DomainYes, DomainsYes, Asked14, fileAsks, InsideAnswer, entryOf, PackageThere, EntrySays, PackagesSay}
@@ -95,23 +97,27 @@ domain-accepted s at j a pre o t y =
     (omega (arith, u, n, t .to)) in
     rw (is-true (q3-lengths (a ∷ [])) (y .0), is-true (q4-new pre a) (y .1), fits)
 
--- a package's entry, by the number of its questions from 10 on
+-- n is the number of the questions of a package's entry from 10 on
+abbrev pub NumberIs : Bytes → PackageEntry → ℕ → Type 0
+NumberIs s x n = (es : List Entry) → Over s (x .at) es → n ≡ firstNo (fileAsks s es (aidAt s (x .at + 3)) (part s (x .file) (x .next)))
+
+-- a package's entry, by that number
 module _ (s : Bytes) (x : PackageEntry) (there : PackageThere s x) where
   abbrev d : Aid
-  d = part s (x .from) (x .file)
+  d = aidAt s (x .at + 3)
 
   abbrev f : Bytes
   f = part s (x .file) (x .next)
 
-  entry-number : (n : ℕ) → ((es : List Entry) → Over s (x .at) es → n ≡ firstNo (fileAsks s es d f)) → EntrySays s (x .at) (entryOf s x) (eqb n 0)
+  entry-number : (n : ℕ) → NumberIs s x n → EntrySays s (x .at) (entryOf s x) (eqb n 0)
   entry-number n h es o =
       let known = there .known es o in
       ap (λ (k : ℕ). eqb k 0) (behind-5 s (x .at) d f es (known .0) (known .1) n (h es o))
 
-  pub entry-yes : (n : ℕ) → n ≡ 0 → ((es : List Entry) → Over s (x .at) es → n ≡ firstNo (fileAsks s es d f)) → EntrySays s (x .at) (entryOf s x) true
+  pub entry-yes : (n : ℕ) → n ≡ 0 → NumberIs s x n → EntrySays s (x .at) (entryOf s x) true
   entry-yes n z h = subst (EntrySays s (x .at) (entryOf s x)) (eq-eqb n 0 z) (entry-number n h)
 
-  pub entry-no : (n : ℕ) → (n ≡ 0 → ⊥) → ((es : List Entry) → Over s (x .at) es → n ≡ firstNo (fileAsks s es d f)) → EntrySays s (x .at) (entryOf s x) false
+  pub entry-no : (n : ℕ) → (n ≡ 0 → ⊥) → NumberIs s x n → EntrySays s (x .at) (entryOf s x) false
   entry-no n z h = subst (EntrySays s (x .at) (entryOf s x)) (ne-eqb n 0 z) (entry-number n h)
 
   -- a package that was asked up to 14 may be entered
@@ -201,7 +207,13 @@ module _ (s : Bytes) (end at : ℕ) (g : Going s end at) where
 
     -- its places
     abbrev places : PackageEntry
-    places = record { at = at; from = a; file = m; next = j }
+    places = record { at = at; file = m; next = j }
+
+    -- its domain stands behind kind and body length
+    package-named : StandFrom s 7 end → part s a m ≡ aidAt s (at + 3)
+    package-named t =
+        let r = g (t .0) (t .1) in
+        entry-domain s at (part s a m) (part s m j) j ((p (r .rest) (r .behind)) .2 .stands)
 
     -- the entry stands there
     pub package-there : DomainsYes s end → StandFrom s 7 end → PackageThere s places
@@ -213,21 +225,31 @@ module _ (s : Bytes) (end at : ℕ) (g : Going s end at) where
         let d : length (part s a m) ≡ m - a = part-length s a m (omega (arith, to, q .1)) in
         let f : length (part s m j) ≡ j - m = part-length s m j to in
         let l = length-append (part s a m) (part s m j) in
+        let named = package-named t in
+        let three = (package-domain y t (r .pre) (r .over)) .0 in
         record {
-          stands = q .2 .stands;
-          domain = q .0;
+          stands = subst (λ (z : Aid). EntryAt s at (loaded z (part s m j)) j) named (q .2 .stands);
+          domain = entry-there s at (part s a m) (part s m j) j (q .2 .stands) (of-true three);
           file = q .1;
           inside = omega (arith, n, l, d, f, q .0, q .1);
-          known = package-domain y t;
+          known = subst (λ (z : Aid). (pre : List Entry) → Over s at pre → (q3-lengths (z ∷ []) ≡ true) × (q5-created pre z ≡ true)) named
+              (package-domain y t);
         }
 
-    pub package-on : EntrySays s at (loaded (part s a m) (part s m j)) true → Going s end j
-    package-on y es t = let r = g es t in going-on s end at es r (loaded (part s a m) (part s m j)) j ((p (r .rest) (r .behind)) .2)
-        (sym (y (r .pre) (r .over)))
+    -- what is said of the entry by its places is said of it
+    package-says : StandFrom s 7 end → (r : Bool) → EntrySays s at (entryOf s places) r → EntrySays s at (loaded (part s a m) (part s m j)) r
+    package-says t r y = subst (λ (z : Aid). EntrySays s at (loaded z (part s m j)) r) (sym (package-named t)) y
 
-    pub package-bad : EntrySays s at (loaded (part s a m) (part s m j)) false → PackagesSay s end false
-    package-bad y es t = let r = g es t in sym (going-bad s end at es r (loaded (part s a m) (part s m j)) j ((p (r .rest) (r .behind)) .2)
-        (sym (y (r .pre) (r .over))))
+    pub package-on : EntrySays s at (entryOf s places) true → Going s end j
+    package-on y es t =
+        let r = g es t in
+        going-on s end at es r (loaded (part s a m) (part s m j)) j ((p (r .rest) (r .behind)) .2) (sym (package-says (es, t) true y (r .pre) (r .over)))
+
+    pub package-bad : EntrySays s at (entryOf s places) false → PackagesSay s end false
+    package-bad y es t =
+        let r = g es t in
+        sym (going-bad s end at es r (loaded (part s a m) (part s m j)) j ((p (r .rest) (r .behind)) .2)
+        (sym (package-says (es, t) false y (r .pre) (r .over))))
 
   pub all-done : PartAt s at end parts.AtEnd → PackagesSay s end true
   all-done p es t = let v = g es t in sym (going-done s end at es v ((p (v .rest) (v .behind)) .0))

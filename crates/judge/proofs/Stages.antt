@@ -6,7 +6,7 @@ use mathlib.Core.Bool.{Bool, true, false}
 use mathlib.Core.List.{List, [], _∷_}
 use mathlib.Core.Option.{some}
 use lib.ListN.{length}
-use Rattle.rules.specs.Bytes.{Bytes, Aid, pick}
+use Rattle.rules.specs.Bytes.{Bytes, Aid, pick, aid}
 use Rattle.rules.specs.Package.{Limits, standard, storeLimits, Package, readFile}
 use Rattle.rules.specs.Store.{Entry, loaded}
 use Rattle.rules.specs.Classes.{Installed, installed}
@@ -19,7 +19,8 @@ use Rattle.store.specs.Sound.{OverSome}
 use Rattle.store.proofs.Sound.{over-used}
 use Rattle.imports.specs.Say.{SettingThere}
 use Rattle.files.specs.Say.{Readable}
-use Rattle.homes.specs.Homes.{Setting, Imports, Parents}
+use Rattle.places.specs.Reads.{Ends}
+use Rattle.homes.specs.Homes.{Setting, Imports, Parents, aidAt, DomainAt}
 use Rattle.names.specs.Say.{NamesIs}
 use Rattle.file_codes.specs.Codes.{fileNumber, FileNumberIs}
 use Rattle.file_codes.proofs.Numbers as codes
@@ -49,9 +50,6 @@ module _ (s : Bytes) (end : ℕ) (d : Aid) (f : Bytes) where
   pub judged : Asked14Some s end d f → Judged f s end
   judged t = (t .0, selfOf (t .1), imports (t .0) (t .1) (t .2))
 
-  pub judged-there : Asked14Some s end d f → JudgedThere f s end
-  judged-there t = (t .0, selfOf (t .1), parents (t .0) (t .1) (t .2), t .2 .q14)
-
   -- the file reads
   pub read-some : Asked14Some s end d f → ReadSome s f
   read-some t = (t .1, t .2 .read .reads)
@@ -59,22 +57,34 @@ module _ (s : Bytes) (end : ℕ) (d : Aid) (f : Bytes) where
   pub readable : Asked14Some s end d f → Readable f
   readable t = (storeLimits s, t .1, t .2 .read .reads)
 
-  -- from 20 on
-  pub number-20 : RunningIs f s end false → NumberFrom 20 s end d f 20
-  unfolding packageQuestions
-  number-20 n es p a =
-      number-no 20 (q20-running (storeLimits s) (installed (storeLimits s) es) (selfOf p)) (from 21 (asks s es d f p))
-      (sym (n es (selfOf p) (parents es p a) (a .q14)))
+  -- 21
+  last : (b : Bool) (es : List Entry) → b ≡ q21-fits (length s) es (loaded d f) → pick b 0 21 ≡ firstNo ((21, q21-fits (length s) es (loaded d f)) ∷ [])
+  last true es q = rw (sym q)
+  last false es q = rw (sym q)
 
-  pub number-21 : (b : Bool) → RunningIs f s end true → Fits s end (loaded d f) b → NumberFrom 20 s end d f (pick b 0 21)
-  unfolding packageQuestions
-  number-21 b twenty n es p a =
-      number-yes 20 (q20-running (storeLimits s) (installed (storeLimits s) es) (selfOf p)) (from 21 (asks s es d f p)) (pick b 0 21)
-      (sym (twenty es (selfOf p) (parents es p a) (a .q14))) (last b (n es (over-used s end es (a .read .over))))
-    where
-      last : (b : Bool) → b ≡ q21-fits (length s) es (loaded d f) → pick b 0 21 ≡ firstNo ((21, q21-fits (length s) es (loaded d f)) ∷ [])
-      last true q = rw (sym q)
-      last false q = rw (sym q)
+  -- the number from 20 on, where 20 is answered yes and 21 as told
+  abbrev pub From20 : Bool → Type 0
+  From20 b = NumberFrom 20 s end d f (pick b 0 21)
+
+  -- from 20 on: the loading domain stands at place i
+  module _ (i : ℕ) (e : Ends aid s i) (z : d ≡ aidAt s i) where
+    loads : (p : Package) → DomainAt s i (selfOf p)
+    loads p = record { there = e; is = z }
+
+    pub judged-there : Asked14Some s end d f → JudgedThere f s end i
+    judged-there t = (t .0, selfOf (t .1), parents (t .0) (t .1) (t .2), t .2 .q14, loads (t .1))
+
+    pub number-20 : RunningIs f s end i false → NumberFrom 20 s end d f 20
+    unfolding packageQuestions
+    number-20 n es p a =
+        number-no 20 (q20-running (storeLimits s) (installed (storeLimits s) es) (selfOf p)) (from 21 (asks s es d f p))
+        (sym (n es (selfOf p) (parents es p a) (a .q14) (loads p)))
+
+    pub number-21 : (b : Bool) → RunningIs f s end i true → Fits s end (loaded d f) b → From20 b
+    unfolding packageQuestions
+    number-21 b twenty n es p a =
+        number-yes 20 (q20-running (storeLimits s) (installed (storeLimits s) es) (selfOf p)) (from 21 (asks s es d f p)) (pick b 0 21)
+        (sym (twenty es (selfOf p) (parents es p a) (a .q14) (loads p))) (last b es (n es (over-used s end es (a .read .over))))
 
   -- 18 and 19, which are asked together, and what follows them
   abbrev calls : List Entry → Package → List Question

@@ -16,14 +16,14 @@
 -- DomainsYes s end          == of every entry of those that end at a place
 -- PackageThere s x          == the entry of a package stands at places, and questions 3 and 5 of it are answered yes
 -- PackagesSay s end r       == whether all these entries are accepted
-use Prim.Native.Nat.{ℕ, _<_, _≤_}
+use Prim.Native.Nat.{ℕ, _+_, _<_, _≤_}
 use mathlib.Core.Path.{_≡_}
 use mathlib.Core.Bool.{Bool, true}
 use mathlib.Core.List.{List, [], _∷_, _++_}
 use mathlib.Core.Option.{some}
 use lib.Dec.{T, eqb}
 use lib.ListN.{length}
-use Rattle.rules.specs.Bytes.{Bytes, Aid, pick}
+use Rattle.rules.specs.Bytes.{Bytes, Aid, pick, aid}
 use Rattle.rules.specs.Package.{storeLimits, Package, readFile}
 use Rattle.rules.specs.Store.{Entry, domain, loaded, openingLength}
 use Rattle.rules.specs.Classes.{installed}
@@ -31,6 +31,8 @@ use Rattle.rules.specs.Operations.{Question, firstNo, packageQuestions, loadQue
 use Rattle.rules.specs.Questions.{q3-lengths, q4-new, q5-created, q10-marked, q12-new, q13-imports, q14-parents}
 use Rattle.store.specs.Entries.{part, EntryAt, Entries}
 use Rattle.store.specs.Sound.{Over}
+use Rattle.places.specs.Reads.{Ends}
+use Rattle.homes.specs.Homes.{aidAt}
 use Rattle.homes.specs.Found.{ImportHomes}
 use Rattle.depths.specs.Depths.{OwnDepths, DepthsFit}
 use Rattle.judge.specs.declared.LoadAnswer.{LoadAnswer}
@@ -139,16 +141,15 @@ EntrySays s at e r = (es : List Entry) → Over s at es → r ≡ accepted (stor
 
 -- the entry of a package by its places
 abbrev pub entryOf : Bytes → PackageEntry → Entry
-entryOf s x = loaded (part s (x .from) (x .file)) (part s (x .file) (x .next))
+entryOf s x = loaded (aidAt s (x .at + 3)) (part s (x .file) (x .next))
 
 -- it stands there, and questions 3 and 5 of it are answered yes
 pub record PackageThere (s : Bytes) (x : PackageEntry) : Type 0 where
   pub stands : EntryAt s (x .at) (entryOf s x) (x .next)
-  pub domain : x .from ≤ x .file
+  pub domain : Ends aid s (x .at + 3)
   pub file : x .file ≤ x .next
   pub inside : x .at < x .file
-  pub known : (pre : List Entry) → Over s (x .at) pre → (q3-lengths (part s (x .from) (x .file) ∷ []) ≡ true) ×
-      (q5-created pre (part s (x .from) (x .file)) ≡ true)
+  pub known : (pre : List Entry) → Over s (x .at) pre → (q3-lengths (aidAt s (x .at + 3) ∷ []) ≡ true) × (q5-created pre (aidAt s (x .at + 3)) ≡ true)
 
 -- whether each entry up to a place would have been accepted
 abbrev pub PackagesSay : Bytes → ℕ → Bool → Type 0

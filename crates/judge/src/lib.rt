@@ -9,6 +9,7 @@ ghost use mathlib.Core.Path.{_≡_};
 ghost use mathlib.Core.Bool.{true};
 ghost use Prim.Native.Nat.{_≤_};
 ghost use lib.ListN.{length};
+ghost use Rattle.rules.specs.Bytes.{aid};
 ghost use Rattle.rules.specs.Package.{mostClasses};
 ghost use Rattle.rules.specs.Questions.{q10-marked};
 ghost use Rattle.store.specs.Entries.{StandFrom};
@@ -18,6 +19,8 @@ ghost use Rattle.instructions.specs.Table.{TableIs};
 ghost use Rattle.file_codes.specs.Codes.{FileNumberIs};
 ghost use Rattle.calls.specs.Calls.{CodesSplit};
 ghost use Rattle.files.specs.Say.{Readable};
+ghost use Rattle.places.specs.Reads.{Ends};
+ghost use Rattle.homes.specs.Homes.{aidAt};
 ghost use Rattle.homes.specs.Found.{Indexed, ImportHomes};
 ghost use Rattle.depths.specs.Depths.{DepthsKept};
 ghost use Rattle.running.specs.Walk.{seenLength};
@@ -29,10 +32,9 @@ pub enum LoadAnswer {
     Accepted(usize),
 }
 
-// The entry of a package by its places: its start, the domain's first byte, the file's first byte, its end.
+// The entry of a package by its places: its start, the file's first byte, its end. The domain's AID stands three bytes behind its start.
 pub struct PackageEntry {
     pub at: usize,
-    pub from: usize,
     pub file: usize,
     pub next: usize,
 }
@@ -41,19 +43,19 @@ pub struct PackageEntry {
 fn running_number<'a>(
     s: &'a [u8],
     end: usize,
-    domain: &[u8],
+    domain: usize,
     file: &'a [u8],
     index: &[u16],
     seen: &mut [u8],
 ) -> u32
-    requires { ⌜ Asked14Some (now s) end (now domain) (now file) × Indexed (now s) end (now index) ⌝ }
+    requires { ⌜ Asked14Some (now s) end (aidAt (now s) domain) (now file) × Indexed (now s) end (now index) × Ends aid (now s) domain ⌝ }
     requires { ⌜ (length (now s) ≤ 65535) × (seenLength (now s) ≤ length (now seen)) ⌝ }
-    ensures { λ r. ⌜ NumberFrom 20 (now (s .entry)) end (now (domain .entry)) (now (file .entry)) r ⌝ }
+    ensures { λ r. ⌜ NumberFrom 20 (now (s .entry)) end (aidAt (now (s .entry)) domain) (now (file .entry)) r ⌝ }
 {
-    if !running::running_ok(file, s, end, index, seen) {
+    if !running::running_ok(file, s, end, domain, index, seen) {
         return 20;
     }
-    if !store::package_fits(s, end, domain, file) {
+    if !store::package_fits(s, end, files::aid_bytes(s, domain), file) {
         return 21;
     }
     0
@@ -63,13 +65,13 @@ fn running_number<'a>(
 fn calls_number<'a>(
     s: &'a [u8],
     end: usize,
-    domain: &[u8],
+    domain: usize,
     file: &'a [u8],
     homes: &[usize; 48],
 ) -> u32
-    requires { ⌜ Asked14Some (now s) end (now domain) (now file) × CodesSplit (now file) ⌝ }
+    requires { ⌜ Asked14Some (now s) end (aidAt (now s) domain) (now file) × CodesSplit (now file) × Ends aid (now s) domain ⌝ }
     requires { ⌜ ImportHomes (now file) (now s) end (now homes) ⌝ }
-    ensures { λ r. ⌜ NumberBefore 18 20 (now (s .entry)) end (now (domain .entry)) (now (file .entry)) r ⌝ }
+    ensures { λ r. ⌜ NumberBefore 18 20 (now (s .entry)) end (aidAt (now (s .entry)) domain) (now (file .entry)) r ⌝ }
 {
     let table = instructions::table();
     calls::calls_ok(file, s, end, domain, &table, homes) as u32
@@ -90,13 +92,13 @@ fn codes_number(s: &[u8], file: &[u8]) -> u8
 fn inside_number<'a>(
     s: &'a [u8],
     end: usize,
-    domain: &[u8],
+    domain: usize,
     file: &'a [u8],
     homes: &[usize; 48],
 ) -> u32
-    requires { ⌜ Asked14Some (now s) end (now domain) (now file) ⌝ }
+    requires { ⌜ Asked14Some (now s) end (aidAt (now s) domain) (now file) × Ends aid (now s) domain ⌝ }
     requires { ⌜ ImportHomes (now file) (now s) end (now homes) ⌝ }
-    ensures { λ r. ⌜ NumberBefore 15 20 (now (s .entry)) end (now (domain .entry)) (now (file .entry)) r ⌝ }
+    ensures { λ r. ⌜ NumberBefore 15 20 (now (s .entry)) end (aidAt (now (s .entry)) domain) (now (file .entry)) r ⌝ }
 {
     if !names::names_ok(file) {
         return 15;
@@ -171,16 +173,16 @@ fn parents_answer<'a>(
 fn inside_answer<'a>(
     s: &'a [u8],
     end: usize,
-    domain: &[u8],
+    domain: usize,
     file: &'a [u8],
     index: &[u16],
     depths: &[u8],
     own: &mut [u8],
 ) -> LoadAnswer
-    requires { ⌜ OverSome (now s) end ⌝ }
+    requires { ⌜ OverSome (now s) end × Ends aid (now s) domain ⌝ }
     requires { ⌜ Indexed (now s) end (now index) × DepthsKept (now s) end (now depths) × (length (now s) ≤ 65535) ⌝ }
     requires { ⌜ length (now own) ≡ mostClasses ⌝ }
-    ensures { λ r. ⌜ InsideAnswer (now (s .entry)) end (now (domain .entry)) (now (file .entry)) r ⌝ }
+    ensures { λ r. ⌜ InsideAnswer (now (s .entry)) end (aidAt (now (s .entry)) domain) (now (file .entry)) r ⌝ }
     ensures { λ r. ⌜ DepthsTold (now (s .entry)) end (now (file .entry)) (now (own .exit)) r ⌝ }
 {
     let mut homes = [0usize; 48];
@@ -200,16 +202,16 @@ fn inside_answer<'a>(
 fn file_answer<'a>(
     s: &'a [u8],
     end: usize,
-    domain: &[u8],
+    domain: usize,
     file: &'a [u8],
     index: &[u16],
     depths: &[u8],
     seen: &mut [u8],
 ) -> LoadAnswer
-    requires { ⌜ OverSome (now s) end ⌝ }
+    requires { ⌜ OverSome (now s) end × Ends aid (now s) domain ⌝ }
     requires { ⌜ Indexed (now s) end (now index) × DepthsKept (now s) end (now depths) ⌝ }
     requires { ⌜ (length (now s) ≤ 65535) × (seenLength (now s) ≤ length (now seen)) ⌝ }
-    ensures { λ r. ⌜ FileSays (now (s .entry)) end (now (domain .entry)) (now (file .entry)) r ⌝ }
+    ensures { λ r. ⌜ FileSays (now (s .entry)) end (aidAt (now (s .entry)) domain) (now (file .entry)) r ⌝ }
 {
     let mut own = [0u8; 32];
     match inside_answer(s, end, domain, file, index, depths, &mut own) {
@@ -224,7 +226,7 @@ fn file_answer<'a>(
     }
 }
 
-// Load: 3, 5, 10 to 21.
+// Load: 3, 5, 10 to 21. In a domain's entry the AID stands behind the low byte of its length, two bytes behind the entry's start.
 pub fn load_answer<'a>(
     s: &'a [u8],
     end: usize,
@@ -243,7 +245,7 @@ pub fn load_answer<'a>(
         return LoadAnswer::Refused(3);
     }
     match store::find_domain(s, end, domain) {
-        Spot::At(_, _) => file_answer(s, end, domain, file, index, depths, seen),
+        Spot::At(at, _) => file_answer(s, end, at + 2, file, index, depths, seen),
         Spot::Nothing => LoadAnswer::Refused(5),
     }
 }
@@ -264,23 +266,14 @@ fn package_sound(
     ensures { λ r. ⌜ (r ≡ true → IndexIs (now (s .entry)) (x .next) (now (index .exit)) × DepthsKept (now (s .entry)) (x .next) (now (depths .exit))) ⌝ }
 {
     let at = x.at;
-    let from = x.from;
     let file = x.file;
     let next = x.next;
     let mut own = [0u8; 32];
-    match inside_answer(
-        s,
-        at,
-        &s[from..file],
-        &s[file..next],
-        index,
-        depths,
-        &mut own,
-    ) {
+    match inside_answer(s, at, at + 3, &s[file..next], index, depths, &mut own) {
         LoadAnswer::Refused(_) => false,
         LoadAnswer::Accepted(_) => {
             depths::keep_depths(s, depths, &own, file, next);
-            if running_number(s, at, &s[from..file], &s[file..next], index, seen) != 0 {
+            if running_number(s, at, at + 3, &s[file..next], index, seen) != 0 {
                 return false;
             }
             index::enter_package(s, at, file, next, index);
@@ -310,10 +303,9 @@ pub fn packages_sound(
             EntryPart::Domain(_, next) => {
                 at = next;
             }
-            EntryPart::Package(from, file, next) => {
+            EntryPart::Package(_, file, next) => {
                 let x = PackageEntry {
                     at: at,
-                    from: from,
                     file: file,
                     next: next,
                 };

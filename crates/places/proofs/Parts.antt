@@ -9,15 +9,16 @@ use mathlib.Core.Option.{some, Option·some-injective}
 use mathlib.Core.Logic.{inl, inr}
 use lib.Dec.{T, leb, ltb, eqb, leb→le, ltb→lt, eqb→eq}
 use lib.ListN.{length, drop, getD, drop-of-length-le}
+use borrow.Author.Tests.{eq-eqb}
 use Rattle.rules.specs.Bytes.{Bytes, Aid, pick, within, aidLength, Reader, _>>=_, ret, when, u1, u2, span, many, aid, counted, atEnd, exactly}
 use Rattle.rules.specs.Code.{u2At}
-use Rattle.rules.specs.Package.{Limits, mostDomains, mostImports, mostReferences, mostClasses, mostMethods, mostAllowed, Policy, every, only, ClassNumber, Reference, Method, Class, Package, classNumber, reference, domainIndex, listed, policy, codeIf, bit, spareZero, methodOf, method, classOf, class, contents, sized, readFile}
+use Rattle.rules.specs.Package.{Limits, mostDomains, mostImports, mostReferences, mostClasses, mostMethods, mostAllowed, Item, listed, ownDomain, Policy, every, only, ClassNumber, Reference, Method, Class, Package, classNumber, reference, ownIndex, item, items, policy, codeIf, bit, spareZero, methodOf, method, classOf, class, contents, sized, readFile}
 use Rattle.rules.proofs.Tails.{packageOf, classesOf, referencesOf, importsOf, domainsOf}
 use Rattle.rules.proofs.Tests.{none-some, and-then-is, and-l, and-r, of-true}
 use Rattle.places.specs.Reads.{Reads}
-use Rattle.places.specs.Parts.{AidPart, ClassNumberPart, ReferencePart, IndexPart, PolicyPart, CodePart, MethodPart, ClassPart, FilePart}
+use Rattle.places.specs.Parts.{AidPart, ClassNumberPart, ReferencePart, itemAt, IsIndex, ItemPart, PolicyPart, CodePart, MethodPart, ClassPart, FilePart}
 use Rattle.places.proofs.Inverse.{reads-ret, reads-bind, reads-when, One, reads-u1, Two, reads-u2, Span, reads-span}
-use Rattle.places.proofs.Steady.{steady-u1, steady-many, steady-u2, steady-aid, steady-counted, steady-number, steady-reference, steady-index, steady-policy, steady-code, steady-method, steady-class}
+use Rattle.places.proofs.Steady.{steady-u1, steady-many, steady-u2, steady-aid, steady-counted, steady-number, steady-reference, steady-item, steady-policy, steady-code, steady-method, steady-class}
 
 -- from another place or with another value that are the same
 pub moved : {A : Type 0} {r : Reader A} {s : Bytes} {i i′ : ℕ} {a a′ : A} {j j′ : ℕ} → Reads r s i a j → i ≡ i′ → a ≡ a′ → j ≡ j′ → Reads r s i′ a′ j′
@@ -67,31 +68,45 @@ reference-part s i a j p =
       to = p .to;
     }
 
-pub index-part : (ds : List Aid) (s : Bytes) (i : ℕ) (a : Aid) (j : ℕ) → Reads (domainIndex ds) s i a j → IndexPart ds s i a j
-unfolding domainIndex
-index-part ds s i a j p =
-    let x = reads-bind u1 (λ i. when (ltb i (length ds)) (ret (getD ds i []))) steady-u1 s i a j p in
-    let y = reads-when (ltb (x .0) (length ds)) (ret (getD ds (x .0) [])) s (x .1) a j (x .3) in
-    let z = reads-ret (getD ds (x .0) []) s (x .1) a j (y .1) in
-    let u = reads-u1 s i (x .0) (x .1) (x .2) in
-    let b = u .byte in
-    record { inside = u .inside; below = rw b (ltb→lt (x .0) (length ds) (y .0)); stands = rw b (z .0); next = omega (arith, u .next, z .1) }
+-- FE, or an index below the domain count
+item-of : (ds : List Aid) (s : Bytes) (i : ℕ) (x : Item) (j n m : ℕ) → One s i n m → (b : Bool) → eqb n ownIndex ≡ b → Reads {A = Item}
+    (pick b (ret ownDomain) (when (ltb n (length ds)) (ret (listed (getD ds n []))))) s m x j → ItemPart ds s i x j
+item-of ds s i x j n m u true e r =
+    let z = reads-ret ownDomain s m x j r in
+    let own : n ≡ ownIndex = eqb→eq n ownIndex (of-true e) in
+    record { inside = u .inside; index = inl (u .byte ∙ own); stands = rw (u .byte, e) (z .0); next = omega (arith, u .next, z .1) }
+item-of ds s i x j n m u false e r =
+    let y = reads-when (ltb n (length ds)) (ret (listed (getD ds n []))) s m x j r in
+    let z = reads-ret (listed (getD ds n [])) s m x j (y .1) in
+    let other : n ≡ ownIndex → ⊥ = λ h. let w : true ≡ false = sym (eq-eqb n ownIndex h) ∙ e in let q : _≡_ {A = ℕ} 0 1 = cc in omega arith in
+    record {
+      inside = u .inside;
+      index = rw (u .byte) (inr (other, ltb→lt n (length ds) (y .0)));
+      stands = rw (u .byte, e) (z .0);
+      next = omega (arith, u .next, z .1);
+    }
+
+pub item-part : (ds : List Aid) (s : Bytes) (i : ℕ) (x : Item) (j : ℕ) → Reads (item ds) s i x j → ItemPart ds s i x j
+unfolding item
+item-part ds s i a j p =
+    let x = reads-bind u1 (λ i. pick (eqb i ownIndex) (ret ownDomain) (when (ltb i (length ds)) (ret (listed (getD ds i []))))) steady-u1 s i a j p in
+    item-of ds s i a j (x .0) (x .1) (reads-u1 s i (x .0) (x .1) (x .2)) (eqb (x .0) ownIndex) refl (x .3)
 
 -- FF, or a count
 policy-of : (ds : List Aid) (s : Bytes) (i : ℕ) (q : Policy) (j n m : ℕ) → One s i n m → (b : Bool) → eqb n 0xFF ≡ b → Reads {A = Policy}
-    (pick b (ret every) (listed ds n)) s m q j → PolicyPart ds s i q j
-unfolding listed
+    (pick b (ret every) (items ds n)) s m q j → PolicyPart ds s i q j
+unfolding items
 policy-of ds s i q j n m u true e r =
     let z = reads-ret every s m q j r in
     inl (record { inside = u .inside; mark = u .byte ∙ eqb→eq n 0xFF (of-true e); is = z .0; next = u .next ∙ z .1 })
 policy-of ds s i q j n m u false e r =
-    let y = reads-when (leb n mostAllowed) (many n (domainIndex ds) >>= λ aids. ret (only aids)) s m q j r in
-    let w = reads-bind (many n (domainIndex ds)) (λ aids. ret (only aids)) (steady-many n (domainIndex ds) (steady-index ds)) s m q j (y .1) in
+    let y = reads-when (leb n mostAllowed) (many n (item ds) >>= λ xs. ret (only xs)) s m q j r in
+    let w = reads-bind (many n (item ds)) (λ xs. ret (only xs)) (steady-many n (item ds) (steady-item ds)) s m q j (y .1) in
     let z = reads-ret (only (w .0)) s (w .1) q j (w .3) in
     inr (record {
       inside = u .inside;
       few = rw (u .byte) (leb→le n mostAllowed (y .0));
-      aids = w .0;
+      listed = w .0;
       list = rw (u .byte)
           (moved (w .2) (sym (u .next)) refl (z .1));
       is = z .0;
@@ -100,7 +115,7 @@ policy-of ds s i q j n m u false e r =
 pub policy-part : (ds : List Aid) (s : Bytes) (i : ℕ) (q : Policy) (j : ℕ) → Reads (policy ds) s i q j → PolicyPart ds s i q j
 unfolding policy
 policy-part ds s i q j p =
-    let x = reads-bind u1 (λ n. pick (eqb n 0xFF) (ret every) (listed ds n)) steady-u1 s i q j p in
+    let x = reads-bind u1 (λ n. pick (eqb n 0xFF) (ret every) (items ds n)) steady-u1 s i q j p in
     policy-of ds s i q j (x .0) (x .1) (reads-u1 s i (x .0) (x .1) (x .2)) (eqb (x .0) 0xFF) refl (x .3)
 
 -- codes

@@ -11,7 +11,7 @@ use lib.ListN.{length, take, drop, getD, length-drop, drop-of-length-le}
 use lib.Seq.{drop-drop, drop-cons}
 use Rattle.rules.specs.Bytes.{Bytes, Aid, pick, all, _andThen_, within, aidLength, Reader, _>>=_, ret, when, u1, u2, span, many, aid, counted}
 use Rattle.rules.specs.Code.{u2At}
-use Rattle.rules.specs.Package.{Limits, mostAllowed, mostMethods, every, only, ClassNumber, Method, classNumber, reference, domainIndex, listed, policy, codeIf, bit, spareZero, methodOf, method, classOf, class}
+use Rattle.rules.specs.Package.{Limits, mostAllowed, mostMethods, listed, ownDomain, every, only, ClassNumber, Method, classNumber, reference, ownIndex, item, items, policy, codeIf, bit, spareZero, methodOf, method, classOf, class}
 use Rattle.rules.proofs.Tests.{none-some, and-then-is}
 use Rattle.rules.proofs.Lists.{andThen-cong, pick-some}
 
@@ -141,19 +141,20 @@ pub steady-reference : Steady reference
 unfolding reference
 steady-reference = steady-bind classNumber _ steady-number (λ p. steady-bind u2 _ steady-u2 (λ n. steady-ret _))
 
-pub steady-index : (ds : List Aid) → Steady (domainIndex ds)
-unfolding domainIndex
-steady-index ds = steady-bind u1 _ steady-u1 (λ i. steady-when (ltb i (length ds)) (ret (getD ds i [])) (steady-ret _))
+pub steady-item : (ds : List Aid) → Steady (item ds)
+unfolding item
+steady-item ds = steady-bind u1 _ steady-u1 (λ i. steady-pick (eqb i ownIndex) (ret ownDomain) (when (ltb i (length ds)) (ret (listed (getD ds i []))))
+    (steady-ret _) (steady-when (ltb i (length ds)) (ret (listed (getD ds i []))) (steady-ret _)))
 
-steady-listed : (ds : List Aid) (n : ℕ) → Steady (listed ds n)
-unfolding listed
-steady-listed ds n = steady-when (leb n mostAllowed) (many n (domainIndex ds) >>= λ aids. ret (only aids))
-    (steady-bind (many n (domainIndex ds)) _ (steady-many n (domainIndex ds) (steady-index ds)) (λ aids. steady-ret _))
+steady-items : (ds : List Aid) (n : ℕ) → Steady (items ds n)
+unfolding items
+steady-items ds n = steady-when (leb n mostAllowed) (many n (item ds) >>= λ xs. ret (only xs))
+    (steady-bind (many n (item ds)) _ (steady-many n (item ds) (steady-item ds)) (λ xs. steady-ret _))
 
 pub steady-policy : (ds : List Aid) → Steady (policy ds)
 unfolding policy
-steady-policy ds = steady-bind u1 (λ n. pick (eqb n 0xFF) (ret every) (listed ds n)) steady-u1
-    (λ n. steady-pick (eqb n 0xFF) (ret every) (listed ds n) (steady-ret every) (steady-listed ds n))
+steady-policy ds = steady-bind u1 (λ n. pick (eqb n 0xFF) (ret every) (items ds n)) steady-u1
+    (λ n. steady-pick (eqb n 0xFF) (ret every) (items ds n) (steady-ret every) (steady-items ds n))
 
 pub steady-code : (l : Limits) (b : Bool) → Steady (codeIf l b)
 unfolding codeIf

@@ -1,7 +1,8 @@
 -- The parts of a package file at their places: each reader taken apart into bytes and smaller readers. Assumes nothing.
 --
--- AidPart, ClassNumberPart, ReferencePart, IndexPart == the small formats from place i up to place j, by their bytes
--- PolicyPart          == FF alone, or a count and that many indexes
+-- AidPart, ClassNumberPart, ReferencePart, ItemPart == the small formats from place i up to place j, by their bytes
+-- itemAt ds i         == the item that index i stands for; IsIndex ds i == it is FE, or below the domain count
+-- PolicyPart          == FF alone, or a count and that many items
 -- CodePart            == a code length and the code
 -- MethodPart, ClassPart == a method or a class, with the places where its lists stand
 -- FilePart l f p      == a file and the package that it reads as, with the places where the package's lists stand
@@ -11,9 +12,9 @@ use mathlib.Core.List.{List, []}
 use mathlib.Core.Logic.{_⊎_}
 use lib.Dec.{eqb}
 use lib.ListN.{length, take, drop, getD}
-use Rattle.rules.specs.Bytes.{Bytes, Aid, leastAid, mostAid, u1, u2, many, aid, counted}
+use Rattle.rules.specs.Bytes.{Bytes, Aid, pick, leastAid, mostAid, u1, u2, many, aid, counted}
 use Rattle.rules.specs.Code.{u2At}
-use Rattle.rules.specs.Package.{Limits, mostDomains, mostImports, mostReferences, mostClasses, mostMethods, mostAllowed, Policy, every, only, ClassNumber, Reference, Method, Class, Package, classNumber, reference, domainIndex, policy, codeIf, bit, method, class}
+use Rattle.rules.specs.Package.{Limits, mostDomains, mostImports, mostReferences, mostClasses, mostMethods, mostAllowed, Item, listed, ownDomain, Policy, every, only, ClassNumber, Reference, Method, Class, Package, classNumber, reference, ownIndex, item, policy, codeIf, bit, method, class}
 use Rattle.places.specs.Reads.{Reads}
 
 -- an AID with its length
@@ -39,11 +40,19 @@ pub record ReferencePart (s : Bytes) (i : ℕ) (x : Reference) (j : ℕ) : Type 
   pub next : i + 4 ≡ j
   pub to : j ≤ length s
 
--- an index below the domain count
-pub record IndexPart (ds : List Aid) (s : Bytes) (i : ℕ) (a : Aid) (j : ℕ) : Type 0 where
+-- what an index stands for
+abbrev pub itemAt : List Aid → ℕ → Item
+itemAt ds i = pick (eqb i ownIndex) ownDomain (listed (getD ds i []))
+
+-- FE, or below the domain count
+abbrev pub IsIndex : List Aid → ℕ → Type 0
+IsIndex ds i = (i ≡ ownIndex) ⊎ ((i ≡ ownIndex → ⊥) × (i < length ds))
+
+-- an index of a list
+pub record ItemPart (ds : List Aid) (s : Bytes) (i : ℕ) (x : Item) (j : ℕ) : Type 0 where
   pub inside : i < length s
-  pub below : getD s i 0 < length ds
-  pub stands : getD ds (getD s i 0) [] ≡ a
+  pub index : IsIndex ds (getD s i 0)
+  pub stands : itemAt ds (getD s i 0) ≡ x
   pub next : i + 1 ≡ j
 
 -- FF alone
@@ -53,13 +62,13 @@ pub record EveryPart (s : Bytes) (i : ℕ) (p : Policy) (j : ℕ) : Type 0 where
   pub is : every ≡ p
   pub next : i + 1 ≡ j
 
--- a count and that many indexes
+-- a count and that many items
 pub record OnlyPart (ds : List Aid) (s : Bytes) (i : ℕ) (p : Policy) (j : ℕ) : Type 0 where
   pub inside : i < length s
   pub few : getD s i 0 ≤ mostAllowed
-  pub aids : List Aid
-  pub list : Reads (many (getD s i 0) (domainIndex ds)) s (i + 1) aids j
-  pub is : only aids ≡ p
+  pub listed : List Item
+  pub list : Reads (many (getD s i 0) (item ds)) s (i + 1) listed j
+  pub is : only listed ≡ p
 
 abbrev pub PolicyPart : List Aid → Bytes → ℕ → Policy → ℕ → Type 0
 PolicyPart ds s i p j = EveryPart s i p j ⊎ OnlyPart ds s i p j

@@ -1,4 +1,5 @@
 -- The laws about policies at places.
+pub mod Slots
 pub mod Indexes
 pub mod Numbers
 pub mod Compared
@@ -7,8 +8,3 @@ pub mod Listed
 pub mod Masks
 pub mod Gathered
 pub mod Kept
-pub mod Pairs
-pub mod Sure
-pub mod Looked
-pub mod Covered
-pub mod Alike

@@ -1,27 +1,29 @@
--- The loop over the indexes of a policy, and what it says of `admitsAllOf`; the AID with a number. Assumes nothing.
+-- The loop over the indexes of a policy, and what it says of `admitsAllOf`; the AID that a slot stands for. Assumes nothing.
 use Prim.Native.Nat.{ℕ, zero, suc, _+_, _-_, _≤_, _<_}
 use native.Mathlib.Omega.{arith}
 use mathlib.Core.Path.{_≡_, refl, sym, _∙_, ap, subst}
-use mathlib.Core.Bool.{Bool, true, false}
-use mathlib.Core.List.{List, [], _∷_}
+use mathlib.Core.Bool.{Bool, true, false, _&&_}
+use mathlib.Core.List.{List, [], _∷_, map}
 use mathlib.Core.Option.{none, some, Option·some-injective}
 use mathlib.Core.Logic.{inl, inr}
 use lib.ListN.{length, getD}
 use Rattle.rules.specs.Bytes.{Bytes, Aid, all, at, u1, many, aid, counted}
-use Rattle.rules.specs.Package.{mostDomains, Policy, every, only, domainIndex, policy}
-use Rattle.rules.specs.Classes.{admits, admitsAllOf}
+use Rattle.rules.specs.Package.{mostDomains, Item, Policy, every, only, item, policy}
+use Rattle.rules.specs.Classes.{Rights, itemMeans, meant, admits, admitsAllOf}
 use Rattle.rules.proofs.Tests.{none-some}
 use Rattle.places.specs.Reads.{Reads, Ends, Tracks}
 use Rattle.places.specs.Parts.{OnlyPart}
-use Rattle.places.proofs.Steady.{steady-index}
-use Rattle.places.proofs.Parts.{index-part, policy-part}
+use Rattle.places.proofs.Steady.{steady-item}
+use Rattle.places.proofs.Parts.{item-part, policy-part}
 use Rattle.places.proofs.Track.{placed-at, placed-none, track-front}
 use Rattle.places.proofs.Search.{Tests, each-hit, each-miss, each-none}
 use Rattle.files.specs.Say.{Aids, AidBytes, AidNth}
 use Rattle.files.specs.declared.Spot.{Spot}
 use Rattle.files.specs.declared.Spot.the-variants.{At, Nothing}
 use Rattle.files.proofs.Steps as steps
-use Rattle.policies.specs.Say.{IndexesThere, PolicyOver, OfPolicy, Admits, HasAid, AdmitsNth, AdmitsAllOf}
+use Rattle.policies.specs.Say.{ownSlot, slotOf, slotAid, IsSlot, IndexesThere, PolicyOver, OfPolicy, Admits, HasSlot, SlotIs, AdmitsAllOf}
+use Rattle.policies.proofs.Slots.{aid-own, aid-domain, slot-below, index-slot, index-means}
+use Rattle.policies.proofs.Numbers.{domains-length}
 
 -- a policy that is FF, and one that is not
 pub every-is : (ds : List Aid) (s : Bytes) (i : ℕ) (q : Policy) (e : ℕ) → Reads (policy ds) s i q e → getD s i 0 ≡ 255 → every ≡ q
@@ -40,7 +42,7 @@ module _ {s : Bytes} {d i : ℕ} (e : PolicyOver s d i) where
   pub over-indexes : (getD s i 0 ≡ 255 → ⊥) → IndexesThere s i
   over-indexes h = steps.policy-to h (e .0, e .3)
 
-pub has-aids : {s : Bytes} {d k : ℕ} → HasAid s d k → Aids s d
+pub has-aids : {s : Bytes} {d k : ℕ} → HasSlot s d k → Aids s d
 has-aids e = (mostDomains, (e .0, e .1, e .2))
 
 -- the AID with a number
@@ -60,7 +62,7 @@ module _ {t : Bytes} {u : ℕ} (k : ℕ) {r : Spot} (h : AidNth t u k r) where
       let g : AidNth t u k (At a) = subst (λ (z : Spot). AidNth t u k z) q h in
       let z = placed-at (g mostDomains ds j p) in (z .1, rw (at-get ds k (z .0) [] (z .2)) (z .3))
 
-  pub nth-there : {a : ℕ} → r ≡ At a → HasAid t u k → Ends aid t a
+  pub nth-there : {a : ℕ} → r ≡ At a → HasSlot t u k → Ends aid t a
   nth-there q e = let z = nth-is q (e .0) (e .1) (e .2) in (getD (e .0) k [], z .0, z .1)
 
   pub nth-none : r ≡ Nothing → (ds : List Aid) (j : ℕ) → Reads (counted mostDomains u1 aid) t u ds j → k < length ds → ⊥
@@ -68,73 +70,96 @@ module _ {t : Bytes} {u : ℕ} (k : ℕ) {r : Spot} (h : AidNth t u k r) where
       let g : AidNth t u k Nothing = subst (λ (z : Spot). AidNth t u k z) q h in
       at-in ds k l (placed-none (g mostDomains ds j p))
 
-  pub nth-missing : {s : Bytes} {d i : ℕ} → r ≡ Nothing → AdmitsNth s d i t u k false
-  nth-missing q ds j p l = absurd (nth-none q ds j p l)
+  -- what a slot that is not that of FE stands for
+  pub slot-nth : (g : Aid) → (k ≡ ownSlot → ⊥) → {a : ℕ} {x : Bytes} → r ≡ At a → AidBytes t a x → SlotIs t u g k x
+  slot-nth g n q m ds j p l =
+      let z = nth-is q ds j p in
+      m (getD ds k []) (z .0) (z .1) ∙ sym (aid-domain ds g k ((slot-below ds k l n) .0))
 
-  -- the answer for the AID's bytes is the answer for the AID
-  pub nth-admits : {s : Bytes} {d i a : ℕ} {x : Bytes} {b : Bool} → r ≡ At a → AidBytes t a x → Admits s d i x b → AdmitsNth s d i t u k b
-  nth-admits q n g es m p l ds j rd o f ro = let z = nth-is q es m p in g ds j rd o f ro ∙ ap (admits o) (n (getD es k []) (z .0) (z .1))
+  pub slot-missing : (g x : Aid) → (k ≡ ownSlot → ⊥) → r ≡ Nothing → SlotIs t u g k x
+  slot-missing g x n q ds j p l = absurd (nth-none q ds j p ((slot-below ds k l n) .1))
 
--- the loop over the indexes of the policy at v: those left are still to be read at c
-abbrev pub IndexLoop : Bytes → ℕ → ℕ → Bytes → ℕ → ℕ → ℕ → ℕ → Type 0
-IndexLoop s d i t u v left c = OfPolicy s d i λ p. (es : List Aid) (j : ℕ) → Reads (counted mostDomains u1 aid) t u es j →
-    Tracks (domainIndex es) t (many (getD t v 0) (domainIndex es)) (v + 1) (all (admits p)) (all (admits p)) left c
+-- what the slot of FE stands for
+pub slot-own-is : {t : Bytes} {u : ℕ} (g : Aid) (k : ℕ) → k ≡ ownSlot → SlotIs t u g k g
+slot-own-is g k q ds j p l = sym (aid-own ds g k q)
 
-pub indexes-start : {s : Bytes} {d i : ℕ} {t : Bytes} {u : ℕ} (v : ℕ) {n : ℕ} → n ≡ getD t v 0 → IndexLoop s d i t u v n (v + 1)
-indexes-start v h ds j rd p e rp es k re xs m q = (xs, rw h q, refl)
+-- what an item of a file of domain g means is allowed
+abbrev pub itemAllowed : Rights → Aid → Item → Bool
+itemAllowed r g x = admits r (itemMeans g x)
 
-pub all-every : {s : Bytes} {d i : ℕ} {t : Bytes} {u v : ℕ} → getD s i 0 ≡ 255 → AdmitsAllOf s d i t u v true
-all-every {s} {d} {i} h ds j rd p e rp es k re o n ro = rw (← every-is ds s i p e rp h)
+-- the loop over the indexes of the policy at v, of a file of domain g: those left are still to be read at c
+abbrev pub IndexLoop : Bytes → ℕ → Aid → ℕ → Bytes → ℕ → Aid → ℕ → ℕ → ℕ → Type 0
+IndexLoop s d e i t u g v left c = OfPolicy s d i λ p. (es : List Aid) (j : ℕ) → Reads (counted mostDomains u1 aid) t u es j →
+    Tracks (item es) t (many (getD t v 0) (item es)) (v + 1) (all (itemAllowed (meant e p) g)) (all (itemAllowed (meant e p) g)) left c
+
+pub indexes-start : {s : Bytes} {d : ℕ} (e : Aid) {i : ℕ} {t : Bytes} {u : ℕ} (g : Aid) (v : ℕ) {n : ℕ} → n ≡ getD t v 0 →
+    IndexLoop s d e i t u g v n (v + 1)
+indexes-start e g v h ds j rd p f rp es k re xs m q = (xs, rw h q, refl)
+
+pub all-every : {s : Bytes} {d : ℕ} (e : Aid) {i : ℕ} {t : Bytes} {u : ℕ} (g : Aid) {v : ℕ} → getD s i 0 ≡ 255 → AdmitsAllOf s d e i t u g v true
+all-every {s} {d} e {i} g h ds j rd p f rp es k re o n ro = rw (← every-is ds s i p f rp h)
 
 -- only FF allows all that FF does
-pub all-within : {s : Bytes} {d i : ℕ} {t : Bytes} {u v : ℕ} → (getD s i 0 ≡ 255 → ⊥) → getD t v 0 ≡ 255 → AdmitsAllOf s d i t u v false
-all-within {s} {d} {i} {t} {u} {v} n h ds j rd p e rp es k re o m ro = let x = only-list ds s i p e rp n in rw (← x .is, ← every-is es t v o m ro h)
+pub all-within : {s : Bytes} {d : ℕ} (e : Aid) {i : ℕ} {t : Bytes} {u : ℕ} (g : Aid) {v : ℕ} → (getD s i 0 ≡ 255 → ⊥) → getD t v 0 ≡ 255 →
+    AdmitsAllOf s d e i t u g v false
+all-within {s} {d} e {i} {t} {u} g {v} n h ds j rd p f rp es k re o m ro =
+    let x = only-list ds s i p f rp n in rw (← x .is, ← every-is es t v o m ro h)
 
--- what is told of the AID with that number is told of the one read there
-index-tests : (s : Bytes) (d i : ℕ) (t : Bytes) (u c : ℕ) (b : Bool) → AdmitsNth s d i t u (getD t c 0) b →
-    OfPolicy s d i λ p. (es : List Aid) (j : ℕ) → Reads (counted mostDomains u1 aid) t u es j → Tests (domainIndex es) t c (admits p) b
-index-tests s d i t u c b h ds j rd p e rp es k re a m q =
-    let x = index-part es t c a m q in
-    sym (h es k re (x .below) ds j rd p e rp ∙ ap (admits p) (x .stands))
+-- what is told of what the slot of an index stands for is told of the item read there
+index-tests : (s : Bytes) (d : ℕ) (e : Aid) (i : ℕ) (t : Bytes) (u : ℕ) (g : Aid) (c : ℕ) (y : Aid) (b : Bool) → SlotIs t u g (slotOf (getD t c 0)) y →
+    Admits s d e i y b → OfPolicy s d i λ p. (es : List Aid) (j : ℕ) → Reads (counted mostDomains u1 aid) t u es j → Tests (item es) t c (itemAllowed (meant e p) g) b
+index-tests s d e i t u g c y b h w ds j rd p f rp es k re a m q =
+    let x = item-part es t c a m q in
+    let few = domains-length es k re in
+    let means : slotAid es g (slotOf (getD t c 0)) ≡ itemMeans g a =
+    sym (index-means es few (getD t c 0) (x .index) g) ∙ ap (itemMeans g) (x .stands) in
+    sym (w ds j rd p f rp ∙ ap (admits (meant e p)) (h es k re (index-slot es few (getD t c 0) (x .index)) ∙ means))
+
+-- a test of what items mean
+all-map : {A B : Type 0} (q : B → Bool) (h : A → B) (xs : List A) → all q (map h xs) ≡ all (λ x. q (h x)) xs
+all-map q h [] = refl
+all-map q h (x ∷ xs) = ap (_&&_ (q (h x))) (all-map q h xs)
 
 -- two policies that are not FF
-all-only : (p o : Policy) (ds es : List Aid) → only ds ≡ p → only es ≡ o → admitsAllOf p o ≡ all (admits p) es
-all-only p o ds es e f = rw (← e, ← f)
+all-only : (e g : Aid) (p o : Policy) (xs ys : List Item) → only xs ≡ p → only ys ≡ o → admitsAllOf (meant e p) (meant g o) ≡ all (itemAllowed (meant e p) g) ys
+all-only e g p o xs ys h f = rw (← h, ← f) (all-map (admits (meant e (only xs))) (itemMeans g) ys)
 
-all-is : (s : Bytes) (d i : ℕ) (t : Bytes) (u v : ℕ) → (getD s i 0 ≡ 255 → ⊥) → (getD t v 0 ≡ 255 → ⊥) → (b : Bool) →
-    (OfPolicy s d i λ p. (es : List Aid) (j : ℕ) → Reads (counted mostDomains u1 aid) t u es j → (xs : List Aid) (m : ℕ) →
-    Reads (many (getD t v 0) (domainIndex es)) t (v + 1) xs m → all (admits p) xs ≡ b) →
-    AdmitsAllOf s d i t u v b
-all-is s d i t u v n f b h ds j rd p e rp es k re o m ro =
-    let x = only-list ds s i p e rp n in
+all-is : (s : Bytes) (d : ℕ) (e : Aid) (i : ℕ) (t : Bytes) (u : ℕ) (g : Aid) (v : ℕ) → (getD s i 0 ≡ 255 → ⊥) → (getD t v 0 ≡ 255 → ⊥) → (b : Bool) →
+    (OfPolicy s d i λ p. (es : List Aid) (j : ℕ) → Reads (counted mostDomains u1 aid) t u es j → (xs : List Item) (m : ℕ) →
+    Reads (many (getD t v 0) (item es)) t (v + 1) xs m → all (itemAllowed (meant e p) g) xs ≡ b) →
+    AdmitsAllOf s d e i t u g v b
+all-is s d e i t u g v n f b h ds j rd p q rp es k re o m ro =
+    let x = only-list ds s i p q rp n in
     let y = only-list es t v o m ro f in
-    let r : all (admits p) (y .aids) ≡ b = h ds j rd p e rp es k re (y .aids) m (y .list) in
-    sym (all-only p o (x .aids) (y .aids) (x .is) (y .is) ∙ r)
+    let r : all (itemAllowed (meant e p) g) (y .listed) ≡ b = h ds j rd p q rp es k re (y .listed) m (y .list) in
+    sym (all-only e g p o (x .listed) (y .listed) (x .is) (y .is) ∙ r)
 
-module _ {s : Bytes} {d i : ℕ} {t : Bytes} {u : ℕ} (v : ℕ) {left c : ℕ} (w : IndexLoop s d i t u v left c) (f : getD t v 0 ≡ 255 → ⊥) where
-  -- the index at hand
-  pub index-here : 0 < left → PolicyOver s d i → PolicyOver t u v → (c < length t) × HasAid t u (getD t c 0)
+module _ {s : Bytes} {d : ℕ} (e : Aid) {i : ℕ} {t : Bytes} {u : ℕ} (g : Aid) (v : ℕ) {left c : ℕ} (w : IndexLoop s d e i t u g v left c)
+    (f : getD t v 0 ≡ 255 → ⊥) where
+  -- the slot of the index at hand
+  pub index-here : 0 < left → PolicyOver s d i → PolicyOver t u v → (c < length t) × HasSlot t u (slotOf (getD t c 0))
   index-here h a b =
       let es = b .0 in
-      let p = a .3 .0 in
+      let test = itemAllowed (meant e (a .3 .0)) g in
       let o = only-list es t v (b .3 .0) (b .3 .1) (b .3 .2) f in
       let z =
-      track-front (domainIndex es) (steady-index es) t (many (getD t v 0) (domainIndex es)) (v + 1) (all (admits p)) (all (admits p)) left c
-      (w (a .0) (a .1) (a .2) p (a .3 .1) (a .3 .2) es (b .1) (b .2)) h (o .aids) (b .3 .1) (o .list)
+      track-front (item es) (steady-item es) t (many (getD t v 0) (item es)) (v + 1) (all test) (all test) left c
+      (w (a .0) (a .1) (a .2) (a .3 .0) (a .3 .1) (a .3 .2) es (b .1) (b .2)) h (o .listed) (b .3 .1) (o .list)
       in
-      let k = index-part es t c (z .one) (z .place) (z .reads) in
-      (k .inside, (es, b .1, b .2, k .below))
+      let k = item-part es t c (z .one) (z .place) (z .reads) in
+      (k .inside, (es, b .1, b .2, index-slot es (domains-length es (b .1) (b .2)) (getD t c 0) (k .index)))
 
-  pub all-hit : (getD s i 0 ≡ 255 → ⊥) → 0 < left → AdmitsNth s d i t u (getD t c 0) false → AdmitsAllOf s d i t u v false
-  all-hit n h q = all-is s d i t u v n f false λ ds j rd p e rp es k re xs m r.
-      each-hit (domainIndex es) (steady-index es) t (many (getD t v 0) (domainIndex es)) (v + 1) left c (admits p) (w ds j rd p e rp es k re) h
-      (index-tests s d i t u c false q ds j rd p e rp es k re) xs m r
+  pub all-hit : (getD s i 0 ≡ 255 → ⊥) → 0 < left → (y : Aid) → SlotIs t u g (slotOf (getD t c 0)) y → Admits s d e i y false →
+      AdmitsAllOf s d e i t u g v false
+  all-hit n h y z q = all-is s d e i t u g v n f false λ ds j rd p m rp es k re xs o r.
+      each-hit (item es) (steady-item es) t (many (getD t v 0) (item es)) (v + 1) left c (itemAllowed (meant e p) g) (w ds j rd p m rp es k re) h
+      (index-tests s d e i t u g c y false z q ds j rd p m rp es k re) xs o r
 
-  pub all-miss : 0 < left → AdmitsNth s d i t u (getD t c 0) true → IndexLoop s d i t u v (left - 1) (c + 1)
-  all-miss h q ds j rd p e rp es k re =
-      each-miss (domainIndex es) (steady-index es) t (many (getD t v 0) (domainIndex es)) (v + 1) left c (admits p) (w ds j rd p e rp es k re) (c + 1) h
-      (index-tests s d i t u c true q ds j rd p e rp es k re) (λ a m x. (index-part es t c a m x) .next)
+  pub all-miss : 0 < left → (y : Aid) → SlotIs t u g (slotOf (getD t c 0)) y → Admits s d e i y true → IndexLoop s d e i t u g v (left - 1) (c + 1)
+  all-miss h y z q ds j rd p m rp es k re =
+      each-miss (item es) (steady-item es) t (many (getD t v 0) (item es)) (v + 1) left c (itemAllowed (meant e p) g) (w ds j rd p m rp es k re) (c + 1) h
+      (index-tests s d e i t u g c y true z q ds j rd p m rp es k re) (λ a o x. (item-part es t c a o x) .next)
 
-  pub all-none : (getD s i 0 ≡ 255 → ⊥) → left ≤ 0 → AdmitsAllOf s d i t u v true
-  all-none n h = all-is s d i t u v n f true λ ds j rd p e rp es k re xs m r.
-      each-none (domainIndex es) (steady-index es) t (many (getD t v 0) (domainIndex es)) (v + 1) left c (admits p) (w ds j rd p e rp es k re) h xs m r
+  pub all-none : (getD s i 0 ≡ 255 → ⊥) → left ≤ 0 → AdmitsAllOf s d e i t u g v true
+  all-none n h = all-is s d e i t u g v n f true λ ds j rd p m rp es k re xs o r.
+      each-none (item es) (steady-item es) t (many (getD t v 0) (item es)) (v + 1) left c (itemAllowed (meant e p) g) (w ds j rd p m rp es k re) h xs o r

@@ -2,5 +2,3 @@
 pub mod Say
 pub mod Numbers
 pub mod Rows
-pub mod Covers
-pub mod Order

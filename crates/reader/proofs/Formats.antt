@@ -1,14 +1,15 @@
 -- Policies, codes, methods and classes at places: what is told of the parts is told of the whole. Assumes nothing.
 use Prim.Native.Nat.{ℕ, _≤_, _<_}
+use native.Mathlib.Omega.{arith}
 use mathlib.Core.Path.{_≡_, refl}
-use mathlib.Core.Bool.{true, false}
+use mathlib.Core.Bool.{Bool, true, false, _||_}
 use mathlib.Core.List.{List, []}
 use mathlib.Core.Option.{none, some}
 use lib.Dec.{leb, ltb, eqb}
 use lib.ListN.{length, getD, replicate, length-replicate}
-use borrow.Author.Tests.{le-leb, lt-leb, lt-ltb, le-ltb, eq-eqb, ne-eqb}
+use borrow.Author.Tests.{le-leb, lt-leb, eq-eqb, ne-eqb}
 use Rattle.rules.specs.Bytes.{Bytes, Aid, pick, within, Reader, _>>=_, ret, when, u1, u2, span, many, counted}
-use Rattle.rules.specs.Package.{Limits, Policy, every, only, ClassNumber, Method, Class, mostMethods, mostAllowed, classNumber, reference, domainIndex, listed, policy, codeIf, bit, spareZero, methodOf, method, classOf, class}
+use Rattle.rules.specs.Package.{Limits, Item, listed, ownDomain, Policy, every, only, ClassNumber, Method, Class, mostMethods, mostAllowed, classNumber, reference, ownIndex, item, items, policy, codeIf, bit, spareZero, methodOf, method, classOf, class}
 use Rattle.cursor.specs.Says.{Says, Stops, stops, itself}
 use Rattle.cursor.proofs.Steps.{Leads, said-inside, stopped-inside, stop-none, then-none, then-leads, then-any, made-leads, when-leads, when-none}
 use Rattle.cursor.proofs.Widths.{Wide, wide-u1, wide-u2, wide-made, wide-then}
@@ -23,31 +24,39 @@ unfolding reference
 wide-reference s = wide-then (λ c. u2 >>= λ n. ret (record { class = c; name = n })) (wide-number s)
     (λ c. wide-made (λ n. record { class = c; name = n }) (wide-u2 s))
 
--- an index below the domain count
+-- FE, or an index below the domain count
 module _ (ds : List Aid) where
-  -- the AID that an index stands for
-  abbrev chosen : ℕ → Reader Aid
-  chosen n = when (ltb n (length ds)) (ret (getD ds n []))
+  -- the item that an index stands for
+  abbrev chosen : ℕ → Reader Item
+  chosen n = pick (eqb n ownIndex) (ret ownDomain) (when (ltb n (length ds)) (ret (listed (getD ds n []))))
 
   module _ {s : Bytes} {i : ℕ} where
-    pub index-none : Says itself u1 s i none → Stops (domainIndex ds) s i none
-    unfolding domainIndex
-    index-none h = then-none chosen (stop-none h)
+    pub item-none : Says itself u1 s i none → Stops (item ds) s i none
+    unfolding item
+    item-none h = then-none chosen (stop-none h)
 
     module _ {n j : ℕ} (h : Says itself u1 s i (some (n, j))) where
-      pub index-great : length ds ≤ n → Stops (domainIndex ds) s i none
-      unfolding domainIndex
-      index-great k = then-leads chosen h none (when-none (ret (getD ds n [])) (le-ltb n (length ds) k))
+      pub item-bad : {m : ℕ} → length ds ≡ m → (eqb n ownIndex || ltb n m) ≡ false → Stops (item ds) s i none
+      unfolding item
+      item-bad k e = then-leads chosen h none (refused (eqb n ownIndex) (ltb n (length ds)) (rw k e))
+        where
+          refused : (b c : Bool) → (b || c) ≡ false → Stops (pick b (ret ownDomain) (when c (ret (listed (getD ds n []))))) s j none
+          refused true c e = let z : _≡_ {A = ℕ} 0 1 = cc in absurd (omega arith)
+          refused false c e = when-none (ret (listed (getD ds n []))) e
 
-      pub index-stops : n < length ds → Stops (domainIndex ds) s i (some j)
-      unfolding domainIndex
-      index-stops k = then-leads chosen h (some j) (when-leads (ret (getD ds n [])) (lt-ltb n (length ds) k) (some j) (stops refl (said-inside h)))
+      pub item-stops : {m : ℕ} → length ds ≡ m → (eqb n ownIndex || ltb n m) ≡ true → Stops (item ds) s i (some j)
+      unfolding item
+      item-stops k e = then-leads chosen h (some j) (taken (eqb n ownIndex) (ltb n (length ds)) (rw k e))
+        where
+          taken : (b c : Bool) → (b || c) ≡ true → Stops (pick b (ret ownDomain) (when c (ret (listed (getD ds n []))))) s j (some j)
+          taken true c e = stops refl (said-inside h)
+          taken false c e = when-leads (ret (listed (getD ds n []))) e (some j) (stops refl (said-inside h))
 
 -- a policy
 module _ (ds : List Aid) where
   -- what a count stands for
   abbrev counts : ℕ → Reader Policy
-  counts n = pick (eqb n 0xFF) (ret every) (listed ds n)
+  counts n = pick (eqb n 0xFF) (ret every) (items ds n)
 
   module _ {s : Bytes} {i : ℕ} where
     pub policy-none : Says itself u1 s i none → Stops (policy ds) s i none
@@ -60,15 +69,15 @@ module _ (ds : List Aid) where
       policy-every e = then-leads counts h (some j) (rw (eq-eqb n 0xFF e) (stops refl (said-inside h)))
 
       pub policy-many : (n ≡ 0xFF → ⊥) → mostAllowed < n → Stops (policy ds) s i none
-      unfolding policy listed
-      policy-many e k = then-leads counts h none (rw (ne-eqb n 0xFF e) (when-none (many n (domainIndex ds) >>= λ aids. ret (only aids))
+      unfolding policy items
+      policy-many e k = then-leads counts h none (rw (ne-eqb n 0xFF e) (when-none (many n (item ds) >>= λ xs. ret (only xs))
           (lt-leb n mostAllowed k)))
 
-      pub policy-leads : (n ≡ 0xFF → ⊥) → n ≤ mostAllowed → Leads (policy ds) (many n (domainIndex ds)) s i j
-      unfolding policy listed
+      pub policy-leads : (n ≡ 0xFF → ⊥) → n ≤ mostAllowed → Leads (policy ds) (many n (item ds)) s i j
+      unfolding policy items
       policy-leads e k o p =
-          let q = made-leads (many n (domainIndex ds)) (λ aids. only aids) o p in
-          then-leads counts h o (rw (ne-eqb n 0xFF e) (when-leads (many n (domainIndex ds) >>= λ aids. ret (only aids)) (le-leb n mostAllowed k) o q))
+          let q = made-leads (many n (item ds)) (λ xs. only xs) o p in
+          then-leads counts h o (rw (ne-eqb n 0xFF e) (when-leads (many n (item ds) >>= λ xs. ret (only xs)) (le-leb n mostAllowed k) o q))
 
 -- a code, if there is one
 module _ (l : Limits) where

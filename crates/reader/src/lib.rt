@@ -8,9 +8,11 @@ use cursor::Skip;
 ghost use mathlib.Core.Path.{_≡_};
 ghost use mathlib.Core.List.{List};
 ghost use Prim.Native.Nat.{_≤_};
+ghost use mathlib.Core.Bool.{_||_};
+ghost use lib.Dec.{ltb, eqb};
 ghost use lib.ListN.{length};
 ghost use Rattle.rules.specs.Bytes.{Aid, u1, u2, many, counted};
-ghost use Rattle.rules.specs.Package.{mostReferences, mostClasses, mostMethods, classNumber, reference, domainIndex, policy, codeIf, method, class};
+ghost use Rattle.rules.specs.Package.{mostReferences, mostClasses, mostMethods, classNumber, reference, ownIndex, item, policy, codeIf, method, class};
 ghost use Rattle.rules.specs.Questions.{q10-marked};
 ghost use Rattle.cursor.specs.Says.{Stops, skipSaid};
 ghost use Rattle.cursor.specs.Limits.{limitsOf};
@@ -34,6 +36,9 @@ const MOST_ALLOWED: usize = 32;
 
 // FF alone: every domain.
 const EVERY: usize = 0xFF;
+
+// FE as an index: the domain that the package is loaded in.
+const OWN: usize = 0xFE;
 
 // Where the lists of a package stand in its file, each from its count on.
 pub struct Places {
@@ -104,10 +109,20 @@ fn skip_references(f: &[u8], from: Cursor) -> Skip
     })
 }
 
-// So many indexes below the domain count.
+// Is it FE, or below the domain count?
+fn is_index(index: usize, domains: usize) -> bool
+    ensures { λ r. ⌜ r ≡ (eqb index ownIndex || ltb index domains) ⌝ }
+{
+    if index == OWN {
+        return true;
+    }
+    index < domains
+}
+
+// So many indexes, each FE or below the domain count.
 fn skip_indexes(f: &[u8], from: Cursor, count: usize, domains: usize) -> Skip
     requires { ⌜ from .at .0 ≤ length (now f) ⌝ }
-    ensures { λ r. ⌜ ((ds : List Aid) → length ds ≡ domains → Stops (many count (domainIndex ds)) (now (f .entry)) (from .at .0) (skipSaid r)) ⌝ }
+    ensures { λ r. ⌜ ((ds : List Aid) → length ds ≡ domains → Stops (many count (item ds)) (now (f .entry)) (from .at .0) (skipSaid r)) ⌝ }
 {
     let mut c = from;
     let mut left = count;
@@ -115,7 +130,7 @@ fn skip_indexes(f: &[u8], from: Cursor, count: usize, domains: usize) -> Skip
         let Field::Is(index, next) = c.u1(f) else {
             return Skip::Bad;
         };
-        if domains <= index {
+        if !is_index(index, domains) {
             return Skip::Bad;
         }
         c = next;

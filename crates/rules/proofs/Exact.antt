@@ -12,9 +12,9 @@ use mathlib.Core.Option.{some}
 use lib.Dec.{T}
 use lib.ListN.{length}
 use Rattle.rules.specs.Bytes.{Bytes, Aid, all, at}
-use Rattle.rules.specs.Package.{Limits, standard, Policy, Class}
+use Rattle.rules.specs.Package.{Limits, standard, Class}
 use Rattle.rules.specs.Store.{Entry, WrittenFrom, entriesOf}
-use Rattle.rules.specs.Classes.{Installed, installed, admits, admitsAllOf}
+use Rattle.rules.specs.Classes.{Installed, installed, Rights, admits, admitsAllOf}
 use Rattle.rules.specs.Questions.{q1-size, own, depthsWithin, q14-parents, q20-running}
 use Rattle.rules.specs.Operations.{soundEntries, sound}
 use Rattle.rules.specs.Paths.{InstalledMethod, located, Calls}
@@ -35,7 +35,7 @@ pub layout-sound : (s : Bytes) → T (all isByte s) →
     × ((es : List Entry) → T (q1-size s) → WrittenFrom s es → T (soundEntries standard (length s) es) → T (sound s))
 layout-sound s b = (sound-written-from s b, written-from-sound s)
 
-pub policies : (p q : Policy) → (T (admitsAllOf p q) → (d : Aid) → T (admits q d) → T (admits p d)) × (((d : Aid) → T (admits q d) →
+pub policies : (p q : Rights) → (T (admitsAllOf p q) → (d : Aid) → T (admits q d) → T (admits p d)) × (((d : Aid) → T (admits q d) →
     T (admits p d)) → T (admitsAllOf p q))
 policies p q = (λ h d. admits-all p q d h, all-admits p q)
 

@@ -1,14 +1,17 @@
--- The laws about the definitions. Demand1, Demand2 and Demand3 are the claims of document 01, Request5 that of document 02; Exact says what
--- single definitions are exactly; Witness shows that demand 3 is not empty.
+-- The laws about the definitions. Demand1, Demand2 and Demand3 are the claims of document 01, Request5 and Request2 those of document 02;
+-- Exact says what single definitions are exactly; Witness and WitnessOwn show that demand 3 is not empty.
 pub mod Demand1
 pub mod Demand2
 pub mod Demand3
 pub mod Request5
+pub mod Request2
 pub mod Exact
 pub mod Claims
 pub mod Answers
 pub mod LaidOut
 pub mod Witness
+pub mod Located
+pub mod WitnessOwn
 pub mod Whole
 pub mod Paths
 pub mod Ledger
@@ -25,6 +28,7 @@ pub mod Fresh
 pub mod Results
 pub mod Runs
 pub mod Policies
+pub mod Allowing
 pub mod Tails
 pub mod Asked
 pub mod Written

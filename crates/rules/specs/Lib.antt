@@ -1,4 +1,4 @@
--- Document 01 and request 5 of document 02 as definitions, in document 01's order.
+-- Document 01 and requests 5 and 2 of document 02 as definitions, in document 01's order.
 pub mod Bytes
 pub mod Code
 pub mod Table
@@ -13,6 +13,7 @@ pub mod Paths
 pub mod Demands
 pub mod Running
 pub mod Unbounded
+pub mod Allowing
 pub mod Called
 pub mod CasesForm
 pub mod CasesFiles
@@ -23,5 +24,6 @@ pub mod CasesCodes
 pub mod CasesOrder
 pub mod CasesReadings
 pub mod CasesDepths
+pub mod CasesOwn
 pub mod Cases
 pub mod CasesCalls

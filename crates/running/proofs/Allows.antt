@@ -1,17 +1,17 @@
 -- What one method allows beside another, and a method beside the one that runs. Assumes nothing.
 use Prim.Native.Nat.{ℕ, _+_, _≤_, _<_}
 use native.Mathlib.Omega.{arith}
-use mathlib.Core.Path.{_≡_, refl, sym, _∙_, ap, subst}
+use mathlib.Core.Path.{_≡_, refl, sym, _∙_, ap, ap₂, subst}
 use mathlib.Core.Bool.{Bool, true, false, _||_}
 use mathlib.Core.List.{List, []}
 use mathlib.Core.Option.{Option, none, some}
 use lib.ListN.{length, getD}
-use Rattle.rules.specs.Bytes.{Bytes, Aid, noneOr}
-use Rattle.rules.specs.Package.{Limits, storeLimits, Policy, every, only, domainIndex, method, policy, readFile}
+use Rattle.rules.specs.Bytes.{Bytes, Aid, noneOr, aid}
+use Rattle.rules.specs.Package.{Limits, storeLimits, Policy, only, item, method, policy, readFile}
 use Rattle.rules.specs.Store.{Entry}
-use Rattle.rules.specs.Classes.{Installed, installed, MethodAt, runsUpTo, admitsAllOf, allowsAllOf}
+use Rattle.rules.specs.Classes.{Installed, installed, MethodAt, Rights, everyDomain, these, meant, rights, runsUpTo, admitsAllOf, allowsAllOf}
 use Rattle.rules.specs.Questions.{own}
-use Rattle.places.specs.Reads.{Reads}
+use Rattle.places.specs.Reads.{Reads, Ends}
 use Rattle.places.proofs.Inverse.{reads-done}
 use Rattle.files.proofs.Steps.{policy-in}
 use Rattle.policies.proofs.Rules.{only-list}
@@ -19,12 +19,15 @@ use Rattle.files.specs.Say.{Readable, PolicyAt, NameIs, StaticIs, DomainsAt}
 use Rattle.files.specs.Say as say
 use Rattle.files.proofs.Walks.{domains-read}
 use Rattle.policies.specs.Say.{PolicyOver, AdmitsAllOf}
-use Rattle.homes.specs.Homes.{Imports, fileOf}
+use Rattle.policies.specs.declared.RightsPlace.{RightsPlace}
+use Rattle.homes.specs.Homes.{Imports, fileOf, aidAt, DomainAt, domainPlace}
 use Rattle.homes.specs.declared.Home.{Home}
 use Rattle.homes.proofs.Homes.{home-reads, home-bounds}
+use Rattle.homes.proofs.Domains.{domain-there, domain-is}
 use Rattle.chains.specs.Say.{MethodIn, RunningThere, RunsIs}
 use Rattle.running.specs.Rows.{BesideIs}
 use Rattle.running.specs.Say.{BothThere, AllowsAllOf, methodPasses, MethodThere, MethodPasses}
+use Rattle.running.specs.declared.allowed.MethodSpot.{MethodSpot}
 use Rattle.chains.specs.declared.RunsFound.{RunsFound}
 use Rattle.chains.specs.declared.RunsFound.the-variants.{At, Nothing}
 
@@ -50,24 +53,34 @@ module _ (f s : Bytes) (h : Home) (i : ℕ) (g : Bytes) (z : g ≡ fileOf f s h)
         let y = r (storeLimits s) (o .class .home .pack .domains) (o .method) (m .ends) file-method in
         (o .class .home .pack .domains, x .0, x .1, (o .method .policy, y .0, y .1))
 
-module _ (f s : Bytes) (g : Home) (i : ℕ) (h : Home) (j : ℕ) where
-  pub both-bounds : BothThere f s g i h j → ((g .from ≤ g .to) × (g .to ≤ length s)) × ((h .from ≤ h .to) × (h .to ≤ length s))
-  both-bounds t = (
-    home-bounds f s (t .0) (t .1) (t .2) g (t .4 .class .home) (t .5 .home),
-    home-bounds f s (t .0) (t .1) (t .2) h (t .6 .class .home) (t
-        .7 .home),
-  )
+module _ (f s : Bytes) (d : ℕ) (x y : MethodSpot) where
+  module _ (t : BothThere f s d x y) where
+    pub both-bounds : ((x .home .from ≤ x .home .to) × (x .home .to ≤ length s)) × ((y .home .from ≤ y .home .to) × (y .home .to ≤ length s))
+    both-bounds = (
+      home-bounds f s (t .0) (t .1) (t .2) (x .home) (t .5 .class .home) (t .6 .home),
+      home-bounds f s (t .0) (t .1) (t .2) (y .home) (t .7 .class .home) (t .8 .home),
+    )
 
-  module _ (a b : Bytes) (za : a ≡ fileOf f s g) (zb : b ≡ fileOf f s h) (da pa db pb : ℕ) (ra : DomainsAt a da) (qa : PolicyAt a i pa) (rb : DomainsAt b
-      db) (qb : PolicyAt b j pb) where
-    pub allows-is : (r : Bool) → AdmitsAllOf a da pa b db pb r → AllowsAllOf f s g i h j r
-    allows-is r q end es self u m x o y =
-        let ma = domains-read ra (storeLimits s) (m .class .home .pack) (file-reads f s g i a za end es self m x u) in
-        let mb = domains-read rb (storeLimits s) (o .class .home .pack) (file-reads f s h j b zb end es self o y u) in
-        let wa = qa (storeLimits s) (m .class .home .pack .domains) (m .method) (x .ends) (file-method f s g i a za end es self m x) in
-        let wb = qb (storeLimits s) (o .class .home .pack .domains) (o .method) (y .ends) (file-method f s h j b zb end es self o y) in
-        q (m .class .home .pack .domains) (ma .0) (ma .1) (m .method .policy) (wa .0) (wa .1) (o .class .home .pack .domains) (mb .0) (mb .1) (o .method
-        .policy) (wb .0) (wb .1)
+    -- the domains of both stand in the store
+    pub both-domains : Ends aid s (domainPlace (x .home) d) × Ends aid s (domainPlace (y .home) d)
+    both-domains = (domain-there (t .3 .setting) (t .6 .home) (t .4), domain-there (t .3 .setting) (t .8 .home) (t .4))
+
+  -- their files, the domains of these, and where their rights stand
+  module _ (a b : Bytes) (za : a ≡ fileOf f s (x .home)) (zb : b ≡ fileOf f s (y .home)) (da db : Aid) (ya : da ≡ aidAt s (domainPlace (x .home) d))
+      (yb : db ≡ aidAt s (domainPlace (y .home) d)) (p q : RightsPlace) (ra : DomainsAt a (p .domains)) (qa : PolicyAt a (x .place) (p .policy))
+      (rb : DomainsAt b (q .domains)) (qb : PolicyAt b (y .place) (q .policy)) where
+    pub allows-is : (r : Bool) → AdmitsAllOf a (p .domains) da (p .policy) b (q .domains) db (q .policy) r → AllowsAllOf f s d x y r
+    allows-is r w end es self u l m v o z =
+        let ma = domains-read ra (storeLimits s) (m .class .home .pack) (file-reads f s (x .home) (x .place) a za end es self m v u) in
+        let mb = domains-read rb (storeLimits s) (o .class .home .pack) (file-reads f s (y .home) (y .place) b zb end es self o z u) in
+        let wa = qa (storeLimits s) (m .class .home .pack .domains) (m .method) (v .ends) (file-method f s (x .home) (x .place) a za end es self m v) in
+        let wb = qb (storeLimits s) (o .class .home .pack .domains) (o .method) (z .ends) (file-method f s (y .home) (y .place) b zb end es self o z) in
+        let told =
+        w (m .class .home .pack .domains) (ma .0) (ma .1) (m .method .policy) (wa .0) (wa .1) (o .class .home .pack .domains) (mb .0) (mb .1)
+        (o .method .policy) (wb .0) (wb .1)
+        in
+        told ∙ ap₂ (λ (e g : Aid). admitsAllOf (meant e (m .method .policy)) (meant g (o .method .policy)))
+        (ya ∙ sym (domain-is (v .home) l)) (yb ∙ sym (domain-is (z .home) l))
 
 -- a method beside the one that runs for own class b and its name
 passes-static : (l : Limits) (is : List Installed) (b : _) (o : MethodAt) → o .method .static ≡ true → true ≡ methodPasses l is b o
@@ -82,9 +95,9 @@ passes-runs : (l : Limits) (is : List Installed) (b : _) (o r : MethodAt) → o 
 passes-runs l is b o r e n = rw (e, n)
 
 -- a method that allows nothing
-admits-nothing : (p q : Policy) → q ≡ only [] → admitsAllOf p q ≡ true
-admits-nothing every q e = refl
-admits-nothing (only ds) q e = rw e
+admits-nothing : (r : Rights) (e : Aid) (q : Policy) → q ≡ only [] → admitsAllOf r (meant e q) ≡ true
+admits-nothing everyDomain e q z = refl
+admits-nothing (these ds) e q z = rw z
 
 passes-nothing : (l : Limits) (is : List Installed) (b : _) (o : MethodAt) → o .method .policy ≡ only [] → true ≡ methodPasses l is b o
 passes-nothing l is b o e = sym (go (o .method .static) (runsUpTo is (l .depth) b (o .method .name)))
@@ -92,13 +105,13 @@ passes-nothing l is b o e = sym (go (o .method .static) (runsUpTo is (l .depth) 
     go : (a : Bool) (x : Option MethodAt) → (a || noneOr x (λ r. allowsAllOf r o)) ≡ true
     go true x = refl
     go false none = refl
-    go false (some r) = admits-nothing (r .method .policy) (o .method .policy) e
+    go false (some r) = admits-nothing (rights r) (o .class .home .domain) (o .method .policy) e
 
 -- its list is empty
 list-empty : (ds : List Aid) (g : Bytes) (i : ℕ) (q : Policy) (j : ℕ) → Reads (policy ds) g i q j → getD g i 0 ≡ 0 → q ≡ only []
 list-empty ds g i q j p z =
     let o = only-list ds g i q j p (λ e. omega arith) in
-    let e = reads-done (domainIndex ds) (getD g i 0) g (i + 1) (o .aids) j (omega arith) (o .list) in
+    let e = reads-done (item ds) (getD g i 0) g (i + 1) (o .listed) j (omega arith) (o .list) in
     sym (o .is) ∙ ap only (e .0)
 
 module _ (f s : Bytes) (end b : ℕ) (h : Home) (i : ℕ) where
@@ -112,7 +125,7 @@ module _ (f s : Bytes) (end b : ℕ) (h : Home) (i : ℕ) where
     pub here-method : MethodThere f s end b h i → say.MethodThere g i
     here-method t = method-there f s h i g z end (t .0) (t .1) (t .3) (t .4)
 
-    pub method-static : StaticIs g i true → MethodPasses f s end b h i true
+    pub method-static : StaticIs g i true → BesideIs f s end b h i Nothing
     method-static q es self r o m =
         passes-static (storeLimits s) (installed (storeLimits s) es) (own self b) o (sym (q (storeLimits s) (o .class .home .pack .domains) (o .method) (m
         .ends) (file-method f s h i g z end es self o m)))
@@ -124,7 +137,7 @@ module _ (f s : Bytes) (end b : ℕ) (h : Home) (i : ℕ) where
         let r = q (storeLimits s) (o .class .home .pack .domains) (o .method) (t .4 .ends) (file-method f s h i g z end (t .0) (t .1) o (t .4)) in
         policy-in (o .class .home .pack .domains, (o .method .policy, r .0, r .1))
 
-    pub method-nothing : (p : ℕ) → PolicyAt g i p → (w : ℕ) → w ≡ getD g p 0 → w ≡ 0 → MethodPasses f s end b h i true
+    pub method-nothing : (p : ℕ) → PolicyAt g i p → (w : ℕ) → w ≡ getD g p 0 → w ≡ 0 → BesideIs f s end b h i Nothing
     method-nothing p q w v u es self r o m =
         let y = q (storeLimits s) (o .class .home .pack .domains) (o .method) (m .ends) (file-method f s h i g z end es self o m) in
         passes-nothing (storeLimits s) (installed (storeLimits s) es) (own self b) o (list-empty (o .class .home .pack .domains) g p (o .method .policy) (y
@@ -137,23 +150,30 @@ module _ (f s : Bytes) (end b : ℕ) (h : Home) (i : ℕ) where
       name-is : (es : List Entry) (self : Installed) (o : MethodAt) → MethodIn f s end es self h i o → name ≡ o .method .name
       name-is es self o m = n (storeLimits s) (o .class .home .pack .domains) (o .method) (m .ends) (file-method f s h i g z end es self o m)
 
-      pub method-alone : RunsIs f s end b name Nothing → MethodPasses f s end b h i true
-      method-alone w es self r o m =
+      -- what is asked beside what runs
+      pub beside-is : (r : RunsFound) → RunsIs f s end b name r → BesideIs f s end b h i r
+      beside-is Nothing w es self r o m =
           passes-none (storeLimits s) (installed (storeLimits s) es) (own self b) o (static-not es self o m)
           (subst (λ (v : ℕ). runsUpTo (installed (storeLimits s) es) (storeLimits s .depth) (own self b) v ≡ none) (name-is es self o m) (w es self r))
+      beside-is (At x k) w es self r o m =
+          let u = w es self r in
+          let runs =
+          subst (λ (v : ℕ). runsUpTo (installed (storeLimits s) es) (storeLimits s .depth) (own self b) v ≡ some (u .0)) (name-is es self o m) (u .1)
+          in
+          (u .0, u .2, passes-runs (storeLimits s) (installed (storeLimits s) es) (own self b) o (u .0) (static-not es self o m) runs)
 
-      module _ (x : Home) (k : ℕ) (w : RunsIs f s end b name (At x k)) where
-        pub method-both : MethodThere f s end b h i → BothThere f s x k h i
-        method-both t = let u = w (t .0) (t .1) (t .2) in (end, t .0, t .1, t .2 .judged .parents .imported, u .0, u .2, t .3, t .4)
+-- what is told of the method beside another, where the domain of the file being judged stands at d
+module _ {f s : Bytes} {end : ℕ} (d : ℕ) {b : ℕ} {h : Home} {i : ℕ} where
+  pub beside-none : BesideIs f s end b h i Nothing → MethodPasses f s end d b h i true
+  beside-none w es self r o m = w es self (r .running) o m
 
-        pub method-beside : (v : Bool) → AllowsAllOf f s x k h i v → MethodPasses f s end b h i v
-        method-beside v y es self r o m =
-            let u = w es self r in
-            y end es self (r .judged .parents .imported) (u .0) (u .2) o m
-            ∙ passes-runs (storeLimits s) (installed (storeLimits s) es) (own self b) o (u .0) (static-not es self o m)
-            (subst (λ (v : ℕ). runsUpTo (installed (storeLimits s) es) (storeLimits s .depth) (own self b) v ≡ some (u .0)) (name-is es self o m) (u .1))
+  module _ (x : Home) (k : ℕ) (w : BesideIs f s end b h i (At x k)) where
+    pub beside-both : (t : MethodThere f s end b h i) → DomainAt s d (t .1) → BothThere f s d (record { home = x; place = k }) (record { home = h; place = i })
+    beside-both t l =
+        let u = w (t .0) (t .1) (t .2) (t .3) (t .4) in
+        (end, t .0, t .1, t .2 .judged .parents .imported, l, u .0, u .1, t .3, t .4)
 
-      -- what is asked beside what runs
-      pub beside-is : MethodThere f s end b h i → (r : RunsFound) → RunsIs f s end b name r → BesideIs f s end b h i r
-      beside-is t (At x k) w = (method-both x k w t, method-beside x k w)
-      beside-is t Nothing w = method-alone w
+    pub beside-passes : (v : Bool) → AllowsAllOf f s d (record { home = x; place = k }) (record { home = h; place = i }) v → MethodPasses f s end d b h i v
+    beside-passes v y es self r o m =
+        let u = w es self (r .running) o m in
+        y end es self (r .running .judged .parents .imported) (r .loads) (u .0) (u .1) o m ∙ u .2

@@ -7,13 +7,13 @@ use mathlib.Core.Path.{_≡_, refl, sym, _∙_, ap, subst}
 use mathlib.Core.List.{List, _∷_, _++_}
 use mathlib.Core.Option.{some}
 use lib.ListN.{length, length-append}
-use Rattle.rules.specs.Bytes.{Bytes, Aid, Reader, at, u1, u2, many, aid, counted}
+use Rattle.rules.specs.Bytes.{Bytes, Aid, Reader, at, u1, u2, many, aid}
 use Rattle.rules.specs.Package.{Limits, storeLimits, mostDomains, mostImports, mostReferences, mostClasses, mostMethods, Class, Package, classNumber, reference, method, class, readFile}
 use Rattle.rules.specs.Store.{Entry, loaded, openingLength}
 use Rattle.rules.specs.Classes.{Installed}
 use Rattle.rules.proofs.Lists.{at-below}
 use Rattle.places.specs.Reads.{Reads}
-use Rattle.places.proofs.Steady.{Steady, steady-u1, steady-many, steady-u2, steady-aid, steady-counted, steady-number, steady-reference, steady-method, steady-class}
+use Rattle.places.proofs.Steady.{Steady, steady-u1, steady-many, steady-u2, steady-aid, steady-number, steady-reference, steady-method, steady-class}
 use Rattle.places.proofs.Inverse.{reads-forward, reads-u1, reads-u2, reads-left, reads-done, reads-counted, counted-one}
 use Rattle.places.proofs.Parts.{aid-part, class-part, file-parts}
 use Rattle.places.proofs.Track.{many-length}

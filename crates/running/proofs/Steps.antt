@@ -13,8 +13,8 @@ use Rattle.running.specs.declared.visited.Visit.{Visit}
 use Rattle.running.proofs.Walk as walk
 
 -- what is said of a visit, by its own class, home and number
-abbrev pub Passing : (Bytes → Bytes → ℕ → ℕ → Home → ℕ → Bool → Type 0) → Bytes → Bytes → Visit → Bool → Type 0
-Passing q f s v r = q f s (v .end) (v .own) (visitHome v) (v .number) r
+abbrev pub Passing : (Bytes → Bytes → ℕ → ℕ → ℕ → Home → ℕ → Bool → Type 0) → Bytes → Bytes → Visit → Bool → Type 0
+Passing q f s v r = q f s (v .end) (v .domain) (v .own) (visitHome v) (v .number) r
 
 -- the visit with its record's place
 module _ (f s : Bytes) (v w : Visit) (p : PlacedIs f s v w) where
@@ -24,11 +24,11 @@ module _ (f s : Bytes) (v w : Visit) (p : PlacedIs f s v w) where
       record { there = t .there; chain = t .chain; size = t .size; indexed = t .indexed; small = t .small } in
       subst (WalkFrom f s index names) (sym (p .0)) u
 
-  pub placed-seen : (seen : Bytes) → SeenPass f s (v .end) (v .own) seen → SeenPass f s (w .end) (w .own) seen
-  placed-seen seen m = subst (λ (u : Visit). SeenPass f s (u .end) (u .own) seen) (sym (p .0)) m
+  pub placed-seen : (seen : Bytes) → SeenPass f s (v .end) (v .domain) (v .own) seen → SeenPass f s (w .end) (w .domain) (w .own) seen
+  placed-seen seen m = subst (λ (u : Visit). SeenPass f s (u .end) (u .domain) (u .own) seen) (sym (p .0)) m
 
-  pub seen-placed : (seen : Bytes) → SeenPass f s (w .end) (w .own) seen → SeenPass f s (v .end) (v .own) seen
-  seen-placed seen m = subst (λ (u : Visit). SeenPass f s (u .end) (u .own) seen) (p .0) m
+  pub seen-placed : (seen : Bytes) → SeenPass f s (w .end) (w .domain) (w .own) seen → SeenPass f s (v .end) (v .domain) (v .own) seen
+  seen-placed seen m = subst (λ (u : Visit). SeenPass f s (u .end) (u .domain) (u .own) seen) (p .0) m
 
   pub placed-rank : rank (visitHome w) (w .number) ≡ rank (visitHome v) (v .number)
   placed-rank = ap (λ (u : Visit). rank (visitHome u) (u .number)) (p .0)
@@ -41,45 +41,45 @@ module _ (f s : Bytes) (v w : Visit) (p : PlacedIs f s v w) where
   parents-placed r m = subst (λ (u : Visit). Passing ParentsPass f s u r) (p .0) m
 
   pub methods-no : Passing MethodsPass f s w false → Passing ClassPasses f s v false
-  methods-no m = walk.class-no f s (v .end) (v .own) (visitHome v) (v .number) (methods-placed false m)
+  methods-no m = walk.class-no f s (v .end) (v .domain) (v .own) (visitHome v) (v .number) (methods-placed false m)
 
   pub parents-no : Passing ParentsPass f s w false → Passing ClassPasses f s v false
-  parents-no m = walk.class-parent-no f s (v .end) (v .own) (visitHome v) (v .number) (parents-placed false m)
+  parents-no m = walk.class-parent-no f s (v .end) (v .domain) (v .own) (visitHome v) (v .number) (parents-placed false m)
 
   pub both-yes : Passing MethodsPass f s w true → Passing ParentsPass f s w true → Passing ClassPasses f s v true
-  both-yes m n = walk.class-yes f s (v .end) (v .own) (visitHome v) (v .number) (methods-placed true m) (parents-placed true n)
+  both-yes m n = walk.class-yes f s (v .end) (v .domain) (v .own) (visitHome v) (v .number) (methods-placed true m) (parents-placed true n)
 
 -- a parent
 module _ (f s : Bytes) (v : Visit) (count i : ℕ) (q : CountIs f s (visitHome v) (v .number) count) (z : i < count) where
   pub parent-placed : VisitPlaced f s v → ParentPlaced f s v i
   parent-placed t =
       let u = t .there in
-      record { class = t; inside = omega (arith, q (v .end) (u .entries) (u .self) (u .asked .judged) (u .pack) (u .home) (u .class) (u .is)) }
+      record { class = t; inside = omega (arith, q (v .end) (u .entries) (u .self) (u .asked .running .judged) (u .pack) (u .home) (u .class) (u .is)) }
 
   module _ (w : Visit) (p : ParentVisit f s v i w) where
     pub parent-from : (index names : List ℕ) → WalkFrom f s index names v → WalkFrom f s index names w
     parent-from index names t =
-        let d = walk.parent-walk f s (v .end) (v .own) (visitHome v) (v .number) count i q z (p .0) (p .2) (t .there) in
+        let d = walk.parent-walk f s (v .end) (v .domain) (v .own) (visitHome v) (v .number) count i q z (p .0) (p .2) (t .there) in
         let u : WalkFrom f s index names (visitOf v (p .0)) =
         record { there = d; chain = t .chain; size = t .size; indexed = t .indexed; small = t .small } in
         subst (WalkFrom f s index names) (sym (p .1)) u
 
     pub parent-less : (index names : List ℕ) → WalkFrom f s index names v → rank (visitHome w) (w .number) < rank (visitHome v) (v .number)
     parent-less index names t =
-        let d = walk.parent-rank f s (v .end) (v .own) (visitHome v) (v .number) count i q z (p .0) (p .2) (t .there) in
+        let d = walk.parent-rank f s (v .end) (v .domain) (v .own) (visitHome v) (v .number) count i q z (p .0) (p .2) (t .there) in
         omega (arith, d, ap (λ (u : Visit). rank (visitHome u) (u .number)) (p .1))
 
-    pub parent-seen : (seen : Bytes) → SeenPass f s (v .end) (v .own) seen → SeenPass f s (w .end) (w .own) seen
-    parent-seen seen m = subst (λ (u : Visit). SeenPass f s (u .end) (u .own) seen) (sym (p .1)) m
+    pub parent-seen : (seen : Bytes) → SeenPass f s (v .end) (v .domain) (v .own) seen → SeenPass f s (w .end) (w .domain) (w .own) seen
+    parent-seen seen m = subst (λ (u : Visit). SeenPass f s (u .end) (u .domain) (u .own) seen) (sym (p .1)) m
 
-    pub seen-parent : (seen : Bytes) → SeenPass f s (w .end) (w .own) seen → SeenPass f s (v .end) (v .own) seen
-    seen-parent seen m = subst (λ (u : Visit). SeenPass f s (u .end) (u .own) seen) (p .1) m
+    pub seen-parent : (seen : Bytes) → SeenPass f s (w .end) (w .domain) (w .own) seen → SeenPass f s (v .end) (v .domain) (v .own) seen
+    seen-parent seen m = subst (λ (u : Visit). SeenPass f s (u .end) (u .domain) (u .own) seen) (p .1) m
 
     pub parent-no : Passing ClassPasses f s w false → Passing ParentsPass f s v false
-    parent-no m = walk.parents-no f s (v .end) (v .own) (visitHome v) (v .number) count i q z (p .0) (p .2) (subst (λ (u : Visit). Passing ClassPasses f s
-        u false) (p .1) m)
+    parent-no m = walk.parents-no f s (v .end) (v .domain) (v .own) (visitHome v) (v .number) count i q z (p .0) (p .2)
+        (subst (λ (u : Visit). Passing ClassPasses f s u false) (p .1) m)
 
-    pub parent-yes : Passing ClassPasses f s w true → FirstPass f s (v .end) (v .own) (visitHome v) (v .number) i →
-        FirstPass f s (v .end) (v .own) (visitHome v) (v .number) (i + 1)
-    parent-yes m = walk.first-more f s (v .end) (v .own) (visitHome v) (v .number) count i q z (p .0) (p .2) (subst (λ (u : Visit). Passing ClassPasses f s
-        u true) (p .1) m)
+    pub parent-yes : Passing ClassPasses f s w true → FirstPass f s (v .end) (v .domain) (v .own) (visitHome v) (v .number) i →
+        FirstPass f s (v .end) (v .domain) (v .own) (visitHome v) (v .number) (i + 1)
+    parent-yes m = walk.first-more f s (v .end) (v .domain) (v .own) (visitHome v) (v .number) count i q z (p .0) (p .2)
+        (subst (λ (u : Visit). Passing ClassPasses f s u true) (p .1) m)

@@ -27,8 +27,7 @@ use Rattle.homes.specs.declared.Home.{Home}
 use Rattle.homes.proofs.Homes.{home-below}
 use Rattle.classes.specs.Say.{CountIs, rank, NamedAt, ParentIs}
 use Rattle.classes.specs.declared.ClassSpot.{ClassSpot}
-use Rattle.chains.specs.Say.{Running}
-use Rattle.running.specs.Say.{WalkThere, MethodsPass, Passes, ClassPasses}
+use Rattle.running.specs.Say.{RunningIn, WalkThere, MethodsPass, Passes, ClassPasses}
 use Rattle.running.specs.Walk.{key, seenLength, SeenPass, FirstPass, ParentsPass}
 use Rattle.running.proofs.Keys.{key-small, key-one}
 use Rattle.classes.proofs.Records.{at-split}
@@ -59,13 +58,13 @@ below-cases : (is : List Installed) (c a : ClassAt) → IsOrBelow is c a → (c 
 below-cases is c a itself = inl refl
 below-cases is c a (below {c = d} m r) = inr (d, m, r)
 
-module _ (f s : Bytes) (end b : ℕ) (h : Home) (n : ℕ) where
+module _ (f s : Bytes) (end d b : ℕ) (h : Home) (n : ℕ) where
   -- the class's own methods do not all pass
-  pub class-no : MethodsPass f s end b h n false → ClassPasses f s end b h n false
+  pub class-no : MethodsPass f s end d b h n false → ClassPasses f s end d b h n false
   class-no q es self r x o k e = (record { home = x; number = n }, itself, sym (q es self r x o k e))
 
   -- a parent does not pass
-  pub class-parent-no : ParentsPass f s end b h n false → ClassPasses f s end b h n false
+  pub class-parent-no : ParentsPass f s end d b h n false → ClassPasses f s end d b h n false
   class-parent-no q es self r x o k e =
       let t = q es self r x o k e in
       let u = t .5 in (
@@ -76,11 +75,11 @@ module _ (f s : Bytes) (end b : ℕ) (h : Home) (n : ℕ) where
       )
 
   -- all pass
-  pub class-yes : MethodsPass f s end b h n true → ParentsPass f s end b h n true → ClassPasses f s end b h n true
+  pub class-yes : MethodsPass f s end d b h n true → ParentsPass f s end d b h n true → ClassPasses f s end d b h n true
   class-yes m p es self r x o k e a w = go (below-cases (installed (storeLimits s) es) (record { home = x; number = n }) a w)
     where
-      go : (record { home = x; number = n } ≡ a) ⊎ ((d : ClassAt) × List·Memᴰ d
-          (parentsOf (installed (storeLimits s) es) (record { home = x; number = n })) × IsOrBelow (installed (storeLimits s) es) d a) →
+      go : (record { home = x; number = n } ≡ a) ⊎ ((g : ClassAt) × List·Memᴰ g
+          (parentsOf (installed (storeLimits s) es) (record { home = x; number = n })) × IsOrBelow (installed (storeLimits s) es) g a) →
           runningAllows (storeLimits s) (installed (storeLimits s) es) (own self b) a ≡ true
       go (inl z) = subst (λ (c : ClassAt). runningAllows (storeLimits s) (installed (storeLimits s) es) (own self b) c ≡ true) z (sym (m es self r x o k e))
       go (inr u) =
@@ -88,17 +87,17 @@ module _ (f s : Bytes) (end b : ℕ) (h : Home) (n : ℕ) where
           let i = mem-at (k .parents) (y .0) (y .1) in
           p es self r x o k e (i .0) (y .0) (i .1) (u .0) (y .2) a (u .2)
 
-  module _ (t : WalkThere f s end b h n) where
+  module _ (t : WalkThere f s end d b h n) where
     -- the class's home stands where the entries end, or before
     pub walk-below : h .before ≤ end
-    walk-below = home-below f s end (t .entries) (t .self) (t .asked .judged .parents .imported .setting) h (t .pack) (t .home)
+    walk-below = home-below f s end (t .entries) (t .self) (t .asked .running .judged .parents .imported .setting) h (t .pack) (t .home)
 
     -- its bit
     key-low : key h n ≤ end * 3 / 11 + 31
-    key-low = key-small f s end (t .entries) (t .self) (t .asked .judged .parents .imported .setting) h (t .pack) (t .home) n (t .class) (t .is)
+    key-low = key-small f s end (t .entries) (t .self) (t .asked .running .judged .parents .imported .setting) h (t .pack) (t .home) n (t .class) (t .is)
 
     end-inside : end ≤ length s
-    end-inside = (entries-to s openingLength (t .entries) end (t .asked .judged .parents .imported .setting .stand)) .1
+    end-inside = (entries-to s openingLength (t .entries) end (t .asked .running .judged .parents .imported .setting .stand)) .1
 
     pub key-few : length s ≤ 65535 → key h n ≤ 17905
     key-few z = omega (arith, key-low, end-inside)
@@ -107,74 +106,75 @@ module _ (f s : Bytes) (end b : ℕ) (h : Home) (n : ℕ) where
     key-inside l z = omega (arith, key-low, end-inside)
 
   -- a class that was seen
-  module _ (seen : Bytes) (m : SeenPass f s end b seen) where
-    pub class-seen : bitAt seen (key h n) ≡ true → ClassPasses f s end b h n true
+  module _ (seen : Bytes) (m : SeenPass f s end d b seen) where
+    pub class-seen : bitAt seen (key h n) ≡ true → ClassPasses f s end d b h n true
     class-seen e = m .hold h n e
 
     -- one more
-    pub seen-more : WalkThere f s end b h n → ClassPasses f s end b h n true → (new : Bytes) → length new ≡ length seen →
+    pub seen-more : WalkThere f s end d b h n → ClassPasses f s end d b h n true → (new : Bytes) → length new ≡ length seen →
         ((j : ℕ) → bitAt new j ≡ withBit (bitAt seen) (key h n) j) →
-        SeenPass f s end b new
+        SeenPass f s end d b new
     unfolding withBit
     seen-more t p new z w = record {
       room = omega (arith, m .room);
       hold = λ g l e es self r x o k q. hold g l (sym (w (key g l)) ∙ e) es self r x o k q (same-or-not (key g l) (key h n));
     }
       where
-        hold : (g : Home) (l : ℕ) → (eqb (key g l) (key h n) || bitAt seen (key g l)) ≡ true → (es : List Entry) (self : Installed) → Running f s end b es
+        hold : (g : Home) (l : ℕ) → (eqb (key g l) (key h n) || bitAt seen (key g l)) ≡ true → (es : List Entry) (self : Installed) → RunningIn f s end d b es
             self →
             (x : Installed) → HomeIs f s end es self g x → (k : Class) → at (x .pack .classes) l ≡ some k →
             (key g l ≡ key h n) ⊎ (key g l ≡ key h n → ⊥) → Passes (storeLimits s) (installed (storeLimits s) es) self b (record { home = x; number = l })
-        hold g l e es self r x o k q (inr d) =
-            let u : eqb (key g l) (key h n) ≡ false = ne-eqb (key g l) (key h n) d in
+        hold g l e es self r x o k q (inr v) =
+            let u : eqb (key g l) (key h n) ≡ false = ne-eqb (key g l) (key h n) v in
             m .hold g l (rw u at e) es self r x o k q
-        hold g l e es self r x o k q (inl d) =
-            let y = key-one f s end es (t .entries) self (t .self) (r .judged .parents .imported .setting) (t .asked .judged .parents .imported .setting)
-            g h x (t .pack) o (t .home) l n k (t .class) q (t .is) d in
+        hold g l e es self r x o k q (inl v) =
+            let y = key-one f s end es (t .entries) self (t .self) (r .running .judged .parents .imported .setting)
+            (t .asked .running .judged .parents .imported .setting) g h x (t .pack) o (t .home) l n k (t .class) q (t .is) v in
             subst (λ (i : ℕ). Passes (storeLimits s) (installed (storeLimits s) es) self b (record { home = x; number = i })) (sym (y .1))
             (p es self r x (subst (λ (a : Home). HomeIs f s end es self a x) (y .0) o) k (subst (λ (i : ℕ). at (x .pack .classes) i ≡ some k) (y .1) q))
 
   -- parents: so far none was asked
-  pub first-none : FirstPass f s end b h n 0
+  pub first-none : FirstPass f s end d b h n 0
   first-none es self r x o k e j w = absurd (omega arith)
 
   -- all were
-  pub first-all : (count i : ℕ) → CountIs f s h n count → count ≤ i → FirstPass f s end b h n i → ParentsPass f s end b h n true
+  pub first-all : (count i : ℕ) → CountIs f s h n count → count ≤ i → FirstPass f s end d b h n i → ParentsPass f s end d b h n true
   first-all count i q z w es self r x o k e j p at-j = w es self r x o k e j
-      (omega (arith, q end es self (r .judged) x o k e, at-below (k .parents) j p at-j)) p at-j
+      (omega (arith, q end es self (r .running .judged) x o k e, at-below (k .parents) j p at-j)) p at-j
 
   -- parent i
   module _ (count i : ℕ) (q : CountIs f s h n count) (z : i < count) (c : ClassSpot) (p : ParentIs f s h n i c) where
     -- where it stands
-    named-of : (t : WalkThere f s end b h n) → (p : ClassNumber) × NamedAt f s end (t .entries) (t .self) (t .pack) p c ×
+    named-of : (t : WalkThere f s end d b h n) → (p : ClassNumber) × NamedAt f s end (t .entries) (t .self) (t .pack) p c ×
         (rank (c .home) (c .number) < rank h n)
     named-of t =
-        let m = at-split (t .class .parents) i (omega (arith, q end (t .entries) (t .self) (t .asked .judged) (t .pack) (t .home) (t .class) (t .is))) in
-        let w = p end (t .entries) (t .self) (t .asked .judged) (t .pack) (t .home) (t .class) (t .is) (m .0) (m .1) in
+        let j = t .asked .running .judged in
+        let m = at-split (t .class .parents) i (omega (arith, q end (t .entries) (t .self) j (t .pack) (t .home) (t .class) (t .is))) in
+        let w = p end (t .entries) (t .self) j (t .pack) (t .home) (t .class) (t .is) (m .0) (m .1) in
         (m .0, w .0, w .1)
 
-    pub parent-walk : WalkThere f s end b h n → WalkThere f s end b (c .home) (c .number)
+    pub parent-walk : WalkThere f s end d b h n → WalkThere f s end d b (c .home) (c .number)
     parent-walk t =
         let w = (named-of t) .1 in
         record { entries = t .entries; self = t .self; asked = t .asked; pack = w .pack; home = w .home; class = w .class; is = w .is }
 
-    pub parent-rank : WalkThere f s end b h n → rank (c .home) (c .number) < rank h n
+    pub parent-rank : WalkThere f s end d b h n → rank (c .home) (c .number) < rank h n
     parent-rank t = (named-of t) .2
 
     -- it does not pass
-    pub parents-no : ClassPasses f s end b (c .home) (c .number) false → ParentsPass f s end b h n false
+    pub parents-no : ClassPasses f s end d b (c .home) (c .number) false → ParentsPass f s end d b h n false
     parents-no w es self r x o k e =
-        let m = at-split (k .parents) i (omega (arith, q end es self (r .judged) x o k e)) in
-        let u = (p end es self (r .judged) x o k e (m .0) (m .1)) .0 in
+        let m = at-split (k .parents) i (omega (arith, q end es self (r .running .judged) x o k e)) in
+        let u = (p end es self (r .running .judged) x o k e (m .0) (m .1)) .0 in
         (i, m .0, m .1, record { home = u .pack; number = c .number }, u .named, w es self r (u .pack) (u .home) (u .class) (u .is))
 
     -- it passes, as those before it
-    pub first-more : ClassPasses f s end b (c .home) (c .number) true → FirstPass f s end b h n i → FirstPass f s end b h n (i + 1)
-    first-more y w es self r x o k e j less p′ at-j d named = elim (decLe i j) [
-      | no a ↦ w es self r x o k e j (omega arith) p′ at-j d named
+    pub first-more : ClassPasses f s end d b (c .home) (c .number) true → FirstPass f s end d b h n i → FirstPass f s end d b h n (i + 1)
+    first-more y w es self r x o k e j less p′ at-j g named = elim (decLe i j) [
+      | no a ↦ w es self r x o k e j (omega arith) p′ at-j g named
       | yes a ↦
           let last : j ≡ i = omega arith in
-          let u = (p end es self (r .judged) x o k e p′ (subst (λ (j : ℕ). at (k .parents) j ≡ some p′) last at-j)) .0 in
-          let same : record { home = u .pack; number = c .number } ≡ d = Option·some-injective _ _ (sym (u .named) ∙ named) in
+          let u = (p end es self (r .running .judged) x o k e p′ (subst (λ (j : ℕ). at (k .parents) j ≡ some p′) last at-j)) .0 in
+          let same : record { home = u .pack; number = c .number } ≡ g = Option·some-injective _ _ (sym (u .named) ∙ named) in
           subst (λ (a : ClassAt). Passes (storeLimits s) (installed (storeLimits s) es) self b a) same (y es self r (u .pack) (u .home) (u .class) (u .is))
     ]

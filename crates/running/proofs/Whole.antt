@@ -22,9 +22,10 @@ use Rattle.places.proofs.Inverse.{reads-counted, reads-u1}
 use Rattle.places.proofs.Track.{many-length, counted-inside}
 use Rattle.files.specs.Say.{Readable, ClassesAt}
 use Rattle.files.proofs.Walks.{classes-read}
-use Rattle.homes.specs.Homes.{ownHome}
+use Rattle.homes.specs.Homes.{ownHome, DomainAt}
 use Rattle.homes.specs.Homes as homes
 use Rattle.homes.specs.Found.{Indexed}
+use Rattle.homes.proofs.Domains.{aid-inside}
 use Rattle.bits.specs.Bits.{bitAt}
 use Rattle.store.proofs.Stand.{entries-to}
 use Rattle.classes.specs.Say.{Judged, Kind0Is, OwnThere}
@@ -33,8 +34,9 @@ use Rattle.chains.specs.Say.{Running, RunningThere, RunsIs}
 use Rattle.chains.specs.Names.{NamesIs, Room}
 use Rattle.chains.specs.declared.Names.{Names}
 use Rattle.chains.specs.declared.RunsFound.the-variants.{Nothing}
-use Rattle.running.specs.Say.{WalkThere, Passes, Fails, Answers, ClassPasses, OwnPasses, JudgedThere, RunningIs}
+use Rattle.running.specs.Say.{WalkThere, Passes, Fails, Answers, ClassPasses, OwnClassThere, OwnPasses, JudgedThere, RunningIs}
 use Rattle.running.specs.Walk.{visitFor, SmallNames, WalkFrom, key, seenLength, SeenPass}
+use Rattle.running.specs.declared.OwnClass.{OwnClass}
 use Rattle.running.specs.declared.visited.Visit.{Visit}
 use Rattle.running.proofs.Keys.{key-small}
 use Rattle.slots.specs.Slots.{SmallHome}
@@ -73,9 +75,13 @@ nothing-runs l is b a z = go (recordOf a) refl
 interface-allows : (l : Limits) (is : List Installed) (b a : ClassAt) → isKind0 b ≡ false → runningAllows l is b a ≡ true
 interface-allows l is b a z = nothing-runs l is b a (λ n. rw z)
 
-module _ (f s : Bytes) (end b : ℕ) where
-  pub own-interface : Kind0Is f s (ownHome end) b false → OwnPasses f s end b true
-  own-interface q es self j k e =
+-- the earlier entries end inside the store
+pub own-end : (f s : Bytes) (end b : ℕ) → OwnThere f s end b → end ≤ length s
+own-end f s end b t = (entries-to s openingLength (t .0) end (t .2 .parents .imported .setting .stand)) .1
+
+module _ (f s : Bytes) (end d b : ℕ) where
+  pub own-interface : Kind0Is f s (ownHome end) b false → OwnPasses f s end d b true
+  own-interface q es self j l k e =
       sym (all-true (runningAllows (storeLimits s) (installed (storeLimits s) es) (own self b)) (ancestorsUpTo (installed (storeLimits s) es) (storeLimits
       s .depth) (own self b))
       (λ a m. interface-allows (storeLimits s) (installed (storeLimits s) es) (own self b) a (sym (q end es self j self homes.own k e))))
@@ -85,8 +91,8 @@ module _ (f s : Bytes) (end b : ℕ) where
     own-running es self j k e = record { judged = j; kind0 = of-true (sym (q end es self j self homes.own k e)) }
 
     -- the chain has no method
-    pub own-nothing : ((x : ℕ) → RunsIs f s end b x Nothing) → OwnPasses f s end b true
-    own-nothing w es self j k e =
+    pub own-nothing : ((x : ℕ) → RunsIs f s end b x Nothing) → OwnPasses f s end d b true
+    own-nothing w es self j l k e =
         sym (all-true (runningAllows (storeLimits s) (installed (storeLimits s) es) (own self b)) (ancestorsUpTo (installed (storeLimits s) es)
         (storeLimits s .depth) (own self b))
         (λ a m. nothing-runs (storeLimits s) (installed (storeLimits s) es) (own self b) a (λ n. w n es self (own-running es self j k e))))
@@ -94,11 +100,11 @@ module _ (f s : Bytes) (end b : ℕ) where
     pub own-runs : OwnThere f s end b → RunningThere f s end b
     own-runs t = (t .0, t .1, own-running (t .0) (t .1) (t .2) (t .3) (t .4))
 
-    pub own-walk : OwnThere f s end b → WalkThere f s end b (ownHome end) b
-    own-walk t = record {
+    pub own-walk : (t : OwnThere f s end b) → DomainAt s d (t .1) → WalkThere f s end d b (ownHome end) b
+    own-walk t l = record {
       entries = t .0;
       self = t .1;
-      asked = own-running (t .0) (t .1) (t .2) (t .3) (t .4);
+      asked = record { running = own-running (t .0) (t .1) (t .2) (t .3) (t .4); loads = l };
       pack = t .1;
       home = homes.own;
       class = t .3;
@@ -106,8 +112,8 @@ module _ (f s : Bytes) (end b : ℕ) where
     }
 
     -- the walk's answer
-    pub own-answer : (r : Bool) → ClassPasses f s end b (ownHome end) b r → OwnPasses f s end b r
-    own-answer r p es self j k e = go r (p es self (own-running es self j k e) self homes.own k e)
+    pub own-answer : (r : Bool) → ClassPasses f s end d b (ownHome end) b r → OwnPasses f s end d b r
+    own-answer r p es self j l k e = go r (p es self (record { running = own-running es self j k e; loads = l }) self homes.own k e)
       where
         go : (r : Bool) → Answers (Passes (storeLimits s) (installed (storeLimits s) es) self b (own self b)) (Fails (storeLimits s) (installed
             (storeLimits s) es) self b (own self b)) r →
@@ -118,16 +124,13 @@ module _ (f s : Bytes) (end b : ℕ) where
         go false w = sym (all-false _ (ancestorsUpTo (installed (storeLimits s) es) (storeLimits s .depth) (own self b)) (w .0)
             (below-ancestors (installed (storeLimits s) es) (storeLimits s .depth) (own self b) (w .0) (own-depth f s end b es self j k e) (w .1)) (w .2))
 
-  -- the earlier entries end inside the store
-  pub own-end : OwnThere f s end b → end ≤ length s
-  own-end t = (entries-to s openingLength (t .0) end (t .2 .parents .imported .setting .stand)) .1
-
   -- no class was seen
-  pub seen-none : (seen : Bytes) → seenLength s ≤ length seen → ((j : ℕ) → j / 8 < end * 3 / 88 + 5 → bitAt seen j ≡ false) → SeenPass f s end b seen
+  pub seen-none : (seen : Bytes) → seenLength s ≤ length seen → ((j : ℕ) → j / 8 < end * 3 / 88 + 5 → bitAt seen j ≡ false) →
+      SeenPass f s end d b seen
   seen-none seen z w = record {
     room = z;
     hold = λ h n e es self r x o k q.
-        let i = key-small f s end es self (r .judged .parents .imported .setting) h x o n k q in
+        let i = key-small f s end es self (r .running .judged .parents .imported .setting) h x o n k q in
         absurd (true-false (sym e ∙ w (key h n) (omega (arith, i))));
   }
     where
@@ -151,22 +154,27 @@ names-small f s names w n z l t =
 pub own-small : (end : ℕ) → end ≤ 65535 → SmallHome (ownHome end)
 own-small end z = record { from = omega arith; to = omega arith; before = z }
 
--- the visit of an own class
-abbrev pub ownVisit : Names → Visit
-ownVisit w = visitFor w (ownHome (w .end)) (w .own)
+-- so does the place of its package's domain
+pub domain-small : {s : Bytes} {d : ℕ} {self : Installed} → DomainAt s d self → length s ≤ 65535 → d ≤ 65535
+domain-small l z = omega (arith, aid-inside (l .there))
 
-pub own-from : (f s : Bytes) (index names : List ℕ) (w : Names) → Kind0Is f s (ownHome (w .end)) (w .own) true → OwnThere f s (w .end) (w .own) →
-    NamesIs f s names w → length names ≡ 640 → Indexed s (w .end) index → length s ≤ 65535 → WalkFrom f s index names (ownVisit w)
-own-from f s index names w q t n z i l = record {
-  there = own-walk f s (w .end) (w .own) q t;
+-- the visit of an own class
+abbrev pub ownVisit : OwnClass → Visit
+ownVisit o = visitFor (o .names) (o .domain) (ownHome (o .names .end)) (o .names .own)
+
+pub own-from : (f s : Bytes) (index names : List ℕ) (o : OwnClass) → Kind0Is f s (ownHome (o .names .end)) (o .names .own) true → OwnClassThere f s o →
+    NamesIs f s names (o .names) → length names ≡ 640 → Indexed s (o .names .end) index → length s ≤ 65535 → WalkFrom f s index names (ownVisit o)
+own-from f s index names o q t n z i l = record {
+  there = own-walk f s (o .names .end) (o .domain) (o .names .own) q (t .0) (t .1);
   chain = record { stop = n .stop; leaves = n .leaves; own = n .own; stored = n .stored };
   size = z;
   indexed = i;
   small = l;
 }
 
-pub own-seen : (f s : Bytes) (w : Names) (v : Visit) (seen : Bytes) → v ≡ ownVisit w → SeenPass f s (w .end) (w .own) seen → SeenPass f s (v .end) (v .own) seen
-own-seen f s w v seen e m = subst (λ (u : Visit). SeenPass f s (u .end) (u .own) seen) (sym e) m
+pub own-seen : (f s : Bytes) (o : OwnClass) (v : Visit) (seen : Bytes) → v ≡ ownVisit o → SeenPass f s (o .names .end) (o .domain) (o .names .own) seen →
+    SeenPass f s (v .end) (v .domain) (v .own) seen
+own-seen f s o v seen e m = subst (λ (u : Visit). SeenPass f s (u .end) (u .domain) (u .own) seen) (sym e) m
 
 -- a fact of an own class by its numbers
 pub at-own : (q : ℕ → ℕ → Type 0) (x y end b : ℕ) → x ≡ end → y ≡ b → q end b → q x y
@@ -188,66 +196,73 @@ ownTest s es self i k = all (runningAllows (storeLimits s) (installed (storeLimi
     (storeLimits s .depth) (own self i))
 
 -- question 20 is that of the own classes from b on, and so many there are
-pub record OwnLeft (f s : Bytes) (end count b : ℕ) : Type 0 where
+pub record OwnLeft (f s : Bytes) (end d count b : ℕ) : Type 0 where
   pub few : b ≤ count
-  pub left : (es : List Entry) (self : Installed) → Judged f s end es self → q20-running (storeLimits s) (installed (storeLimits s) es) self ≡ allFrom
-      (ownTest s es self) b (drop b (self .pack .classes))
+  pub left : (es : List Entry) (self : Installed) → Judged f s end es self → DomainAt s d self →
+      q20-running (storeLimits s) (installed (storeLimits s) es) self ≡ allFrom (ownTest s es self) b (drop b (self .pack .classes))
   pub count-is : (l : Limits) (p : Package) → readFile l f ≡ some p → count ≡ length (p .classes)
 
-module _ (f s : Bytes) (end : ℕ) where
-  pub judged-reads : JudgedThere f s end → Readable f
+module _ (f s : Bytes) (end d : ℕ) where
+  pub judged-reads : JudgedThere f s end d → Readable f
   judged-reads t = (storeLimits s, t .1 .pack, t .2 .imported .setting .reads)
 
-  judged-there : (t : JudgedThere f s end) → Judged f s end (t .0) (t .1)
+  judged-there : (t : JudgedThere f s end d) → Judged f s end (t .0) (t .1)
   judged-there t = record { parents = t .2; q14 = t .3 }
 
   module _ (at-classes : ℕ) (q : ClassesAt f at-classes) where
-    pub classes-inside : JudgedThere f s end → at-classes < length f
+    pub classes-inside : JudgedThere f s end d → at-classes < length f
     classes-inside t =
         let p = t .1 .pack in
         counted-inside (class (storeLimits s) (p .domains)) f mostClasses at-classes (p .classes) (length f) (classes-read q (storeLimits s) p (t .2
         .imported .setting .reads))
 
-    pub own-start : (count : ℕ) → count ≡ getD f at-classes 0 → OwnLeft f s end count 0
+    pub own-start : (count : ℕ) → count ≡ getD f at-classes 0 → OwnLeft f s end d count 0
     own-start count z = record {
       few = omega arith;
-      left = λ es self j. q20-by-class (storeLimits s) (installed (storeLimits s) es) self;
+      left = λ es self j l. q20-by-class (storeLimits s) (installed (storeLimits s) es) self;
       count-is = λ l p r.
           let c = reads-counted mostClasses u1 (class l (p .domains)) steady-u1 f at-classes (p .classes) (length f) (classes-read q l p r) in
           let w = reads-u1 f at-classes (c .number) (c .place) (c .count) in
           z ∙ w .byte ∙ sym (many-length (class l (p .domains)) (steady-class l (p .domains)) (c .number) f (c .place) (p .classes) (length f) (c .list));
     }
 
-  module _ (count b : ℕ) (inv : OwnLeft f s end count b) where
+  module _ (count b : ℕ) (inv : OwnLeft f s end d count b) where
     own-count : (es : List Entry) (self : Installed) → Judged f s end es self → count ≡ length (self .pack .classes)
     own-count es self j = inv .count-is (storeLimits s) (self .pack) (j .parents .imported .setting .reads)
 
-    pub own-done : count ≤ b → RunningIs f s end true
-    own-done z es self p q =
+    pub own-done : count ≤ b → RunningIs f s end d true
+    own-done z es self p q l =
         let j : Judged f s end es self = record { parents = p; q14 = q } in
-        let d : drop b (self .pack .classes) ≡ [] = drop-of-length-le (self .pack .classes) {i = b} (omega (arith, own-count es self j)) in
-        sym (inv .left es self j ∙ ap (allFrom (ownTest s es self) b) d)
+        let e : drop b (self .pack .classes) ≡ [] = drop-of-length-le (self .pack .classes) {i = b} (omega (arith, own-count es self j)) in
+        sym (inv .left es self j l ∙ ap (allFrom (ownTest s es self) b) e)
 
     module _ (z : b < count) where
-      pub own-there′ : JudgedThere f s end → OwnThere f s end b
-      own-there′ t =
+      own-loads : JudgedThere f s end d → (u : OwnThere f s end b) × DomainAt s d (u .1)
+      own-loads t =
           let j = judged-there t in
           let m = at-split (t .1 .pack .classes) b (omega (arith, own-count (t .0) (t .1) j)) in
-          (t .0, t .1, j, m .0, m .1)
+          ((t .0, t .1, j, m .0, m .1), t .4)
 
-      own-next : (es : List Entry) (self : Installed) (j : Judged f s end es self) (r : Bool) → OwnPasses f s end b r →
+      pub own-there′ : JudgedThere f s end d → OwnThere f s end b
+      own-there′ t = (own-loads t) .0
+
+      -- for the names found
+      pub own-class : (w : Names) → w .end ≡ end → w .own ≡ b → JudgedThere f s end d → OwnClassThere f s (record { names = w; domain = d })
+      own-class w e o t = at-own (λ (x y : ℕ). (u : OwnThere f s x y) × DomainAt s d (u .1)) (w .end) (w .own) end b e o (own-loads t)
+
+      own-next : (es : List Entry) (self : Installed) (j : Judged f s end es self) → DomainAt s d self → (r : Bool) → OwnPasses f s end d b r →
           q20-running (storeLimits s) (installed (storeLimits s) es) self ≡ (r && allFrom (ownTest s es self) (suc b) (drop (suc b) (self .pack .classes)))
-      own-next es self j r q =
+      own-next es self j l r q =
           let m = at-split (self .pack .classes) b (omega (arith, own-count es self j)) in
-          inv .left es self j ∙ ap (allFrom (ownTest s es self) b) (m .2) ∙ ap (λ (v : Bool). v && allFrom (ownTest s es self) (suc b) (drop (suc b) (self
-          .pack .classes))) (sym (q es self j (m .0) (m .1)))
+          inv .left es self j l ∙ ap (allFrom (ownTest s es self) b) (m .2) ∙ ap (λ (v : Bool). v && allFrom (ownTest s es self) (suc b) (drop (suc b) (self
+          .pack .classes))) (sym (q es self j l (m .0) (m .1)))
 
-      pub own-no : OwnPasses f s end b false → RunningIs f s end false
-      own-no q es self p w = sym (own-next es self (record { parents = p; q14 = w }) false q)
+      pub own-no : OwnPasses f s end d b false → RunningIs f s end d false
+      own-no q es self p w l = sym (own-next es self (record { parents = p; q14 = w }) l false q)
 
-      pub own-yes : OwnPasses f s end b true → OwnLeft f s end count (b + 1)
+      pub own-yes : OwnPasses f s end d b true → OwnLeft f s end d count (b + 1)
       own-yes q = record {
         few = omega arith;
-        left = λ es self j. rw (add-one b) (own-next es self j true q);
+        left = λ es self j l. rw (add-one b) (own-next es self j l true q);
         count-is = inv .count-is;
       }

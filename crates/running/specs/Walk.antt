@@ -1,14 +1,14 @@
 -- The walk of question 20 over a class and its ancestors, each visited once. Assumes nothing.
 --
--- visitHome, visitNames v == the home of the class that is visited, the names of the own class; visitFor w h n == the visit of class n at home h
+-- visitHome, visitNames v == the home of the class that is visited, the names of the own class; visitFor w d h n == the visit of class n at home h
 -- SmallNames w           == the numbers of names fit two bytes
 -- VisitThere f s v       == the class that is visited is there, for the own class; VisitPlaced f s v == its record stands at the place told
 -- PlacedIs f s v w       == w is the visit v with that place
 -- ParentVisit f s v i w  == w is the visit of its parent with number i, which stands before it
 -- WalkFrom f s index names v == what the walk may use: the class, the names of the own class, the index of the earlier entries
 -- key h n                == the number of the bit of class n of the package at home h: c classes, 32 at most, make an entry of 22 + 3 * c bytes or more
--- SeenPass f s end b seen == there is a bit for each class, and where it is set the class and all its ancestors pass for own class b
--- ParentsPass f s end b h n r == so do all parents of class n, and their ancestors, or not
+-- SeenPass f s end d b seen == there is a bit for each class, and where it is set the class and all its ancestors pass for own class b
+-- ParentsPass f s end d b h n r == so do all parents of class n, and their ancestors, or not
 use Prim.Native.Nat.{ℕ, _+_, _*_, _/_, _≤_, _<_}
 use mathlib.Core.Path.{_≡_}
 use mathlib.Core.Bool.{Bool, true}
@@ -42,12 +42,23 @@ pub record SmallNames (w : Names) : Type 0 where
   pub stored : w .stored ≤ 65535
   pub all : w .all ≤ 65535
 
-abbrev pub visitFor : Names → Home → ℕ → Visit
-visitFor w h n = record { end = w .end; own = w .own; stored = w .stored; all = w .all; from = h .from; to = h .to; before = h .before; number = n; place = 0 }
+abbrev pub visitFor : Names → ℕ → Home → ℕ → Visit
+visitFor w d h n = record {
+  end = w .end;
+  domain = d;
+  own = w .own;
+  stored = w .stored;
+  all = w .all;
+  from = h .from;
+  to = h .to;
+  before = h .before;
+  number = n;
+  place = 0;
+}
 
 -- the class that is visited
 abbrev pub VisitThere : Bytes → Bytes → Visit → Type 0
-VisitThere f s v = WalkThere f s (v .end) (v .own) (visitHome v) (v .number)
+VisitThere f s v = WalkThere f s (v .end) (v .domain) (v .own) (visitHome v) (v .number)
 
 -- and its record
 pub record VisitPlaced (f s : Bytes) (v : Visit) : Type 0 where
@@ -58,6 +69,7 @@ pub record VisitPlaced (f s : Bytes) (v : Visit) : Type 0 where
 abbrev pub at-place : Visit → ℕ → Visit
 at-place v i = record {
   end = v .end;
+  domain = v .domain;
   own = v .own;
   stored = v .stored;
   all = v .all;
@@ -78,7 +90,7 @@ pub record ParentPlaced (f s : Bytes) (v : Visit) (i : ℕ) : Type 0 where
 
 -- the visit of another class for the same own class
 abbrev pub visitOf : Visit → ClassSpot → Visit
-visitOf v c = visitFor (visitNames v) (c .home) (c .number)
+visitOf v c = visitFor (visitNames v) (v .domain) (c .home) (c .number)
 
 abbrev pub ParentVisit : Bytes → Bytes → Visit → ℕ → Visit → Type 0
 ParentVisit f s v i w = (c : ClassSpot) × (w ≡ visitOf v c) × ParentIs f s (visitHome v) (v .number) i c
@@ -100,19 +112,19 @@ abbrev pub seenLength : Bytes → ℕ
 seenLength s = length s * 3 / 88 + 5
 
 -- where a bit is set the class and all its ancestors pass for own class b
-pub record SeenPass (f s : Bytes) (end b : ℕ) (seen : Bytes) : Type 0 where
+pub record SeenPass (f s : Bytes) (end d b : ℕ) (seen : Bytes) : Type 0 where
   pub room : seenLength s ≤ length seen
-  pub hold : (h : Home) (n : ℕ) → bitAt seen (key h n) ≡ true → OfWalk f s end b h n λ es self x k. Passes (storeLimits s) (installed (storeLimits s) es)
+  pub hold : (h : Home) (n : ℕ) → bitAt seen (key h n) ≡ true → OfWalk f s end d b h n λ es self x k. Passes (storeLimits s) (installed (storeLimits s) es)
       self b (record { home = x; number = n })
 
 -- the first i parents of class n and their ancestors pass
-abbrev pub FirstPass : Bytes → Bytes → ℕ → ℕ → Home → ℕ → ℕ → Type 0
-FirstPass f s end b h n i = OfWalk f s end b h n λ es self x k. (j : ℕ) → j < i → (p : ClassNumber) → at (k .parents) j ≡ some p →
+abbrev pub FirstPass : Bytes → Bytes → ℕ → ℕ → ℕ → Home → ℕ → ℕ → Type 0
+FirstPass f s end d b h n i = OfWalk f s end d b h n λ es self x k. (j : ℕ) → j < i → (p : ClassNumber) → at (k .parents) j ≡ some p →
     (c : ClassAt) → classNamed (installed (storeLimits s) es) x p ≡ some c → Passes (storeLimits s) (installed (storeLimits s) es) self b c
 
 -- all do, or one does not
-abbrev pub ParentsPass : Bytes → Bytes → ℕ → ℕ → Home → ℕ → Bool → Type 0
-ParentsPass f s end b h n r = OfWalk f s end b h n λ es self x k. Answers
+abbrev pub ParentsPass : Bytes → Bytes → ℕ → ℕ → ℕ → Home → ℕ → Bool → Type 0
+ParentsPass f s end d b h n r = OfWalk f s end d b h n λ es self x k. Answers
     ((j : ℕ) (p : ClassNumber) → at (k .parents) j ≡ some p → (c : ClassAt) → classNamed (installed (storeLimits s) es) x p ≡ some c →
     Passes (storeLimits s) (installed (storeLimits s) es) self b c)
     ((j : ℕ) × (p : ClassNumber) × (at (k .parents) j ≡ some p) × (c : ClassAt) × (classNamed (installed (storeLimits s) es) x p ≡ some c) × Fails

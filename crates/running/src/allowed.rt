@@ -3,47 +3,64 @@ use chains::Names;
 use chains::RunsFound;
 use fields::wide;
 use homes::Home;
+use policies::RightsPlace;
 ghost use mathlib.Core.Path.{_≡_};
 ghost use lib.ListN.{length};
+ghost use Rattle.policies.specs.Rows.{rowLength};
 ghost use Rattle.chains.specs.Names.{NamesIs};
 ghost use Rattle.running.specs.Say.{BothThere, AllowsAllOf, MethodThere};
 ghost use Rattle.running.specs.Rows.{RowFor, RowTurned, BesideIs};
 
-// Does the method at place i of the file at home g allow all that the one at place j of the file at home h allows?
+// A method where it stands: the home of its file, and its place there.
+pub struct MethodSpot {
+    pub home: Home,
+    pub place: usize,
+}
+
+// Does the method x allow all that the method y allows? The domain of the file being judged stands at place d of the store.
 pub fn allows_all_of<'a>(
     f: &'a [u8],
     s: &'a [u8],
-    g: Home,
-    i: usize,
-    h: Home,
-    j: usize,
-    row: &mut [u8; 32],
+    d: usize,
+    x: MethodSpot,
+    y: MethodSpot,
+    row: &mut [u8; 33],
 ) -> bool
-    requires { ⌜ BothThere (now f) (now s) g i h j ⌝ }
-    requires { ⌜ RowFor (now f) (now s) g h (now row) ⌝ }
-    ensures { λ r. ⌜ AllowsAllOf (now (f .entry)) (now (s .entry)) g i h j r ⌝ }
-    ensures { λ _. ⌜ RowFor (now (f .entry)) (now (s .entry)) g h (now (row .exit)) ⌝ }
+    requires { ⌜ BothThere (now f) (now s) d x y ⌝ }
+    requires { ⌜ RowFor (now f) (now s) d (x .home) (y .home) (now row) ⌝ }
+    ensures { λ r. ⌜ AllowsAllOf (now (f .entry)) (now (s .entry)) d x y r ⌝ }
+    ensures { λ _. ⌜ RowFor (now (f .entry)) (now (s .entry)) d (x .home) (y .home) (now (row .exit)) ⌝ }
 {
-    let a = homes::file_of(f, s, g);
-    let b = homes::file_of(f, s, h);
-    let p = files::policy_of(a, i);
-    let q = files::policy_of(b, j);
-    let u = files::domains_at(a);
-    let v = files::domains_at(b);
-    policies::rows::admits_in_turn(a, u, p, b, v, q, row)
+    let a = homes::file_of(f, s, x.home);
+    let b = homes::file_of(f, s, y.home);
+    let p = RightsPlace {
+        domains: files::domains_at(a),
+        policy: files::policy_of(a, x.place),
+    };
+    let q = RightsPlace {
+        domains: files::domains_at(b),
+        policy: files::policy_of(b, y.place),
+    };
+    let own = homes::domain_of(s, x.home, d);
+    let other = homes::domain_of(s, y.home, d);
+    inclusion::admits_in_turn(a, own, p, b, other, q, row)
 }
 
 // The row, for the file at home h in place of that at home g: no number is known, where they are not the same.
-pub fn turn_row(row: &mut [u8; 32], g: Home, h: Home)
-    requires { ⌜ length (now row) ≡ 32 ⌝ }
+pub fn turn_row(row: &mut [u8; 33], g: Home, h: Home)
+    requires { ⌜ length (now row) ≡ rowLength ⌝ }
     ensures { λ _. ⌜ RowTurned (now (row .entry)) (now (row .exit)) g h ⌝ }
 {
     if g.from != h.from {
-        policies::rows::empty_row(row);
+        inclusion::empty_row(row);
         return;
     }
     if g.to != h.to {
-        policies::rows::empty_row(row);
+        inclusion::empty_row(row);
+        return;
+    }
+    if g.before != h.before {
+        inclusion::empty_row(row);
         return;
     }
 }

@@ -4,6 +4,7 @@
 pub mod allowed;
 pub mod visited;
 
+use allowed::MethodSpot;
 use chains::Names;
 use chains::RunsFound;
 use classes::ClassSpot;
@@ -18,17 +19,23 @@ ghost use Prim.Native.Nat.{_≤_};
 ghost use lib.ListN.{length};
 ghost use Rattle.homes.specs.Homes.{ownHome};
 ghost use Rattle.homes.specs.Found.{Indexed};
-ghost use Rattle.classes.specs.Say.{OwnThere, Kind0Is};
+ghost use Rattle.classes.specs.Say.{Kind0Is};
 ghost use Rattle.chains.specs.Names.{NamesIs};
 ghost use Rattle.slots.specs.Slots.{SlotsTrue};
-ghost use Rattle.running.specs.Say.{MethodsPass, ClassPasses, OwnPasses, JudgedThere, RunningIs};
+ghost use Rattle.running.specs.Say.{MethodsPass, ClassPasses, OwnClassThere, OwnPasses, JudgedThere, RunningIs};
 ghost use Rattle.running.specs.Walk.{visitHome, visitNames, VisitPlaced, WalkFrom, seenLength, SeenPass, ParentsPass};
+
+// An own class of kind 0: its names, and where the domain of its package stands in the store.
+pub struct OwnClass {
+    pub names: Names,
+    pub domain: usize,
+}
 
 // Do all methods of the class pass for the own class?
 fn methods_pass<'a>(f: &'a [u8], s: &'a [u8], names: &[u16; 640], v: Visit) -> bool
     requires { ⌜ VisitPlaced (now f) (now s) v ⌝ }
     requires { ⌜ NamesIs (now f) (now s) (now names) (visitNames v) × (length (now names) ≡ 640) ⌝ }
-    ensures { λ r. ⌜ MethodsPass (now (f .entry)) (now (s .entry)) (v .end) (v .own) (visitHome v) (v .number) r ⌝ }
+    ensures { λ r. ⌜ MethodsPass (now (f .entry)) (now (s .entry)) (v .end) (v .domain) (v .own) (visitHome v) (v .number) r ⌝ }
 {
     let w = names_of(v);
     let h = home_of(v);
@@ -36,13 +43,15 @@ fn methods_pass<'a>(f: &'a [u8], s: &'a [u8], names: &[u16; 640], v: Visit) -> b
     let start = files::methods_of(g, v.place as usize);
     let mut left = wide(g[start]);
     let mut c = start + 1;
-    let mut row = [255u8; 32];
+    let mut row = [255u8; 33];
     let mut last = h;
     while 0 < left {
         match allowed::method_beside(f, s, names, w, h, c) {
             RunsFound::At(x, m) => {
                 allowed::turn_row(&mut row, last, x);
-                if !allowed::allows_all_of(f, s, x, m, h, c, &mut row) {
+                let runs = MethodSpot { home: x, place: m };
+                let asked = MethodSpot { home: h, place: c };
+                if !allowed::allows_all_of(f, s, v.domain as usize, runs, asked, &mut row) {
                     return false;
                 }
                 last = x;
@@ -62,7 +71,7 @@ fn methods_pass<'a>(f: &'a [u8], s: &'a [u8], names: &[u16; 640], v: Visit) -> b
 fn methods_apart<'a>(f: &'a [u8], s: &'a [u8], names: &[u16; 640], v: Visit, budget: usize) -> bool
     requires { ⌜ VisitPlaced (now f) (now s) v ⌝ }
     requires { ⌜ NamesIs (now f) (now s) (now names) (visitNames v) × (length (now names) ≡ 640) ⌝ }
-    ensures { λ r. ⌜ MethodsPass (now (f .entry)) (now (s .entry)) (v .end) (v .own) (visitHome v) (v .number) r ⌝ }
+    ensures { λ r. ⌜ MethodsPass (now (f .entry)) (now (s .entry)) (v .end) (v .domain) (v .own) (visitHome v) (v .number) r ⌝ }
 {
     if 0 < budget {
         return methods_apart(f, s, names, v, budget - 1);
@@ -81,10 +90,10 @@ fn class_passes<'a>(
     v: Visit,
 ) -> bool
     requires { ⌜ WalkFrom (now f) (now s) (now index) (now names) v ⌝ }
-    requires { ⌜ SeenPass (now f) (now s) (v .end) (v .own) (now seen) ⌝ }
+    requires { ⌜ SeenPass (now f) (now s) (v .end) (v .domain) (v .own) (now seen) ⌝ }
     requires { ⌜ SlotsTrue (now f) (now s) (now slots) ⌝ }
-    ensures { λ r. ⌜ ClassPasses (now (f .entry)) (now (s .entry)) (v .end) (v .own) (visitHome v) (v .number) r ⌝ }
-    ensures { λ _. ⌜ SeenPass (now (f .entry)) (now (s .entry)) (v .end) (v .own) (now (seen .exit)) ⌝ }
+    ensures { λ r. ⌜ ClassPasses (now (f .entry)) (now (s .entry)) (v .end) (v .domain) (v .own) (visitHome v) (v .number) r ⌝ }
+    ensures { λ _. ⌜ SeenPass (now (f .entry)) (now (s .entry)) (v .end) (v .domain) (v .own) (now (seen .exit)) ⌝ }
     ensures { λ _. ⌜ SlotsTrue (now (f .entry)) (now (s .entry)) (now (slots .exit)) ⌝ }
 {
     let bit = v.before as usize * 3 / 11 + v.number as usize;
@@ -113,10 +122,10 @@ fn parents_pass<'a>(
     v: Visit,
 ) -> bool
     requires { ⌜ WalkFrom (now f) (now s) (now index) (now names) v × VisitPlaced (now f) (now s) v ⌝ }
-    requires { ⌜ SeenPass (now f) (now s) (v .end) (v .own) (now seen) ⌝ }
+    requires { ⌜ SeenPass (now f) (now s) (v .end) (v .domain) (v .own) (now seen) ⌝ }
     requires { ⌜ SlotsTrue (now f) (now s) (now slots) ⌝ }
-    ensures { λ r. ⌜ ParentsPass (now (f .entry)) (now (s .entry)) (v .end) (v .own) (visitHome v) (v .number) r ⌝ }
-    ensures { λ _. ⌜ SeenPass (now (f .entry)) (now (s .entry)) (v .end) (v .own) (now (seen .exit)) ⌝ }
+    ensures { λ r. ⌜ ParentsPass (now (f .entry)) (now (s .entry)) (v .end) (v .domain) (v .own) (visitHome v) (v .number) r ⌝ }
+    ensures { λ _. ⌜ SeenPass (now (f .entry)) (now (s .entry)) (v .end) (v .domain) (v .own) (now (seen .exit)) ⌝ }
     ensures { λ _. ⌜ SlotsTrue (now (f .entry)) (now (s .entry)) (now (slots .exit)) ⌝ }
 {
     let count = visited::parents_in(f, s, v);
@@ -131,7 +140,7 @@ fn parents_pass<'a>(
     true
 }
 
-// Question 20 of an own class of kind 0, whose names are at hand. Where no method can run nothing is asked.
+// Question 20 of an own class, whose names are at hand. Where no method can run nothing is asked.
 fn own_class_passes<'a>(
     f: &'a [u8],
     s: &'a [u8],
@@ -139,31 +148,40 @@ fn own_class_passes<'a>(
     names: &[u16; 640],
     seen: &mut [u8],
     slots: &mut [u16; 640],
-    w: Names,
+    o: OwnClass,
 ) -> bool
-    requires { ⌜ OwnThere (now f) (now s) (w .end) (w .own) × Kind0Is (now f) (now s) (ownHome (w .end)) (w .own) true ⌝ }
-    requires { ⌜ NamesIs (now f) (now s) (now names) w × (length (now names) ≡ 640) ⌝ }
-    requires { ⌜ Indexed (now s) (w .end) (now index) × (length (now s) ≤ 65535) ⌝ }
+    requires { ⌜ OwnClassThere (now f) (now s) o × Kind0Is (now f) (now s) (ownHome (o .names .end)) (o .names .own) true ⌝ }
+    requires { ⌜ NamesIs (now f) (now s) (now names) (o .names) × (length (now names) ≡ 640) ⌝ }
+    requires { ⌜ Indexed (now s) (o .names .end) (now index) × (length (now s) ≤ 65535) ⌝ }
     requires { ⌜ seenLength (now s) ≤ length (now seen) ⌝ }
     requires { ⌜ SlotsTrue (now f) (now s) (now slots) ⌝ }
-    ensures { λ r. ⌜ OwnPasses (now (f .entry)) (now (s .entry)) (w .end) (w .own) r ⌝ }
+    ensures { λ r. ⌜ OwnPasses (now (f .entry)) (now (s .entry)) (o .names .end) (o .domain) (o .names .own) r ⌝ }
     ensures { λ _. ⌜ SlotsTrue (now (f .entry)) (now (s .entry)) (now (slots .exit)) ⌝ }
 {
+    let w = o.names;
     if chains::none_run(f, s, names, w) {
         return true;
     }
     let end = w.end;
     bits::clear_to(seen, end * 3 / 88 + 5);
-    let v = visited::visit_for(w, homes::own_home(end), w.own);
+    let v = visited::visit_for(w, o.domain, homes::own_home(end), w.own);
     class_passes(f, s, index, names, seen, slots, v)
 }
 
-// Question 20 of a file, over the entries of the store that end at a place, and their index. For an interface nothing runs.
-pub fn running_ok<'a>(f: &'a [u8], s: &'a [u8], end: usize, index: &[u16], seen: &mut [u8]) -> bool
-    requires { ⌜ JudgedThere (now f) (now s) end ⌝ }
+// Question 20 of a file, over the entries of the store that end at a place, and their index; the domain of its package stands at place
+// `domain` of the store. For an interface nothing runs.
+pub fn running_ok<'a>(
+    f: &'a [u8],
+    s: &'a [u8],
+    end: usize,
+    domain: usize,
+    index: &[u16],
+    seen: &mut [u8],
+) -> bool
+    requires { ⌜ JudgedThere (now f) (now s) end domain ⌝ }
     requires { ⌜ Indexed (now s) end (now index) × (length (now s) ≤ 65535) ⌝ }
     requires { ⌜ seenLength (now s) ≤ length (now seen) ⌝ }
-    ensures { λ r. ⌜ RunningIs (now (f .entry)) (now (s .entry)) end r ⌝ }
+    ensures { λ r. ⌜ RunningIs (now (f .entry)) (now (s .entry)) end domain r ⌝ }
 {
     let mut slots = [0u16; 640];
     let mut names = [0u16; 640];
@@ -175,7 +193,11 @@ pub fn running_ok<'a>(f: &'a [u8], s: &'a [u8], end: usize, index: &[u16], seen:
         let x = ClassSpot { home: h, number: b };
         if parents::is_kind0(f, s, &mut slots, x) {
             kept = chains::find_names(f, s, index, &mut names, &mut slots, kept, b);
-            if !own_class_passes(f, s, index, &names, seen, &mut slots, kept) {
+            let o = OwnClass {
+                names: kept,
+                domain: domain,
+            };
+            if !own_class_passes(f, s, index, &names, seen, &mut slots, o) {
                 return false;
             }
             b += 1;

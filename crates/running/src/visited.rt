@@ -14,10 +14,11 @@ ghost use Rattle.classes.specs.Say.{CountIs};
 ghost use Rattle.slots.specs.Slots.{SmallHome, SlotsTrue};
 ghost use Rattle.running.specs.Walk.{visitHome, visitNames, SmallNames, visitFor, VisitThere, VisitPlaced, PlacedIs, ParentPlaced, ParentVisit};
 
-// A class that is visited for own class `own` over the entries that end at `end`, whose names end at `stored` and at `all`: its home and
-// number, and the place of its record once that is found.
+// A class that is visited for own class `own` over the entries that end at `end`, whose names end at `stored` and at `all`, and whose
+// package's domain stands at place `domain` of the store: its home and number, and the place of its record once that is found.
 pub struct Visit {
     pub end: u16,
+    pub domain: u16,
     pub own: u16,
     pub stored: u16,
     pub all: u16,
@@ -58,13 +59,14 @@ pub fn names_of(v: Visit) -> Names
     }
 }
 
-// The visit of class n at a home, for the own class of these names.
-pub fn visit_for(w: Names, h: Home, n: usize) -> Visit
-    requires { ⌜ SmallNames w × SmallHome h × (n ≤ 65535) ⌝ }
-    ensures { λ r. ⌜ r ≡ visitFor w h n ⌝ }
+// The visit of class n at a home, for the own class of these names; the domain of its package stands at place d.
+pub fn visit_for(w: Names, d: usize, h: Home, n: usize) -> Visit
+    requires { ⌜ SmallNames w × (d ≤ 65535) × SmallHome h × (n ≤ 65535) ⌝ }
+    ensures { λ r. ⌜ r ≡ visitFor w d h n ⌝ }
 {
     Visit {
         end: w.end as u16,
+        domain: d as u16,
         own: w.own as u16,
         stored: w.stored as u16,
         all: w.all as u16,
@@ -89,6 +91,7 @@ pub fn placed<'a>(f: &'a [u8], s: &'a [u8], slots: &mut [u16; 640], v: Visit) ->
     let c = slots::record_in(f, s, slots, x, v.number as usize);
     Visit {
         end: v.end,
+        domain: v.domain,
         own: v.own,
         stored: v.stored,
         all: v.all,
@@ -140,7 +143,7 @@ fn parent_visit<'a>(
     let c = record_of(f, s, v);
     let number = wide(c[3 + 2 * i]);
     match slots::import_in(f, s, v.end as usize, index, slots, x, wide(c[2 + 2 * i])) {
-        HomeFound::At(g) => visit_for(names_of(v), g, number),
+        HomeFound::At(g) => visit_for(names_of(v), v.domain as usize, g, number),
         HomeFound::Nothing => v,
     }
 }

@@ -5,7 +5,7 @@ use mathlib.Core.Bool.{Bool}
 use mathlib.Core.Option.{Option, some}
 use Rattle.rules.specs.Bytes.{Bytes, Aid, at, _andThen_}
 use Rattle.rules.specs.Package.{Class, Method, method, class}
-use Rattle.rules.specs.Classes.{declared, admits}
+use Rattle.rules.specs.Classes.{declared, meant, admits}
 use Rattle.places.specs.Reads.{Placed}
 use Rattle.places.proofs.Track.{placed-at, placed-none}
 use Rattle.files.specs.Say.{spot, Readable, ClassThere, MethodThere, DeclaredPlaced, PolicyAt, DomainsAt, ClassPlaced}
@@ -42,20 +42,21 @@ module _ (g : Bytes) (c n : ℕ) (r : Spot) (m : ℕ) (q : DeclaredPlaced g c n 
       (o .1 .domains, e .0, e .1, (x .0 .policy, y .0, y .1))
 
   -- what it says of a domain
-  pub class-says : (d i : ℕ) (b : Bool) (x : Aid) (v : Allowed) → DomainsAt g d → PolicyAt g m i → Admits g d i x b → allowed v ≡ some b → ClassAllows g c n x v
-  class-says d i b x v ds pl ad w l p e k j h =
+  pub class-says : (d : ℕ) (u : Aid) (i : ℕ) (b : Bool) (x : Aid) (v : Allowed) → DomainsAt g d → PolicyAt g m i → Admits g d u i x b → allowed v ≡ some b →
+      ClassAllows g u c n x v
+  class-says d u i b x v ds pl ad w l p e k j h =
       let o : ClassOf g c = (l, p, e, (k, j, h)) in
       let t = placed-at (placed o) in
       let dr = domains-read ds l p e in
       let y = pl l (p .domains) (t .0) (t .1) (t .3) in
-      let a : b ≡ admits (t .0 .policy) x = ad (p .domains) (dr .0) (dr .1) (t .0 .policy) (y .0) (y .1) in
-      w ∙ ap some a ∙ sym (ap (λ (z : Option Method). z andThen λ m. some (admits (m .policy) x)) (t .2))
+      let a : b ≡ admits (meant u (t .0 .policy)) x = ad (p .domains) (dr .0) (dr .1) (t .0 .policy) (y .0) (y .1) in
+      w ∙ ap some a ∙ sym (ap (λ (z : Option Method). z andThen λ m. some (admits (meant u (m .policy)) x)) (t .2))
 
 -- a class that does not declare the name
-pub class-none : (g : Bytes) (c n : ℕ) (r : Spot) (x : Aid) → DeclaredPlaced g c n r → r ≡ spots.Nothing → ClassAllows g c n x Undeclared
-class-none g c n r x q z l p e k j h =
+pub class-none : (g : Bytes) (u : Aid) (c n : ℕ) (r : Spot) (x : Aid) → DeclaredPlaced g c n r → r ≡ spots.Nothing → ClassAllows g u c n x Undeclared
+class-none g u c n r x q z l p e k j h =
     let y = placed-none (subst (λ (v : Spot). Placed (method l (p .domains)) g (declared k n) (spot v)) z (q l (p .domains) k j h)) in
-    sym (ap (λ (o : Option Method). o andThen λ m. some (admits (m .policy) x)) y)
+    sym (ap (λ (o : Option Method). o andThen λ m. some (admits (meant u (m .policy)) x)) y)
 
 -- a file's class by its number
 module _ (g : Bytes) (k n : ℕ) (r : Spot) (q : ClassPlaced g k r) where
@@ -64,12 +65,12 @@ module _ (g : Bytes) (k n : ℕ) (r : Spot) (q : ClassPlaced g k r) where
       let y = placed-at (subst (λ (v : Spot). Placed (class (o .0) (o .1 .domains)) g (at (o .1 .classes) k) (spot v)) z (q (o .0) (o .1) (o .2))) in
       (o .0, o .1, o .2, (y .0, y .1, y .3))
 
-  pub file-says : (c : ℕ) (x : Aid) (v : Allowed) → r ≡ spots.At c → ClassAllows g c n x v → FileAllows g k n x v
-  file-says c x v z w l p e =
+  pub file-says : (u : Aid) (c : ℕ) (x : Aid) (v : Allowed) → r ≡ spots.At c → ClassAllows g u c n x v → FileAllows g u k n x v
+  file-says u c x v z w l p e =
       let y = placed-at (subst (λ (o : Spot). Placed (class l (p .domains)) g (at (p .classes) k) (spot o)) z (q l p e)) in
-      w l p e (y .0) (y .1) (y .3) ∙ sym (ap (λ (o : Option Class). o andThen λ i. declared i n andThen λ m. some (admits (m .policy) x)) (y .2))
+      w l p e (y .0) (y .1) (y .3) ∙ sym (ap (λ (o : Option Class). o andThen λ i. declared i n andThen λ m. some (admits (meant u (m .policy)) x)) (y .2))
 
-  pub file-none : (x : Aid) → r ≡ spots.Nothing → FileAllows g k n x Undeclared
-  file-none x z l p e =
+  pub file-none : (u x : Aid) → r ≡ spots.Nothing → FileAllows g u k n x Undeclared
+  file-none u x z l p e =
       let y = placed-none (subst (λ (o : Spot). Placed (class l (p .domains)) g (at (p .classes) k) (spot o)) z (q l p e)) in
-      sym (ap (λ (o : Option Class). o andThen λ i. declared i n andThen λ m. some (admits (m .policy) x)) y)
+      sym (ap (λ (o : Option Class). o andThen λ i. declared i n andThen λ m. some (admits (meant u (m .policy)) x)) y)

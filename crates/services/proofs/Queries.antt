@@ -9,7 +9,7 @@ use lib.ListN.{length}
 use Rattle.rules.specs.Bytes.{Bytes, Aid, pick, at, isSome, someAnd, _andThen_, aidLength}
 use Rattle.rules.specs.Package.{Limits, storeLimits, Class, Method}
 use Rattle.rules.specs.Store.{Entry}
-use Rattle.rules.specs.Classes.{Installed, installed, recordOf, declared, MethodAt, admits, allows}
+use Rattle.rules.specs.Classes.{Installed, installed, recordOf, declared, MethodAt, meant, admits, allows}
 use Rattle.rules.specs.Questions.{q3-lengths, q7-installed, methodQueried, q9-declared}
 use Rattle.rules.specs.Operations.{firstNo, queryQuestions, queryNumber, queryYes}
 use Rattle.rules.proofs.Limits.{store-limits}
@@ -22,7 +22,10 @@ use Rattle.store.specs.Sound.{SoundAt}
 use Rattle.services.specs.Answers.{FileAllows, allowed}
 use Rattle.services.specs.declared.Allowed.{Allowed}
 use Rattle.services.specs.declared.Allowed.the-variants.{Undeclared}
+use Rattle.store.proofs.Parts.{part-length}
 use Rattle.store.proofs.Sound.{kept, opening}
+use Rattle.index.specs.Index.{fileFrom}
+use Rattle.index.proofs.Here.{package-by}
 use Rattle.services.proofs.Cuts.{over-reads}
 
 -- the result of a query: its number, and 1 where that method allows the domain
@@ -37,7 +40,7 @@ abbrev methodIn : Installed → ℕ → ℕ → Option MethodAt
 methodIn i c n = recordOf (record { home = i; number = c }) andThen λ k. declared k n andThen λ m. some (standing i c m)
 
 abbrev saysIn : Installed → ℕ → ℕ → Aid → Option Bool
-saysIn i c n d = at (i .pack .classes) c andThen λ k. declared k n andThen λ m. some (admits (m .policy) d)
+saysIn i c n d = at (i .pack .classes) c andThen λ k. declared k n andThen λ m. some (admits (meant (i .domain) (m .policy)) d)
 
 -- they are there together, and say the same
 abbrev Agree : Aid → Option MethodAt → Option Bool → Type 0
@@ -46,12 +49,12 @@ Agree d o v = (isSome o ≡ isSome v) × (someAnd o (λ m. allows m d) ≡ someA
 method-says : (i : Installed) (c n : ℕ) (d : Aid) → Agree d (methodIn i c n) (saysIn i c n d)
 method-says i c n d = of-class (at (i .pack .classes) c)
   where
-    of-method : (o : Option Method) → Agree d (o andThen λ m. some (standing i c m)) (o andThen λ m. some (admits (m .policy) d))
+    of-method : (o : Option Method) → Agree d (o andThen λ m. some (standing i c m)) (o andThen λ m. some (admits (meant (i .domain) (m .policy)) d))
     of-method none = (refl, refl)
     of-method (some m) = (refl, refl)
 
     of-class : (o : Option Class) → Agree d (o andThen λ k. declared k n andThen λ m. some (standing i c m))
-        (o andThen λ k. declared k n andThen λ m. some (admits (m .policy) d))
+        (o andThen λ k. declared k n andThen λ m. some (admits (meant (i .domain) (m .policy)) d))
     of-class none = (refl, refl)
     of-class (some k) = of-method (declared k n)
 
@@ -100,7 +103,7 @@ module _ (s : Bytes) (d a : Aid) (c n : ℕ) where
     abbrev es : List Entry
     es = (opening s u (x .sound)) .es
 
-    at-place : PackageAt s es a i j k
+    pub at-place : PackageAt s es a i j k
     at-place = found u (x .sound) (x .spot) (File i j k) (x .told) (x .is)
 
     abbrev home : Installed
@@ -110,26 +113,37 @@ module _ (s : Bytes) (d a : Aid) (c n : ℕ) where
     pub query-file : (j ≤ k) × (k ≤ length s) × Readable (part s j k)
     query-file = let y = at-place in (y .from, y .to, (storeLimits s, y .home .pack, y .reads))
 
+    -- the domain that it lies in stands before the file
+    pub query-domain : (i + 4 ≤ j) × (part s (i + 4) j ≡ home .domain)
+    query-domain =
+        let y = at-place in
+        let b = package-by s i (y .home .domain) (part s j k) k (y .stands) in
+        let e : fileFrom s i ≡ j =
+        omega (arith, ap length (b .file), part-length s j k (y .to), part-length s (fileFrom s i) k (y .to), b .inside, y .from) in
+        (omega (arith, e), ap (part s (i + 4)) (sym e) ∙ sym (b .domain))
+
     -- its answer
-    says : (v : Allowed) → FileAllows (part s j k) c n d v → allowed v ≡ saysIn home c n d
-    says v w = let y = at-place in w (storeLimits s) (y .home .pack) (y .reads)
+    says : (v : Allowed) → FileAllows (part s j k) (part s (i + 4) j) c n d v → allowed v ≡ saysIn home c n d
+    says v w =
+        let y = at-place in
+        w (storeLimits s) (y .home .pack) (y .reads) ∙ ap (λ (e : Aid). saysIn (record { domain = e; pack = y .home .pack }) c n d) (query-domain .1)
 
     queried : methodQueried (installed (storeLimits s) es) a c n ≡ methodIn home c n
     unfolding methodQueried
     queried = rw (at-place .is)
 
-    declared-is : (v : Allowed) → FileAllows (part s j k) c n d v → q9-declared (installed (storeLimits s) es) a c n ≡ isSome (allowed v)
+    declared-is : (v : Allowed) → FileAllows (part s j k) (part s (i + 4) j) c n d v → q9-declared (installed (storeLimits s) es) a c n ≡ isSome (allowed v)
     unfolding q9-declared
     declared-is v w = ap isSome queried ∙ (method-says home c n d) .0 ∙ sym (ap isSome (says v w))
 
-    asked : (v : Allowed) → FileAllows (part s j k) c n d v → queryNumber s d a c n ≡ pick (isSome (allowed v)) 0 9
+    asked : (v : Allowed) → FileAllows (part s j k) (part s (i + 4) j) c n d v → queryNumber s d a c n ≡ pick (isSome (allowed v)) 0 9
     unfolding queryQuestions q3-lengths q7-installed
     asked v w = query-number u (x .sound) ∙ rw (x .domain-length, x .aid-length, at-place .is, declared-is v w)
 
-    pub query-9 : FileAllows (part s j k) c n d Undeclared → ResultIs s d a c n 9
+    pub query-9 : FileAllows (part s j k) (part s (i + 4) j) c n d Undeclared → ResultIs s d a c n 9
     query-9 w = query-refused 9 (λ e. omega arith) (sym (asked Undeclared w))
 
-    pub query-done : (v : Allowed) (b : Bool) → allowed v ≡ some b → FileAllows (part s j k) c n d v → ResultIs s d a c n (256 * pick b 1 0)
+    pub query-done : (v : Allowed) (b : Bool) → allowed v ≡ some b → FileAllows (part s j k) (part s (i + 4) j) c n d v → ResultIs s d a c n (256 * pick b 1 0)
     unfolding queryYes
     query-done v b t w =
         let y = opening s u (x .sound) in

@@ -7,7 +7,7 @@
 -- OtherSays g a r      == it does and has another AID
 -- allowed r            == what an answer says of a domain, if there is such a method
 -- ClassOf g c          == a class of the file's package stands at place c
--- ClassAllows, FileAllows == the answer is that of a class's or a file's method of a name
+-- ClassAllows, FileAllows == the answer is that of a class's or a file's method of a name, where the package lies in domain e
 use Prim.Native.Nat.{ℕ}
 use mathlib.Core.Path.{_≡_}
 use mathlib.Core.Bool.{Bool, true, false, _&&_, not}
@@ -16,7 +16,7 @@ use mathlib.Core.Option.{Option, none, some}
 use Rattle.rules.specs.Bytes.{Bytes, Aid, any, at, someAnd, _andThen_, same}
 use Rattle.rules.specs.Package.{Limits, storeLimits, Class, Package, class, readFile}
 use Rattle.rules.specs.Store.{Entry, domain, loaded, openingLength}
-use Rattle.rules.specs.Classes.{installed, declared, admits}
+use Rattle.rules.specs.Classes.{installed, declared, meant, admits}
 use Rattle.rules.specs.Questions.{q8-unused}
 use Rattle.rules.specs.Operations.{Operation}
 use Rattle.store.specs.Entries.{Entries, AllRead, placeOf}
@@ -61,12 +61,12 @@ allowed No = some false
 abbrev pub ClassOf : Bytes → ℕ → Type 0
 ClassOf g c = (l : Limits) × (p : Package) × (readFile l g ≡ some p) × Ends (class l (p .domains)) g c
 
--- a class's method of a name allows the domain, of whatever class stands at place c
-abbrev pub ClassAllows : Bytes → ℕ → ℕ → Aid → Allowed → Type 0
-ClassAllows g c n d r = (l : Limits) (p : Package) → readFile l g ≡ some p → (k : Class) (j : ℕ) →
-    Reads (class l (p .domains)) g c k j → allowed r ≡ (declared k n andThen λ m. some (admits (m .policy) d))
+-- a class's method of a name allows the domain, of whatever class stands at place c of a file of domain e
+abbrev pub ClassAllows : Bytes → Aid → ℕ → ℕ → Aid → Allowed → Type 0
+ClassAllows g e c n d r = (l : Limits) (p : Package) → readFile l g ≡ some p → (k : Class) (j : ℕ) →
+    Reads (class l (p .domains)) g c k j → allowed r ≡ (declared k n andThen λ m. some (admits (meant e (m .policy)) d))
 
 -- the method of a class and a name allows the domain
-abbrev pub FileAllows : Bytes → ℕ → ℕ → Aid → Allowed → Type 0
-FileAllows g c n d r = (l : Limits) (p : Package) → readFile l g ≡ some p →
-    allowed r ≡ (at (p .classes) c andThen λ k. declared k n andThen λ m. some (admits (m .policy) d))
+abbrev pub FileAllows : Bytes → Aid → ℕ → ℕ → Aid → Allowed → Type 0
+FileAllows g e c n d r = (l : Limits) (p : Package) → readFile l g ≡ some p →
+    allowed r ≡ (at (p .classes) c andThen λ k. declared k n andThen λ m. some (admits (meant e (m .policy)) d))

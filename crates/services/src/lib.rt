@@ -1,5 +1,6 @@
 // The questions of a creation, a deletion, a removal and a query on a sound store, from 3 on.
 use files::Spot;
+use policies::RightsPlace;
 use store::EntryPart;
 use store::FileSpot;
 use store::Spot as Place;
@@ -79,14 +80,18 @@ fn imported(s: &[u8], end: usize, aid: &[u8]) -> bool
     }
 }
 
-// Does the method of a name of the class at a place allow a domain?
-fn class_allows(g: &[u8], c: usize, name: usize, domain: &[u8]) -> Allowed
+// Does the method of a name of the class at a place allow a domain, in a file of domain `own`?
+fn class_allows(g: &[u8], own: &[u8], c: usize, name: usize, domain: &[u8]) -> Allowed
     requires { ⌜ ClassOf (now g) c ⌝ }
-    ensures { λ r. ⌜ ClassAllows (now (g .entry)) c name (now (domain .entry)) r ⌝ }
+    ensures { λ r. ⌜ ClassAllows (now (g .entry)) (now (own .entry)) c name (now (domain .entry)) r ⌝ }
 {
     match files::find_method(g, c, name) {
         Spot::At(m) => {
-            if policies::admits(g, files::domains_at(g), files::policy_of(g, m), domain) {
+            let p = RightsPlace {
+                domains: files::domains_at(g),
+                policy: files::policy_of(g, m),
+            };
+            if policies::admits(g, own, p, domain) {
                 return Allowed::Yes;
             }
             Allowed::No
@@ -95,13 +100,13 @@ fn class_allows(g: &[u8], c: usize, name: usize, domain: &[u8]) -> Allowed
     }
 }
 
-// Does the method of a class and a name of a file allow a domain?
-fn file_allows(g: &[u8], class: usize, name: usize, domain: &[u8]) -> Allowed
+// Does the method of a class and a name of a file allow a domain, where its package lies in domain `own`?
+fn file_allows(g: &[u8], own: &[u8], class: usize, name: usize, domain: &[u8]) -> Allowed
     requires { ⌜ Readable (now g) ⌝ }
-    ensures { λ r. ⌜ FileAllows (now (g .entry)) class name (now (domain .entry)) r ⌝ }
+    ensures { λ r. ⌜ FileAllows (now (g .entry)) (now (own .entry)) class name (now (domain .entry)) r ⌝ }
 {
     match files::class_place(g, class) {
-        Spot::At(c) => class_allows(g, c, name, domain),
+        Spot::At(c) => class_allows(g, own, c, name, domain),
         Spot::Nothing => Allowed::Undeclared,
     }
 }
@@ -183,11 +188,13 @@ pub fn query_on(
         return 3;
     }
     match store::find_package(s, used, package) {
-        FileSpot::File(_, from, to) => match file_allows(&s[from..to], class, name, domain) {
-            Allowed::Yes => 256,
-            Allowed::No => 0,
-            Allowed::Undeclared => 9,
-        },
+        FileSpot::File(at, from, to) => {
+            match file_allows(&s[from..to], &s[at + 4..from], class, name, domain) {
+                Allowed::Yes => 256,
+                Allowed::No => 0,
+                Allowed::Undeclared => 9,
+            }
+        }
         FileSpot::Missing => 7,
     }
 }

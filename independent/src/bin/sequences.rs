@@ -1,11 +1,12 @@
 //! `sequences SEED COUNT`: runs generated sequences through the byte operations
-//! and the ledger side by side and prints how often each number was answered and how
-//! deep the accepted files were.
+//! and the ledger side by side and prints how often each number was answered, how deep
+//! the accepted files were and how often FE decided.
 
 use independent::depths::DepthCounts;
 use independent::generate::sequences::sequence;
 use independent::ledger::{Call, Ledger};
 use independent::loader::{damage, shrink, Independent, Loader, Sequence, Step};
+use independent::own_domain::OwnCounts;
 use independent::questions::q2;
 use std::process::ExitCode;
 
@@ -17,6 +18,7 @@ struct Counts {
     answers: [[u64; NUMBERS]; 6],
     with_ledger: u64,
     depths: DepthCounts,
+    own: OwnCounts,
     yes: u64,
 }
 
@@ -87,6 +89,7 @@ fn count(counts: &mut Counts, call: &Call, answer: u32, store: &[u8]) {
         Call::Query { .. } => 5,
     };
     counts.answers[row][(answer & 0xFF) as usize] += 1;
+    counts.own.note(call, answer, store);
     match call {
         Call::Load { .. } if answer & 0xFF == 0 => counts.depths.note(answer >> 8, store),
         Call::Query { .. } => counts.yes += u64::from(answer >> 8),
@@ -108,6 +111,7 @@ fn print_table(counts: &Counts) {
     let accepted = 100 * counts.answers[3][0] / loads.max(1);
     println!("{accepted}% of {loads} loads accepted: {}", counts.depths);
     println!("{} queries answered yes", counts.yes);
+    println!("{}", counts.own);
 }
 
 /// A short sequence that shows the difference, in hex.

@@ -3,8 +3,10 @@
 use super::codes::call;
 use super::faults::{add, add_code, BARE, BODY, RETURN, STATIC_BODY};
 use super::model::{FileModel, MethodModel};
+use super::own_meetings::{call_elsewhere, override_elsewhere};
 use super::random::Random;
 use super::scene::{MethodFacts, Scene};
+use crate::policy::OWN;
 
 pub fn plant_18(random: &mut Random, scene: &Scene, model: &mut FileModel) {
     let own = model.classes.len() as u8;
@@ -59,23 +61,15 @@ fn hidden_method(scene: &Scene) -> Option<(Vec<u8>, u8, u16)> {
     None
 }
 
-pub fn plant_19(random: &mut Random, domain: &[u8], model: &mut FileModel) {
+pub fn plant_19(random: &mut Random, scene: &Scene, domain: &[u8], model: &mut FileModel) {
+    if random.chance(60) && call_elsewhere(random, scene, domain, model, false) {
+        return;
+    }
     let first = model.domains.len() as u8;
     let other = random.bytes(6);
     model.domains.push(domain.to_vec());
     model.domains.push(other);
-    let (both, loading, another) = (&[first, first + 1][..], &[first][..], &[first + 1][..]);
-    let every_index: Vec<u8> = (0..first + 2).collect();
-    let nobody: &[u8] = &[];
-    let cases = [
-        (Some(nobody), Some(nobody)),
-        (Some(nobody), Some(another)),
-        (None, Some(both)),
-        (None, Some(&every_index)),
-        (Some(both), Some(loading)),
-        (Some(another), Some(another)),
-    ];
-    let (caller, callee) = *random.pick(&cases);
+    let (caller, callee) = refused_lists(random, first);
     let (opcode, kind, bits) = *random.pick(&[
         (0x8B, 0, BODY),
         (0x8B, 0, BARE),
@@ -86,19 +80,47 @@ pub fn plant_19(random: &mut Random, domain: &[u8], model: &mut FileModel) {
     let class = model.classes.len() as u8;
     let index = model.references.len() as u16;
     model.references.push((0, class, 1));
-    let held = MethodModel::new(bits, 1, callee, RETURN);
+    let held = MethodModel::new(bits, 1, callee.as_deref(), RETURN);
     add(model, kind, &[], vec![held]);
     let mut code = call(random, opcode, index);
     code.push(0x7A);
-    let calling = MethodModel::new(STATIC_BODY, 2, caller, &code);
+    let calling = MethodModel::new(STATIC_BODY, 2, caller.as_deref(), &code);
     add(model, 0, &[], vec![calling]);
 }
 
-pub fn plant_20(random: &mut Random, model: &mut FileModel) {
+/// Lists of a caller and of a method that may not be called; the loading domain is the
+/// first index and FE, another domain the second.
+fn refused_lists(random: &mut Random, first: u8) -> (Option<Vec<u8>>, Option<Vec<u8>>) {
+    let second = first + 1;
+    let own = *random.pick(&[first, OWN]);
+    let (both, loading, another) = (&[own, second][..], &[own][..], &[second][..]);
+    let mut every_index: Vec<u8> = (0..=second).collect();
+    every_index.push(own);
+    let nobody: &[u8] = &[];
+    let cases = [
+        (Some(nobody), Some(nobody)),
+        (Some(nobody), Some(another)),
+        (None, Some(both)),
+        (None, Some(&every_index)),
+        (Some(both), Some(loading)),
+        (Some(another), Some(loading)),
+        (Some(&[first, second]), Some(&[OWN, first, OWN])),
+        (Some(loading), Some(another)),
+        (Some(another), Some(another)),
+    ];
+    let (caller, callee) = *random.pick(&cases);
+    (caller.map(<[u8]>::to_vec), callee.map(<[u8]>::to_vec))
+}
+
+pub fn plant_20(random: &mut Random, scene: &Scene, domain: &[u8], model: &mut FileModel) {
+    if random.chance(40) && override_elsewhere(random, scene, domain, model, false) {
+        return;
+    }
     let first = model.domains.len() as u8;
     model.domains.push(random.bytes(5));
     model.domains.push(random.bytes(16));
-    let (one, both) = (&[first][..], &[first, first + 1][..]);
+    let (one, other) = *random.pick(&[(first, first + 1), (first, OWN), (OWN, first)]);
+    let (one, both) = (&[one][..], &[one, other][..]);
     let next = model.classes.len() as u8;
     let method = |bits, allowed| vec![MethodModel::new(bits, 7, allowed, RETURN)];
     match random.below(4) {

@@ -37,8 +37,8 @@ pub fn plant(
         16 => add_code(model, &unsplit_code(random)),
         17 => add_code(model, &unlanded_code(random)),
         18 => plant_18(random, scene, model),
-        19 => plant_19(random, domain, model),
-        20 => plant_20(random, model),
+        19 => plant_19(random, scene, domain, model),
+        20 => plant_20(random, scene, domain, model),
         _ => return false,
     }
     true

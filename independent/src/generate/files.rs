@@ -3,6 +3,7 @@
 use super::faults::faulty_file;
 use super::limits::{chain, count_limits, ladder, method_limits, under_ladder};
 use super::model::{set_size, ClassModel, FileModel, MethodModel};
+use super::own_lists::{own_limits, policy_damage};
 use super::random::Random;
 use super::scene::Scene;
 use super::valid::valid_file;
@@ -15,7 +16,8 @@ pub fn any_file(random: &mut Random, scene: &Scene, domain: &[u8]) -> Vec<u8> {
         0..=43 => None,
         44..=73 => faulty_file(random, scene, domain, &model, &questions[..1]),
         74..=81 => faulty_file(random, scene, domain, &model, &questions),
-        82..=87 => Some(damaged_file(random, model.bytes())),
+        82..=84 => Some(damaged_file(random, model.bytes())),
+        85..=87 => Some(damaged_policy(random, model.bytes())),
         88..=92 => Some(limit_file(random, scene, domain, &aid)),
         93..=94 => Some(any_bytes(random)),
         95..=96 => Some(hostile_file(random, scene, &aid)),
@@ -55,6 +57,14 @@ pub fn damaged_file(random: &mut Random, mut file: Vec<u8>) -> Vec<u8> {
     file
 }
 
+/// A byte of a policy changed, if there is one.
+fn damaged_policy(random: &mut Random, mut file: Vec<u8>) -> Vec<u8> {
+    if let Some((place, byte)) = policy_damage(random, &file) {
+        file[place] = byte;
+    }
+    file
+}
+
 fn limit_file(random: &mut Random, scene: &Scene, domain: &[u8], aid: &[u8]) -> Vec<u8> {
     let import = random.pick_any(&scene.packages);
     let import = import.map(|p| p.model.aid.as_slice());
@@ -64,9 +74,14 @@ fn limit_file(random: &mut Random, scene: &Scene, domain: &[u8], aid: &[u8]) -> 
     } else {
         known
     };
-    let files = match random.below(3) {
+    let files = match random.below(4) {
         0 => return chain(aid, random.below(2) as u8, random.between(7, 9) as u8).bytes(),
         1 => method_limits(aid, listed),
+        2 => {
+            let domain_count = *random.pick(&[0, 0, 1, 2, 32]);
+            let files = own_limits(aid, listed, domain_count);
+            return random.pick(&files).file.clone();
+        }
         _ => count_limits(aid, listed, import),
     };
     random.pick(&files).model.bytes()

@@ -2,9 +2,9 @@
 
 use super::model::{ClassModel, FileModel, MethodModel};
 use crate::package::{
-    EVERY, MAX_ALLOWED, MAX_CLASSES, MAX_CODE, MAX_DOMAINS, MAX_IMPORTS, MAX_METHODS, MAX_PARENTS,
-    MAX_REFERENCES,
+    MAX_CLASSES, MAX_CODE, MAX_DOMAINS, MAX_IMPORTS, MAX_METHODS, MAX_PARENTS, MAX_REFERENCES,
 };
+use crate::policy::{EVERY, MAX_ALLOWED};
 
 /// A file, its name and the number that a load with room for it answers.
 pub struct LimitFile {

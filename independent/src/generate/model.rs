@@ -1,7 +1,8 @@
 //! A package file as a structure, and its bytes. Nothing is checked here, so that
 //! faulty files can be built too.
 
-use crate::package::{self, Allowed, EVERY, IMPLEMENTED, MARK_AND_VERSION, STATIC, VISIBLE};
+use crate::package::{self, IMPLEMENTED, MARK_AND_VERSION, STATIC, VISIBLE};
+use crate::policy::{Policy, EVERY};
 
 #[derive(Clone, Debug, Default, PartialEq, Eq)]
 pub struct FileModel {
@@ -31,6 +32,16 @@ pub struct MethodModel {
 
 impl FileModel {
     pub fn bytes(&self) -> Vec<u8> {
+        self.written().0
+    }
+
+    /// The place of each policy's allowed count in the file.
+    pub fn policy_places(&self) -> Vec<usize> {
+        self.written().1
+    }
+
+    fn written(&self) -> (Vec<u8>, Vec<usize>) {
+        let mut places = Vec::new();
         let mut file = MARK_AND_VERSION.to_vec();
         file.extend_from_slice(&[0, 0]);
         put_aid(&mut file, &self.aid);
@@ -44,9 +55,11 @@ impl FileModel {
             put_u2(&mut file, name.into());
         }
         file.push(self.classes.len() as u8);
-        self.classes.iter().for_each(|c| c.put(&mut file));
+        for class in &self.classes {
+            class.put(&mut file, &mut places);
+        }
         set_size(&mut file);
-        file
+        (file, places)
     }
 
     /// The structure of a file that reads as laid out.
@@ -73,13 +86,16 @@ impl ClassModel {
         }
     }
 
-    fn put(&self, file: &mut Vec<u8>) {
+    fn put(&self, file: &mut Vec<u8>, places: &mut Vec<usize>) {
         file.extend_from_slice(&[self.kind, self.parents.len() as u8]);
         for &(package, class) in &self.parents {
             file.extend_from_slice(&[package, class]);
         }
         file.push(self.methods.len() as u8);
-        self.methods.iter().for_each(|m| m.put(file));
+        for method in &self.methods {
+            places.push(file.len() + MethodModel::POLICY);
+            method.put(file);
+        }
     }
 
     fn of(class: &package::Class) -> Self {
@@ -92,6 +108,9 @@ impl ClassModel {
 }
 
 impl MethodModel {
+    /// Where the allowed count stands in a method's bytes.
+    const POLICY: usize = 3;
+
     pub fn new(bits: u8, name: u16, allowed: Option<&[u8]>, code: &[u8]) -> Self {
         MethodModel {
             bits,
@@ -124,9 +143,9 @@ impl MethodModel {
                 | bit(method.is_static, STATIC)
                 | bit(method.implemented(), IMPLEMENTED),
             name: method.name,
-            allowed: match method.allowed {
-                Allowed::Every => None,
-                Allowed::Listed(indexes) => Some(indexes.to_vec()),
+            allowed: match method.policy {
+                Policy::Every => None,
+                Policy::Listed(indexes) => Some(indexes.to_vec()),
             },
             code: method.code.unwrap_or(&[]).to_vec(),
         }

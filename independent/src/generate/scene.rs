@@ -2,6 +2,7 @@
 
 use super::model::FileModel;
 use crate::package::{IMPLEMENTED, STATIC};
+use crate::policy::Item;
 use std::collections::{BTreeMap, BTreeSet};
 
 /// The domains that a method allows.
@@ -144,7 +145,7 @@ impl Scene {
                 facts.declare(MethodFacts {
                     bits: method.bits,
                     name: method.name,
-                    policy: policy_of(&model, &method.allowed),
+                    policy: policy_of(&model, domain, &method.allowed),
                 });
             }
             classes.push(facts);
@@ -158,15 +159,14 @@ impl Scene {
     }
 }
 
-/// What a policy of this file allows.
-fn policy_of(model: &FileModel, allowed: &Option<Vec<u8>>) -> Policy {
+/// What a policy of this file, loaded in this domain, allows.
+fn policy_of(model: &FileModel, domain: &[u8], allowed: &Option<Vec<u8>>) -> Policy {
+    let aid = |&index: &u8| match Item::of(index) {
+        Item::Aid(place) => model.domains[place].clone(),
+        Item::Own => domain.to_vec(),
+    };
     match allowed {
         None => Policy::Every,
-        Some(indexes) => {
-            let aids = indexes
-                .iter()
-                .map(|&i| model.domains[usize::from(i)].clone());
-            Policy::Only(aids.collect())
-        }
+        Some(indexes) => Policy::Only(indexes.iter().map(aid).collect()),
     }
 }

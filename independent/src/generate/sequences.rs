@@ -1,6 +1,7 @@
 //! Call sequences over one buffer.
 
 use super::files::any_file;
+use super::own_lists::store_damage;
 use super::random::Random;
 use super::scene::Scene;
 use super::stores::planted_store;
@@ -150,18 +151,27 @@ impl<'r> Run<'r> {
             Some(last) => last,
             None if self.store.is_empty() => return,
             None => {
-                let limit = if self.random.chance(90) && used > 0 {
-                    used
-                } else {
-                    self.store.len()
-                };
-                let new = (self.random.below(limit), 1 << self.random.below(8));
+                let new = self.new_damage(used);
                 self.damaged = Some(new);
                 new
             }
         };
         damage(&mut self.store, place, bits);
         self.steps.push(Step::Damage { place, bits });
+    }
+
+    /// A place and bits to flip there: in a policy, or a bit of any byte.
+    fn new_damage(&mut self, used: usize) -> (usize, u8) {
+        if self.random.chance(25) {
+            if let Some((place, byte)) = store_damage(self.random, &self.store) {
+                return (place, byte ^ self.store[place]);
+            }
+        }
+        let limit = match self.random.chance(90) && used > 0 {
+            true => used,
+            false => self.store.len(),
+        };
+        (self.random.below(limit), 1 << self.random.below(8))
     }
 
     fn any_call(&mut self) -> Call {
@@ -216,10 +226,15 @@ impl<'r> Run<'r> {
 
     fn query(&mut self) -> Call {
         let package = self.package(85);
+        let mut domain = self.domain(40, 55);
         let mut class = self.random.below(5) as u8;
         let mut name = self.random.below(9) as u16;
         if let Some(number) = self.scene.package_named(&package) {
-            let classes = &self.scene.packages[number].classes;
+            let installed = &self.scene.packages[number];
+            if self.random.chance(30) {
+                domain = installed.domain.clone();
+            }
+            let classes = &installed.classes;
             if self.random.chance(80) && !classes.is_empty() {
                 class = self.random.below(classes.len()) as u8;
                 let methods = &classes[usize::from(class)].methods;
@@ -231,7 +246,7 @@ impl<'r> Run<'r> {
             }
         }
         Call::Query {
-            domain: self.domain(40, 55),
+            domain,
             package,
             class,
             name,

@@ -4,14 +4,15 @@
 use super::files::sized_file;
 use super::limits::{chain, count_limits, ladder, method_limits, under_ladder};
 use super::model::{ClassModel, FileModel, MethodModel};
+use super::own_lists::own_limits;
 use super::random::Random;
 use super::scene::Scene;
 use super::valid::valid_file;
 use crate::ledger::Call;
 use crate::loader::{Independent, Loader, Sequence, Step};
 
-const DOMAIN: &[u8] = &[0xA0, 0, 0, 0, 0xD1];
-const OTHER: &[u8] = &[0xA0, 0, 0, 0, 0xD2, 7];
+pub(super) const DOMAIN: &[u8] = &[0xA0, 0, 0, 0, 0xD1];
+pub(super) const OTHER: &[u8] = &[0xA0, 0, 0, 0, 0xD2, 7];
 pub(super) const FIRST: &[u8] = &[0xA0, 0, 0, 1, 1];
 pub(super) const SECOND: &[u8] = &[0xA0, 0, 0, 1, 2];
 pub(super) const THIRD: &[u8] = &[0xA0, 0, 0, 1, 3];
@@ -169,6 +170,19 @@ pub fn limits() -> Sequence {
         }
     }
     after_fresh(65_535, calls)
+}
+
+/// Lists with FE at their limits and past them, in files with no domain, one and 32.
+pub fn own_limit_lists() -> Sequence {
+    let mut calls = Vec::new();
+    for domain_count in [0, 1, 32] {
+        for limit in own_limits(FIRST, DOMAIN, domain_count) {
+            let (domain, file) = (OTHER.to_vec(), limit.file);
+            calls.push(Call::Load { domain, file });
+            calls.push(Call::Remove(FIRST.to_vec()));
+        }
+    }
+    after_fresh(2048, calls)
 }
 
 /// Stores filled to the byte, by one package of each size around the free bytes.

@@ -2,6 +2,8 @@
 
 use super::codes::{call, call_kinds, valid_code};
 use super::model::{ClassModel, FileModel, MethodModel};
+use super::own_meetings::{call_elsewhere, override_elsewhere};
+use super::policies::{random_policy, Lists};
 use super::random::Random;
 use super::scene::{ClassFacts, MethodFacts, Policy, Scene};
 use crate::package::{IMPLEMENTED, MAX_DOMAINS, STATIC, VISIBLE};
@@ -15,6 +17,7 @@ struct Draft<'a> {
     /// Numbers of the imported packages in the scene.
     imports: Vec<usize>,
     model: FileModel,
+    lists: Lists<'a>,
     classes: Vec<ClassFacts>,
 }
 
@@ -28,13 +31,10 @@ pub fn valid_file(random: &mut Random, scene: &Scene, domain: &[u8], aid: &[u8])
             aid: aid.to_vec(),
             ..FileModel::default()
         },
+        lists: Lists::new(random, scene, domain),
         classes: Vec::new(),
     };
     draft.choose_imports(random);
-    let pool = &scene.domain_pool;
-    for _ in 0..random.below(4) {
-        draft.model.domains.push(random.pick(pool).clone());
-    }
     let deep = random.chance(5);
     let count = match deep {
         true => random.between(6, 12),
@@ -44,7 +44,15 @@ pub fn valid_file(random: &mut Random, scene: &Scene, domain: &[u8], aid: &[u8])
         draft.add_class(random, deep);
     }
     draft.add_codes(random);
-    draft.model
+    let mut model = draft.model;
+    model.domains = draft.lists.domains;
+    if model.domains.len() < MAX_DOMAINS / 2 && random.chance(30) {
+        match random.chance(50) {
+            true => call_elsewhere(random, scene, domain, &mut model, true),
+            false => override_elsewhere(random, scene, domain, &mut model, true),
+        };
+    }
+    model
 }
 
 impl Draft<'_> {
@@ -123,13 +131,13 @@ impl Draft<'_> {
                 bits |= STATIC;
             }
         }
-        let mut policy = self.random_policy(random);
+        let mut policy = random_policy(random, self.scene, self.domain);
         if bits & (IMPLEMENTED | STATIC) == IMPLEMENTED {
             if let Some(need) = class.needs.get(&name) {
                 policy.join(need);
             }
         }
-        let allowed = self.allowed(random, &mut policy);
+        let allowed = self.lists.allowed(random, &mut policy);
         let code = Vec::new();
         let model = MethodModel {
             bits,
@@ -138,51 +146,6 @@ impl Draft<'_> {
             code,
         };
         (model, MethodFacts { bits, name, policy })
-    }
-
-    fn random_policy(&self, random: &mut Random) -> Policy {
-        if random.chance(25) {
-            return Policy::Every;
-        }
-        let mut policy = Policy::nobody();
-        let count = *random.pick(&[0, 0, 1, 1, 2, 3]);
-        for _ in 0..count {
-            let aid = random.pick(&self.scene.domain_pool).clone();
-            policy.join(&Policy::Only([aid].into()));
-        }
-        if random.chance(40) {
-            policy.join(&Policy::Only([self.domain.to_vec()].into()));
-        }
-        policy
-    }
-
-    /// The policy as indexes; the file's domains grow as needed. A policy that finds
-    /// no room becomes FF.
-    fn allowed(&mut self, random: &mut Random, policy: &mut Policy) -> Option<Vec<u8>> {
-        let Policy::Only(aids) = &*policy else {
-            return None;
-        };
-        let mut indexes = Vec::new();
-        for aid in aids {
-            let known = self.model.domains.iter().position(|d| d == aid);
-            let repeat = self.model.domains.len() < 8 && random.chance(10);
-            let index = match known {
-                Some(index) if !repeat => index,
-                _ if self.model.domains.len() < MAX_DOMAINS => {
-                    self.model.domains.push(aid.clone());
-                    self.model.domains.len() - 1
-                }
-                _ => {
-                    *policy = Policy::Every;
-                    return None;
-                }
-            };
-            indexes.push(index as u8);
-        }
-        if indexes.len() == 1 && random.chance(20) {
-            indexes.push(indexes[0]);
-        }
-        Some(indexes)
     }
 
     fn add_codes(&mut self, random: &mut Random) {

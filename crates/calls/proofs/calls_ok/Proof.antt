@@ -2,16 +2,18 @@
 use mathlib.Core.Path.{refl}
 use denote.Ref.{now}
 use borrow.Author.Needs.{needs}
-use Rattle.calls.proofs.Lookups as look
+use Rattle.homes.specs.Homes.{aidAt}
 use Rattle.calls.proofs.Covers as covers
 use Rattle.calls.proofs.Walked as walked
 use Rattle.calls.proofs.calls_ok.Statement.{statement}
 use Rattle.calls.proofs.calls_ok.Tie as tie
 
+-- the function's start, where the file is told of
+abbrev start : tie.After-told-of → tie.Start
+start k = k .before .before .before
+
 told-of-requires : tie.Need-told-of-requires
-told-of-requires c κs =
-    let pre = c .before .before .before .pre in
-    look.judged-reads (pre .0)
+told-of-requires c κs = let p = c .before .before .pre in (p .0, p .1 .0)
 
 slice-aggregate-file-calls : tie.Need-slice-aggregate-file-calls
 slice-aggregate-file-calls c = search needs
@@ -21,21 +23,17 @@ slice-aggregate-file-calls-2 c = search needs
 
 file-calls-requires : tie.Need-file-calls-requires
 file-calls-requires c κs =
-    let c1 = c .before .before in
-    let told-of = c1 .told-of in
-    let b = c1 .before .before .before .before in
-    let p = b .pre in
-    let t = told-of .ensures .1 (now (b .args .s)) (p .0) in
-    rw (told-of .ensures .0)
-    ((p .0, p .1 .0, p .1 .1 .0), (record { file = t .file; loading = t .loading }, covers.tables-start 512 refl (p .1 .1 .1)))
+    let k = c .before .before in
+    let told = k .told-of .ensures in
+    let p = start k .pre in
+    (rw (told .0) (p .0, p .1 .1 .0, p .1 .1 .1 .0), (told .2, rw (told .0) (covers.tables-start 512 528 refl refl (p .1 .1 .1 .1))))
 
 returns : tie.Need-returns
 returns c =
-    let c1 = c .before .before in
-    let f = c1 .file-calls in
-    let c2 = c1 .before .before .before in
-    let a = c2 .before .before .before .before .args in
-    walked.calls-number (now (a .domain)) (f .result) (rw (c2 .told-of .ensures .0) at (f .ensures))
+    let f = c .before .before .file-calls in
+    let k = c .before .before .before .before .before in
+    let a = start k .args in
+    walked.calls-number (aidAt (now (a .s)) (a .domain)) (f .result) (rw (k .told-of .ensures .0, k .told-of .ensures .1) at (f .ensures))
 
 pub calls-ok-spec : {M : Type 1} → statement M
 calls-ok-spec =

@@ -6,6 +6,7 @@ use denote.Ref.{now}
 use borrow.Author.Needs.{needs}
 use Rattle.files.specs.Say.{Methods}
 use Rattle.files.proofs.Steps as steps
+use Rattle.homes.specs.Homes.{aidAt}
 use Rattle.calls.specs.Maps.{TablesTrue}
 use Rattle.calls.specs.Calls.{OwnMethod}
 use Rattle.calls.proofs.Asked as asked
@@ -14,20 +15,23 @@ use Rattle.calls.proofs.class_calls.Statement.{statement}
 use Rattle.calls.proofs.class_calls.Tie as tie
 
 abbrev Inv-loop : tie.InvT-loop
-Inv-loop f s domain table a homes rows₀ map₀ start left₀ c₀ number₀ rows map left c number =
-    (length rows ≡ length rows₀) × (length map ≡ length map₀) × TablesTrue f s (a .end) domain homes rows map
-    × walked.MethodsLoop f s (a .end) domain start number left c
+Inv-loop f s table a homes rows₀ map₀ start left₀ c₀ number₀ rows map left c number =
+    (length rows ≡ length rows₀) × (length map ≡ length map₀) × TablesTrue f s (a .end) (a .domain) homes rows map
+    × walked.MethodsLoop f s (a .end) (aidAt s (a .domain)) start number left c
 
 abbrev μ-loop : tie.MeasureT-loop
-μ-loop f s domain table a homes rows₀ map₀ start left₀ c₀ number₀ rows map left c number = left
+μ-loop f s table a homes rows₀ map₀ start left₀ c₀ number₀ rows map left c number = left
 
--- the function's start, where the loop stands
+-- the function's start, where the list is found, and where the loop stands
+abbrev begin : tie.After-methods-of Inv-loop μ-loop → tie.Start Inv-loop μ-loop
+begin k = k .before .before .before .before .before
+
 abbrev start : tie.At-loop Inv-loop μ-loop → tie.Start Inv-loop μ-loop
-start k = k .before .before .before .before .before .before .before .before .before
+start k = begin (k .before .before .before)
 
 -- the list of methods
-methods : (k : tie.After-methods-of Inv-loop μ-loop) → Methods (now (k .before .before .before .before .before .before .args .f)) (k .methods-of .result)
-methods k = steps.methods-there (k .methods-of .ensures) (asked.class-there (k .before .before .before .before .before .before .pre .0 .0))
+methods : (k : tie.After-methods-of Inv-loop μ-loop) → Methods (now (begin k .args .f)) (k .methods-of .result)
+methods k = steps.methods-there (k .methods-of .ensures) (asked.class-there (begin k .pre .0 .0))
 
 -- the method at hand
 method : (k : tie.In-loop Inv-loop μ-loop) →
@@ -39,7 +43,7 @@ method k =
 
 methods-of-requires : tie.Need-methods-of-requires Inv-loop μ-loop
 methods-of-requires c κs =
-    let pre = c .before .before .before .before .before .pre in
+    let pre = c .before .before .before .before .pre in
     asked.class-there (pre .0 .0)
 
 shared-slice-read-wide : tie.Need-shared-slice-read-wide Inv-loop μ-loop
@@ -54,7 +58,7 @@ add-c c = omega (arith, steps.methods-in (methods (c .before .before)))
 loop-holds : tie.Need-loop-holds Inv-loop μ-loop
 loop-holds c =
     let c1 = c .before .before in
-    let b = c1 .before .before .before .before .before .before in
+    let b = begin c1 in
     (refl, refl, b .pre .1 .1, walked.methods-begin (b .pre .0 .0) (c1 .methods-of .ensures) (c .wide .ensures .0))
 
 asker-at-requires : tie.Need-asker-at-requires Inv-loop μ-loop
@@ -66,7 +70,7 @@ method-calls-requires c κs =
     let k = c1 .before in
     let b = start (k .before) in
     let t = b .pre .1 .0 in
-    rw (c1 .asker-at .ensures) ((method k, b .pre .0 .1), (record { file = t .file; loading = t .loading }, k .before .loop .inv .2))
+    rw (c1 .asker-at .ensures) ((method k, b .pre .0 .1), (record { file = t .file; domain = t .domain; loading = t .loading }, k .before .loop .inv .2))
 
 first-no-requires : tie.Need-first-no-requires Inv-loop μ-loop
 first-no-requires c κs = search needs

@@ -7,6 +7,7 @@ use borrow.Author.Needs.{needs}
 use Rattle.files.specs.Say.{Classes}
 use Rattle.files.proofs.Steps as steps
 use Rattle.files.proofs.Walks.{classes-there}
+use Rattle.homes.specs.Homes.{aidAt}
 use Rattle.calls.specs.Maps.{TablesTrue}
 use Rattle.calls.specs.Calls.{OwnClass}
 use Rattle.calls.proofs.Lookups as look
@@ -16,20 +17,23 @@ use Rattle.calls.proofs.file_calls.Statement.{statement}
 use Rattle.calls.proofs.file_calls.Tie as tie
 
 abbrev Inv-loop : tie.InvT-loop
-Inv-loop f s domain table a homes rows₀ map₀ start left₀ c₀ number₀ rows map left c number =
-    (length rows ≡ length rows₀) × (length map ≡ length map₀) × TablesTrue f s (a .end) domain homes rows map
-    × walked.ClassesLoop f s (a .end) domain start number left c
+Inv-loop f s table a homes rows₀ map₀ start left₀ c₀ number₀ rows map left c number =
+    (length rows ≡ length rows₀) × (length map ≡ length map₀) × TablesTrue f s (a .end) (a .domain) homes rows map
+    × walked.ClassesLoop f s (a .end) (aidAt s (a .domain)) start number left c
 
 abbrev μ-loop : tie.MeasureT-loop
-μ-loop f s domain table a homes rows₀ map₀ start left₀ c₀ number₀ rows map left c number = left
+μ-loop f s table a homes rows₀ map₀ start left₀ c₀ number₀ rows map left c number = left
 
--- the function's start, where the loop stands
+-- the function's start, where the list is found, and where the loop stands
+abbrev begin : tie.After-classes-at Inv-loop μ-loop → tie.Start Inv-loop μ-loop
+begin k = k .before .before .before .before .before
+
 abbrev start : tie.At-loop Inv-loop μ-loop → tie.Start Inv-loop μ-loop
-start k = k .before .before .before .before .before .before .before .before .before
+start k = begin (k .before .before .before)
 
 -- the list of classes
-classes : (k : tie.After-classes-at Inv-loop μ-loop) → Classes (now (k .before .before .before .before .before .before .args .f)) (k .classes-at .result)
-classes k = classes-there (k .classes-at .ensures) (look.judged-reads (k .before .before .before .before .before .before .pre .0 .0))
+classes : (k : tie.After-classes-at Inv-loop μ-loop) → Classes (now (begin k .args .f)) (k .classes-at .result)
+classes k = classes-there (k .classes-at .ensures) (look.judged-reads (begin k .pre .0 .0))
 
 -- the class at hand
 class : (k : tie.In-loop Inv-loop μ-loop) →
@@ -41,7 +45,7 @@ class k =
 
 classes-at-requires : tie.Need-classes-at-requires Inv-loop μ-loop
 classes-at-requires c κs =
-    let pre = c .before .before .before .before .before .pre in
+    let pre = c .before .before .before .before .pre in
     look.judged-reads (pre .0 .0)
 
 shared-slice-read-wide : tie.Need-shared-slice-read-wide Inv-loop μ-loop
@@ -56,7 +60,7 @@ add-c c = omega (arith, steps.classes-in (classes (c .before .before)))
 loop-holds : tie.Need-loop-holds Inv-loop μ-loop
 loop-holds c =
     let c1 = c .before .before in
-    let b = c1 .before .before .before .before .before .before in
+    let b = begin c1 in
     (refl, refl, b .pre .1 .1, walked.classes-begin (b .pre .0 .0) (b .pre .0 .1) (c1 .classes-at .ensures) (c .wide .ensures .0))
 
 asker-at-requires : tie.Need-asker-at-requires Inv-loop μ-loop
@@ -68,7 +72,7 @@ class-calls-requires c κs =
     let k = c1 .before in
     let b = start (k .before) in
     let t = b .pre .1 .0 in
-    rw (c1 .asker-at .ensures) ((class k, b .pre .0 .2), (record { file = t .file; loading = t .loading }, k .before .loop .inv .2))
+    rw (c1 .asker-at .ensures) ((class k, b .pre .0 .2), (record { file = t .file; domain = t .domain; loading = t .loading }, k .before .loop .inv .2))
 
 first-no-requires : tie.Need-first-no-requires Inv-loop μ-loop
 first-no-requires c κs = search needs

@@ -8,6 +8,7 @@ use borrow.Author.Needs.{needs}
 use Rattle.rules.specs.Bytes.{Bytes}
 use Rattle.codes.specs.Calls.{Follows}
 use Rattle.codes.specs.declared.NextCall.the-variants as next′
+use Rattle.homes.specs.Homes.{aidAt}
 use Rattle.calls.specs.Maps.{TablesTrue}
 use Rattle.calls.proofs.Asked as asked
 use Rattle.calls.proofs.Rights as rights
@@ -15,16 +16,16 @@ use Rattle.calls.proofs.method_calls.Statement.{statement}
 use Rattle.calls.proofs.method_calls.Tie as tie
 
 abbrev Inv-loop : tie.InvT-loop
-Inv-loop f s domain table a homes rows₀ map₀ code from₀ number₀ rows map from number =
-    (length rows ≡ length rows₀) × (length map ≡ length map₀) × TablesTrue f s (a .end) domain homes rows map
-    × asked.CallLoop f s (a .end) domain (a .at) code from number
+Inv-loop f s table a homes rows₀ map₀ code from₀ number₀ rows map from number =
+    (length rows ≡ length rows₀) × (length map ≡ length map₀) × TablesTrue f s (a .end) (a .domain) homes rows map
+    × asked.CallLoop f s (a .end) (aidAt s (a .domain)) (a .at) code from number
 
 abbrev μ-loop : tie.MeasureT-loop
-μ-loop f s domain table a homes rows₀ map₀ code from₀ number₀ rows map from number = length code - from
+μ-loop f s table a homes rows₀ map₀ code from₀ number₀ rows map from number = length code - from
 
 -- the function's start, where the loop stands
 abbrev start : tie.At-loop Inv-loop μ-loop → tie.Start Inv-loop μ-loop
-start k = k .before .before .before .before .before .before .before
+start k = k .before .before .before .before .before .before
 
 -- the code
 abbrev code : tie.At-loop Inv-loop μ-loop → Bytes
@@ -40,12 +41,12 @@ follows k =
 
 code-of-requires : tie.Need-code-of-requires Inv-loop μ-loop
 code-of-requires c κs =
-    let pre = c .before .before .before .before .before .pre in
+    let pre = c .before .before .before .before .pre in
     asked.method-there (pre .0 .0)
 
 loop-holds : tie.Need-loop-holds Inv-loop μ-loop
 loop-holds c =
-    let b = c .before .before .before .before .before .before in
+    let b = c .before .before .before .before .before in
     (refl, refl, b .pre .1 .1, asked.calls-begin (now (c .code-of .result)) (c .code-of .ensures) (b .pre .0 .0))
 
 next-call-requires : tie.Need-next-call-requires Inv-loop μ-loop
@@ -69,7 +70,7 @@ call-number-requires c κs =
     let b = start k in
     let t = k .loop .inv .2 in
     let x = c2 .kind .given .0 in
-    ((b .pre .0 .0, (x .0, x .1 .0, c1 .called .ensures .0)), ((b .pre .1 .0 .loading, t .homes), t .map))
+    ((b .pre .0 .0, (x .0, x .1 .0, c1 .called .ensures .0)), ((b .pre .1 .0, t .homes), t .map))
 
 first-no-requires : tie.Need-first-no-requires Inv-loop μ-loop
 first-no-requires c κs = search needs

@@ -1,6 +1,7 @@
 -- `judge::inside_answer` meets its contract. Assumes nothing.
 use mathlib.Core.Path.{refl, subst}
 use denote.Ref.{now}
+use Rattle.homes.specs.Homes.{aidAt}
 use Rattle.judge.specs.Says.{ParentsTold}
 use Rattle.judge.proofs.Loading as loading
 use borrow.Author.Needs.{needs}
@@ -9,8 +10,8 @@ use Rattle.judge.proofs.inside_answer.Tie as tie
 
 parents-answer-requires : tie.Need-parents-answer-requires
 parents-answer-requires c κs =
-    let pre = c .before .before .before .before .before .before .before .before .pre in
-    (pre .0, (pre .1 .0, (refl, pre .1 .1)))
+    let pre = c .before .before .before .before .before .before .before .pre in
+    (pre .0 .0, (pre .1 .0, (refl, pre .1 .1)))
 
 enum-known-n : tie.Need-enum-known-n
 enum-known-n c = search needs
@@ -23,12 +24,12 @@ inside-number-requires c κs =
     let depth = c .before .before .depth in
     let at-answer = c .before .before .before .before .before .before in
     let answer = at-answer .parents-answer in
-    let start = at-answer .before .before .before .before .before .before .before .before .before in
+    let start = at-answer .before .before .before .before .before .before .before .before in
     let a = start .args in
     let told = subst (ParentsTold (now (a .s)) (a .end) (now (a .file)) _ _) (depth .given .1) (answer .ensures .1) in
-    let asked = loading.asked-14 (now (a .s)) (a .end) (now (a .domain)) (now (a .file)) (answer .result) (answer .ensures .0) (depth .given .0 .0)
-    (depth .given .1) (start .pre .0) in
-    (asked, told .0)
+    let asked = loading.asked-14 (now (a .s)) (a .end) (aidAt (now (a .s)) (a .domain)) (now (a .file)) (answer .result) (answer .ensures .0) (depth .given .0 .0)
+    (depth .given .1) (start .pre .0 .0) in
+    ((asked, start .pre .0 .1), told .0)
 
 same-length : tie.Need-same-length
 same-length c = search needs
@@ -39,8 +40,8 @@ returns c =
     let depth = c .before .before .before .before .depth in
     let at-answer = c .before .before .before .before .before .before .before .before in
     let answer = at-answer .parents-answer in
-    let a = at-answer .before .before .before .before .before .before .before .before .before .args in
-    let no = loading.inside-refused (now (a .s)) (a .end) (now (a .domain)) (now (a .file)) (answer .result) (answer .ensures .0) (depth .given .0 .0)
+    let a = at-answer .before .before .before .before .before .before .before .before .args in
+    let no = loading.inside-refused (now (a .s)) (a .end) (aidAt (now (a .s)) (a .domain)) (now (a .file)) (answer .result) (answer .ensures .0) (depth .given .0 .0)
     (depth .given .1) (number .result) (number .ensures) (c .if1 .taken) in
     (no, tt)
 
@@ -52,8 +53,8 @@ returns-2 c =
     let n = c .before .n in
     let at-answer = c .before .before .before .before .before in
     let answer = at-answer .parents-answer in
-    let a = at-answer .before .before .before .before .before .before .before .before .before .args in
-    (loading.inside-first (now (a .s)) (a .end) (now (a .domain)) (now (a .file)) (answer .result) (answer .ensures .0) (n .given .0 .0) (n .given .1), tt)
+    let a = at-answer .before .before .before .before .before .before .before .before .args in
+    (loading.inside-first (now (a .s)) (a .end) (aidAt (now (a .s)) (a .domain)) (now (a .file)) (answer .result) (answer .ensures .0) (n .given .0 .0) (n .given .1), tt)
 
 same-length-3 : tie.Need-same-length-3
 same-length-3 c = search needs
@@ -64,9 +65,9 @@ returns-3 c =
     let depth = c .before .before .before .before .depth in
     let at-answer = c .before .before .before .before .before .before .before .before in
     let answer = at-answer .parents-answer in
-    let a = at-answer .before .before .before .before .before .before .before .before .before .args in
+    let a = at-answer .before .before .before .before .before .before .before .before .args in
     let told = subst (ParentsTold (now (a .s)) (a .end) (now (a .file)) _ _) (depth .given .1) (answer .ensures .1) in
-    let accepted = loading.inside-yes (now (a .s)) (a .end) (now (a .domain)) (now (a .file)) (answer .result) (answer .ensures .0) (depth .given .0 .0)
+    let accepted = loading.inside-yes (now (a .s)) (a .end) (aidAt (now (a .s)) (a .domain)) (now (a .file)) (answer .result) (answer .ensures .0) (depth .given .0 .0)
     (depth .given .1) (number .result) (number .ensures) (c .if1 .left) in
     (accepted, (told .1, told .2))
 

@@ -3,6 +3,7 @@ use Rattle.names.specs.Say.{NamesIs}
 use borrow.Author.Tests.{not-true, not-false}
 use mathlib.Core.Path.{_≡_, subst}
 use denote.Ref.{now}
+use Rattle.homes.specs.Homes.{aidAt}
 use Rattle.judge.proofs.Stages as stages
 use borrow.Author.Needs.{needs}
 use Rattle.judge.proofs.inside_number.Statement.{statement}
@@ -18,9 +19,9 @@ names-ok-requires c κs = search needs
 
 returns : tie.Need-returns
 returns c =
-    let a = c .before .before .before .before .before .args in
+    let a = c .before .before .before .before .args in
     let no = subst (NamesIs (now (a .file))) (not-true _ (c .if1 .taken)) (c .before .names-ok .ensures) in
-    stages.names-before (now (a .s)) (a .end) (now (a .domain)) (now (a .file)) no
+    stages.names-before (now (a .s)) (a .end) (aidAt (now (a .s)) (a .domain)) (now (a .file)) no
 
 codes-number-requires : tie.Need-codes-number-requires
 codes-number-requires c κs = search needs
@@ -31,31 +32,31 @@ cast-result c = search needs
 returns-2 : tie.Need-returns-2
 returns-2 c =
     let asked = c .before .before in
-    let a = asked .before .before .before .before .before .args in
+    let a = asked .before .before .before .before .args in
     let fifteen = subst (NamesIs (now (a .file))) (not-false _ (asked .if1 .left)) (asked .before .names-ok .ensures) in
     let codes = c .before .codes-number in
-    stages.codes-before (now (a .s)) (a .end) (now (a .domain)) (now (a .file)) fifteen (codes .result) (codes .ensures) (c .if2 .taken)
+    stages.codes-before (now (a .s)) (a .end) (aidAt (now (a .s)) (a .domain)) (now (a .file)) fifteen (codes .result) (codes .ensures) (c .if2 .taken)
 
 calls-number-requires : tie.Need-calls-number-requires
 calls-number-requires c κs =
     let asked = c .before .before in
-    let start = asked .before .before .before .before .before in
+    let start = asked .before .before .before .before in
     let a = start .args in
     let fifteen = subst (NamesIs (now (a .file))) (not-false _ (asked .if1 .left)) (asked .before .names-ok .ensures) in
     let codes = c .before .codes-number in
-    let split = stages.codes-split (now (a .s)) (a .end) (now (a .domain)) (now (a .file)) fifteen (codes .result) (codes .ensures) (start .pre .0)
+    let split = stages.codes-split (now (a .s)) (a .end) (aidAt (now (a .s)) (a .domain)) (now (a .file)) fifteen (codes .result) (codes .ensures) (start .pre .0 .0)
     (c .if2 .left) in
-    ((start .pre .0, split), start .pre .1)
+    ((start .pre .0 .0, split, start .pre .0 .1), start .pre .1)
 
 returns-3 : tie.Need-returns-3
 returns-3 c =
     let c1 = c .before .before in
     let codes = c1 .codes-number in
     let asked = c1 .before in
-    let a = asked .before .before .before .before .before .args in
+    let a = asked .before .before .before .before .args in
     let fifteen = subst (NamesIs (now (a .file))) (not-false _ (asked .if1 .left)) (asked .before .names-ok .ensures) in
     let calls = c .calls-number in
-    stages.calls-behind (now (a .s)) (a .end) (now (a .domain)) (now (a .file)) fifteen (codes .result) (codes .ensures) (c .before .if2 .left)
+    stages.calls-behind (now (a .s)) (a .end) (aidAt (now (a .s)) (a .domain)) (now (a .file)) fifteen (codes .result) (codes .ensures) (c .before .if2 .left)
     (calls .result) (calls .ensures)
 
 pub inside-number-spec : {M : Type 1} → statement M

@@ -1,75 +1,96 @@
--- `judge::load_answer` meets its contract. Assumes nothing.
-use Rattle.store.proofs.Sound.{over-stand, created-is}
-use Rattle.store.specs.declared.Spot.{Spot}
-use Rattle.store.specs.Answers.{spot}
-use Rattle.rules.specs.Bytes.{isSome}
-use borrow.Author.Tests.{not-true, not-false}
-use mathlib.Core.Path.{sym, _∙_, ap}
+-- `judge::load_answer` meets its contract: 3, 5, then the file's answer in the domain that was found. Assumes nothing.
+use Prim.Native.Nat.{ℕ, _+_}
+use native.Mathlib.Omega.{arith}
+use mathlib.Core.Path.{_≡_, sym, _∙_, ap, subst}
+use mathlib.Core.Bool.{true}
+use lib.ListN.{length}
 use denote.Ref.{now}
-use Rattle.judge.proofs.Loading as loading
 use borrow.Author.Needs.{needs}
+use borrow.Author.Tests.{not-true, not-false}
+use Rattle.rules.specs.Bytes.{Aid, isSome, aidLength, aid}
+use Rattle.store.specs.Answers.{spot}
+use Rattle.store.specs.declared.Spot.{Spot}
+use Rattle.store.proofs.Sound.{over-stand, created-is}
+use Rattle.places.specs.Reads.{Ends}
+use Rattle.homes.specs.Homes.{aidAt}
+use Rattle.homes.proofs.Domains.{aid-inside}
+use Rattle.judge.specs.Says.{FileSays}
+use Rattle.judge.proofs.Loading as loading
 use Rattle.judge.proofs.load_answer.Statement.{statement}
 use Rattle.judge.proofs.load_answer.Tie as tie
-use Rattle.judge.proofs.load_answer.Reads as reads
-use Rattle.judge.proofs.load_answer.Lts as lts
-use Rattle.cursor.proofs.length_ok.Reads as length-ok-reads
-use Rattle.judge.proofs.file_answer.Reads as file-answer-reads
-use Rattle.store.proofs.find_domain.Reads as find-domain-reads
+
+-- the function's start, where the domain's length was asked, and where the domain was looked for
+abbrev start : tie.After-length-ok → tie.Start
+start k = k .before .before .before .before .before .before .before
+
+abbrev begin : tie.After-find-domain → tie.Start
+begin k = start (k .before .before)
+
+-- the domain's AID has 5 to 16 bytes
+three : (k : tie.Else1) → aidLength (length (now (start (k .before) .args .domain))) ≡ true
+three k = let x = k .before .length-ok in sym (x .ensures) ∙ not-false (x .result) (k .if1 .left)
+
+-- it stands two bytes behind its entry's start
+stands : (k : tie.After-at) →
+    let a = begin (k .before .before) .args in
+    let at = k .at .given .0 .0 in
+    Ends aid (now (a .s)) (at + 2) × (now (a .domain) ≡ aidAt (now (a .s)) (at + 2))
+stands k =
+    let x = k .before .before in
+    let b = begin x in
+    let at = k .at .given .0 in
+    loading.domain-place (now (b .args .s)) (b .args .end) (now (b .args .domain)) (x .find-domain .result) (at .0) (at .1 .0) (x .find-domain .ensures)
+    (k .at .given .1) (b .pre .0) (three (x .before))
 
 length-ok-requires : tie.Need-length-ok-requires
 length-ok-requires c κs = search needs
 
 returns : tie.Need-returns
 returns c =
-    let a = c .before .before .before .before .before .before .before .before .args in
-    loading.load-3 (now (a .s)) (a .end) (now (a .domain)) (now (a .file))
-    (sym (c .before .length-ok .ensures) ∙ not-true (c .before .length-ok .result) (c .if1 .taken))
+    let k = c .before in
+    let a = start k .args in
+    loading.load-3 (now (a .s)) (a .end) (now (a .domain)) (now (a .file)) (sym (k .length-ok .ensures) ∙ not-true (k .length-ok .result) (c .if1 .taken))
 
 find-domain-requires : tie.Need-find-domain-requires
-find-domain-requires c κs =
-    let start = c .before .before .before .before .before .before .before .before in
-    let a = start .args in
-    over-stand (now (a .s)) (a .end) (start .pre .0)
+find-domain-requires c κs = let b = start (c .before) in over-stand (now (b .args .s)) (b .args .end) (b .pre .0)
+
+enum-known-at : tie.Need-enum-known-at
+enum-known-at c = search needs
+
+add-file-answer : tie.Need-add-file-answer
+add-file-answer c = omega (arith, aid-inside ((stands (c .before)) .0))
+
+file-answer-requires : tie.Need-file-answer-requires
+file-answer-requires c κs =
+    let k = c .before .before in
+    let pre = begin (k .before .before) .pre in
+    ((pre .0, (stands k) .0), pre .1)
 
 enum-told : tie.Need-enum-told
 enum-told c = search needs
-
-file-answer-requires : tie.Need-file-answer-requires
-file-answer-requires c κs = search needs
-
-enum-told-2 : tie.Need-enum-told-2
-enum-told-2 c = search needs
 
 same-length : tie.Need-same-length
 same-length c = search needs
 
 returns-2 : tie.Need-returns-2
 returns-2 c =
-    let c1 = c .before .before in
-    let file-answer = c1 .file-answer in
-    let c2 = c1 .before .before in
-    let c3 = c2 .before .before in
-    let find-domain = c3 .find-domain in
-    let c4 = c3 .before in
-    let c5 = c4 .before in
-    let length-ok = c5 .length-ok in
-    let a = c5 .before .before .before .before .before .before .before .args in
-    loading.load-file (now (a .s)) (a .end) (now (a .domain)) (now (a .file)) (sym (length-ok .ensures) ∙ not-false (length-ok .result) (c4 .if1 .left))
-    (λ es o. ap (λ (x : Spot). isSome (spot x)) (sym (c2 .enum-told .given .1)) ∙ created-is (now (a .s)) (a .end) (now (a .domain)) (find-domain .result)
-    (find-domain .ensures) es o)
-    (file-answer .result) (file-answer .ensures)
+    let file = c .before .before .file-answer in
+    let k = c .before .before .before .before .before in
+    let x = k .before .before in
+    let a = begin x .args in
+    let says = subst (λ (d : Aid). FileSays (now (a .s)) (a .end) d (now (a .file)) (file .result)) (sym ((stands k) .1)) (file .ensures) in
+    loading.load-file (now (a .s)) (a .end) (now (a .domain)) (now (a .file)) (three (x .before))
+    (λ es o. ap (λ (y : Spot). isSome (spot y)) (sym (k .at .given .1)) ∙ created-is (now (a .s)) (a .end) (now (a .domain)) (x .find-domain .result)
+    (x .find-domain .ensures) es o)
+    (file .result) says
 
 returns-3 : tie.Need-returns-3
 returns-3 c =
-    let c1 = c .before .before in
-    let find-domain = c1 .find-domain in
-    let c2 = c1 .before in
-    let c3 = c2 .before in
-    let length-ok = c3 .length-ok in
-    let a = c3 .before .before .before .before .before .before .before .args in
-    loading.load-5 (now (a .s)) (a .end) (now (a .domain)) (now (a .file)) (sym (length-ok .ensures) ∙ not-false (length-ok .result) (c2 .if1 .left))
-    (λ es o. ap (λ (x : Spot). isSome (spot x)) (sym (c .enum-told2 .given .1)) ∙ created-is (now (a .s)) (a .end) (now (a .domain)) (find-domain .result)
-    (find-domain .ensures) es o)
+    let x = c .before .before in
+    let a = begin x .args in
+    loading.load-5 (now (a .s)) (a .end) (now (a .domain)) (now (a .file)) (three (x .before))
+    (λ es o. ap (λ (y : Spot). isSome (spot y)) (sym (c .enum-told .given .1)) ∙ created-is (now (a .s)) (a .end) (now (a .domain)) (x .find-domain .result)
+    (x .find-domain .ensures) es o)
 
 pub load-answer-spec : {M : Type 1} → statement M
 load-answer-spec =
@@ -78,9 +99,10 @@ load-answer-spec =
     length-ok-requires
     returns
     find-domain-requires
-    enum-told
+    enum-known-at
+    add-file-answer
     file-answer-requires
-    enum-told-2
+    enum-told
     same-length
     returns-2
     returns-3)

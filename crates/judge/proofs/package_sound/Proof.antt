@@ -1,56 +1,70 @@
--- `judge::package_sound` meets its contract. Assumes nothing.
-use Prim.Native.Nat.{ℕ}
+-- `judge::package_sound` meets its contract: the questions of the package's entry, and what is kept of it where all are answered yes. Assumes nothing.
+use Prim.Native.Nat.{ℕ, _+_}
 use native.Mathlib.Omega.{arith}
 use mathlib.Core.Path.{_≡_, refl, subst}
 use denote.Ref.{now}
+use borrow.Author.Needs.{needs}
+use Rattle.rules.specs.Bytes.{Bytes, Aid}
 use Rattle.store.specs.Entries.{part}
-use Rattle.judge.specs.Says.{DepthsTold}
+use Rattle.homes.specs.Homes.{aidAt}
+use Rattle.homes.proofs.Domains.{aid-inside}
+use Rattle.judge.specs.Says.{Asked14Some, DepthsTold}
 use Rattle.judge.proofs.Packages as packages
 use Rattle.judge.proofs.Loading as loading
 use Rattle.judge.proofs.Stages as stages
-use borrow.Author.Needs.{needs}
 use Rattle.judge.proofs.package_sound.Statement.{statement}
 use Rattle.judge.proofs.package_sound.Tie as tie
 
+-- the function's start: where 10 to 19 are asked, where they were answered, where that was yes, and where 20 is asked
+abbrev start : tie.After-slice-known3 → tie.Start
+start k = k .before .before .before .before
+
+abbrev begin : tie.After-inside-answer → tie.Start
+begin k = start (k .before .before .before .before .before)
+
+abbrev answered : tie.After-enum-told2 → tie.After-inside-answer
+answered k = k .before .before .before
+
+abbrev told : tie.After-slice-known4 → tie.After-enum-told2
+told k = k .before .before .before .before .before
+
+-- the domain and the file of the entry
+abbrev domain : tie.Start → Aid
+domain b = aidAt (now (b .args .s)) (b .args .x .at + 3)
+
+abbrev file : tie.Start → Bytes
+file b = part (now (b .args .s)) (b .args .x .file) (b .args .x .next)
+
+-- the file passed 14
+asked : (k : tie.After-enum-told2) → let b = begin (answered k) in Asked14Some (now (b .args .s)) (b .args .x .at) (domain b) (file b)
+asked k =
+    let answer = answered k .inside-answer in
+    let b = begin (answered k) in
+    loading.asked-inside (now (b .args .s)) (b .args .x .at) (domain b) (file b) (answer .result) (answer .ensures .0) (k .enum-told2 .given .0 .0)
+    (k .enum-told2 .given .1) (b .pre .0 .0)
+
+add-inside-answer : tie.Need-add-inside-answer
+add-inside-answer c = omega (arith, aid-inside (start c .pre .0 .1 .domain))
+
 sub-inside-answer : tie.Need-sub-inside-answer
-sub-inside-answer c =
-    let t = c .before .before .before .before .pre .0 .1 in
-    omega (arith, t .domain, t .file, t .stands .to)
+sub-inside-answer c = let t = start c .pre .0 .1 in omega (arith, t .file, t .stands .to)
 
 part-inside-answer-start : tie.Need-part-inside-answer-start
-part-inside-answer-start c =
-    let t = c .before .before .before .before .pre .0 .1 in
-    omega (arith, t .domain, t .file, t .stands .to)
+part-inside-answer-start c = let t = start c .pre .0 .1 in omega (arith, t .file, t .stands .to)
 
 part-inside-answer-end : tie.Need-part-inside-answer-end
-part-inside-answer-end c =
-    let t = c .before .before .before .before .pre .0 .1 in
-    omega (arith, t .domain, t .file, t .stands .to)
-
-sub-inside-answer-2 : tie.Need-sub-inside-answer-2
-sub-inside-answer-2 c =
-    let t = c .before .before .before .before .before .pre .0 .1 in
-    omega (arith, t .domain, t .file, t .stands .to)
-
-part-inside-answer-start-2 : tie.Need-part-inside-answer-start-2
-part-inside-answer-start-2 c =
-    let t = c .before .before .before .before .before .pre .0 .1 in
-    omega (arith, t .domain, t .file, t .stands .to)
-
-part-inside-answer-end-2 : tie.Need-part-inside-answer-end-2
-part-inside-answer-end-2 c =
-    let t = c .before .before .before .before .before .pre .0 .1 in
-    omega (arith, t .domain, t .file, t .stands .to)
+part-inside-answer-end c = let t = start c .pre .0 .1 in omega (arith, t .file, t .stands .to)
 
 slice-aggregate-inside-answer : tie.Need-slice-aggregate-inside-answer
 slice-aggregate-inside-answer c = search needs
 
 inside-answer-requires : tie.Need-inside-answer-requires
 inside-answer-requires c κs =
-    let start = c .before .before .before .before .before .before .before .before .before in
-    let a = start .args in
-    let pre = start .pre in
-    (pre .0 .0, ((packages.indexed (now (a .s)) (a .x .at) _ (pre .0 .0) (pre .1 .0 .0), pre .1 .0 .1, pre .1 .1 .0), refl))
+    let b = start (c .before .before .before .before) in
+    let pre = b .pre in (
+      (pre .0 .0, pre .0 .1 .domain),
+      ((packages.indexed (now (b .args .s)) (b .args .x .at) _ (pre .0 .0) (pre .1 .0 .0), pre .1 .0 .1, pre .1 .1 .0), refl),
+    )
 
 enum-told : tie.Need-enum-told
 enum-told c = search needs
@@ -63,68 +77,32 @@ slice-aggregate-keep-depths c = search needs
 
 keep-depths-requires : tie.Need-keep-depths-requires
 keep-depths-requires c κs =
-    let told2 = c .before .before .enum-told2 in
-    let at-answer = c .before .before .before .before .before in
-    let answer = at-answer .inside-answer in
-    let start = at-answer .before .before .before .before .before .before .before .before .before .before in
-    let a = start .args in
-    let pre = start .pre in
-    let x = a .x in
-    let d = part (now (a .s)) (x .from) (x .file) in
-    let f = part (now (a .s)) (x .file) (x .next) in
-    let kept = subst (DepthsTold (now (a .s)) (x .at) f _) (told2 .given .1) (answer .ensures .1) in
-    let asked = loading.asked-inside (now (a .s)) (x .at) d f (answer .result) (answer .ensures .0) (told2 .given .0 .0) (told2 .given .1) (pre .0 .0) in
-    ((pre .0 .1 .file, pre .0 .1 .stands .to, pre .1 .0 .1 .room, pre .1 .1 .0), (stages.readable (now (a .s)) (x .at) d f asked, kept .1))
+    let k = c .before .before in
+    let b = begin (answered k) in
+    let pre = b .pre in
+    let depths = subst (DepthsTold (now (b .args .s)) (b .args .x .at) (file b) _) (k .enum-told2 .given .1) (answered k .inside-answer .ensures .1) in (
+      (pre .0 .1 .file, pre .0 .1 .stands .to, pre .1 .0 .1 .room, pre .1 .1 .0),
+      (stages.readable (now (b .args .s)) (b .args .x .at) (domain b) (file b) (asked k), depths .1),
+    )
+
+add-running-number : tie.Need-add-running-number
+add-running-number c = omega (arith, aid-inside (begin (answered (told c)) .pre .0 .1 .domain))
 
 sub-running-number : tie.Need-sub-running-number
-sub-running-number c =
-    let half = c .before .before .before .before .before .before .before .before .before in
-    let t = half .before .before .before .before .before .before .before .before .before .pre .0 .1 in
-    omega (arith, t .domain, t .file, t .stands .to)
+sub-running-number c = let t = begin (answered (told c)) .pre .0 .1 in omega (arith, t .file, t .stands .to)
 
 part-running-number-start : tie.Need-part-running-number-start
-part-running-number-start c =
-    let half = c .before .before .before .before .before .before .before .before .before in
-    let t = half .before .before .before .before .before .before .before .before .before .pre .0 .1 in
-    omega (arith, t .domain, t .file, t .stands .to)
+part-running-number-start c = let t = begin (answered (told c)) .pre .0 .1 in omega (arith, t .file, t .stands .to)
 
 part-running-number-end : tie.Need-part-running-number-end
-part-running-number-end c =
-    let half = c .before .before .before .before .before .before .before .before .before in
-    let t = half .before .before .before .before .before .before .before .before .before .pre .0 .1 in
-    omega (arith, t .domain, t .file, t .stands .to)
-
-sub-running-number-2 : tie.Need-sub-running-number-2
-sub-running-number-2 c =
-    let half = c .before .before .before .before .before .before .before .before .before in
-    let t = half .before .before .before .before .before .before .before .before .before .before .pre .0 .1 in
-    omega (arith, t .domain, t .file, t .stands .to)
-
-part-running-number-start-2 : tie.Need-part-running-number-start-2
-part-running-number-start-2 c =
-    let half = c .before .before .before .before .before .before .before .before .before in
-    let t = half .before .before .before .before .before .before .before .before .before .before .pre .0 .1 in
-    omega (arith, t .domain, t .file, t .stands .to)
-
-part-running-number-end-2 : tie.Need-part-running-number-end-2
-part-running-number-end-2 c =
-    let half = c .before .before .before .before .before .before .before .before .before in
-    let t = half .before .before .before .before .before .before .before .before .before .before .pre .0 .1 in
-    omega (arith, t .domain, t .file, t .stands .to)
+part-running-number-end c = let t = begin (answered (told c)) .pre .0 .1 in omega (arith, t .file, t .stands .to)
 
 running-number-requires : tie.Need-running-number-requires
 running-number-requires c κs =
-    let told2 = c .before .before .before .before .before .before .before .before .before .enum-told2 in
-    let at-answer = c .before .before .before .before .before .before .before .before .before .before .before .before in
-    let answer = at-answer .inside-answer in
-    let start = at-answer .before .before .before .before .before .before .before .before .before .before in
-    let a = start .args in
-    let pre = start .pre in
-    let x = a .x in
-    let d = part (now (a .s)) (x .from) (x .file) in
-    let f = part (now (a .s)) (x .file) (x .next) in
-    let asked = loading.asked-inside (now (a .s)) (x .at) d f (answer .result) (answer .ensures .0) (told2 .given .0 .0) (told2 .given .1) (pre .0 .0) in
-    ((asked, packages.indexed (now (a .s)) (x .at) _ (pre .0 .0) (pre .1 .0 .0)), pre .1 .1)
+    let k = told (c .before .before .before) in
+    let b = begin (answered k) in
+    let pre = b .pre in
+    ((asked k, packages.indexed (now (b .args .s)) (b .args .x .at) _ (pre .0 .0) (pre .1 .0 .0), pre .0 .1 .domain), pre .1 .1)
 
 same-length : tie.Need-same-length
 same-length c = search needs
@@ -135,36 +113,34 @@ same-length-2 c = search needs
 same-length-3 : tie.Need-same-length-3
 same-length-3 c = search needs
 
+-- the number from 20 on is the entry's
+later : (c : tie.After-running-number) →
+    let b = begin (answered (told (c .before .before .before .before))) in
+    packages.NumberIs (now (b .args .s)) (b .args .x) (c .running-number .result)
+later c =
+    let k = told (c .before .before .before .before) in
+    let answer = answered k .inside-answer in
+    let b = begin (answered k) in
+    loading.later-number (now (b .args .s)) (b .args .x .at) (domain b) (file b) (answer .result) (answer .ensures .0) (k .enum-told2 .given .0 .0)
+    (k .enum-told2 .given .1) (c .running-number .result) (c .running-number .ensures)
+
 returns : tie.Need-returns
 returns c =
-    let number = c .before .before .before .running-number in
-    let told2 = c .before .before .before .before .before .before .before .before .before .before .before .before .before .enum-told2 in
-    let at-answer = c .before .before .before .before .before .before .before .before .before .before .before .before .before .before .before .before in
-    let answer = at-answer .inside-answer in
-    let start = at-answer .before .before .before .before .before .before .before .before .before .before in
-    let a = start .args in
-    let pre = start .pre in
-    let x = a .x in
-    let d = part (now (a .s)) (x .from) (x .file) in
-    let f = part (now (a .s)) (x .file) (x .next) in
-    let is = loading.later-number (now (a .s)) (x .at) d f (answer .result) (answer .ensures .0) (told2 .given .0 .0) (told2 .given .1) (number .result)
-    (number .ensures) in
-    (packages.entry-no (now (a .s)) x (pre .0 .1) (number .result) (c .if1 .taken) is, λ e. let z : _≡_ {A = ℕ} 0 1 = cc in absurd (omega arith))
+    let ran = c .before .before .before in
+    let b = begin (answered (told (ran .before .before .before .before))) in (
+      packages.entry-no (now (b .args .s)) (b .args .x) (b .pre .0 .1) (ran .running-number .result) (c .if1 .taken) (later ran),
+      λ e. let z : _≡_ {A = ℕ} 0 1 = cc in absurd (omega arith),
+    )
 
 enter-package-requires : tie.Need-enter-package-requires
 enter-package-requires c κs =
-    let told2 = c .before .before .before .before .before .before .before .before .before .before .before .before .before .before .enum-told2 in
-    let at-answer = c .before .before .before .before .before .before .before .before .before .before .before .before .before .before .before .before .before in
-    let answer = at-answer .inside-answer in
-    let start = at-answer .before .before .before .before .before .before .before .before .before .before in
-    let a = start .args in
-    let pre = start .pre in
-    let x = a .x in
-    let d = part (now (a .s)) (x .from) (x .file) in
-    let f = part (now (a .s)) (x .file) (x .next) in
-    let asked = loading.asked-inside (now (a .s)) (x .at) d f (answer .result) (answer .ensures .0) (told2 .given .0 .0) (told2 .given .1) (pre .0 .0) in
-    let stands = packages.package-stands (now (a .s)) x (pre .0 .1) (asked .0) (asked .1) (asked .2) in
-    ((pre .1 .0 .0, packages.files-stand (now (a .s)) (x .at) (pre .0 .0)), (stands, pre .1 .1 .0))
+    let ran = c .before .before .before .before in
+    let k = told (ran .before .before .before .before) in
+    let b = begin (answered k) in
+    let pre = b .pre in
+    let yes = asked k in
+    let stands = packages.package-stands (now (b .args .s)) (b .args .x) (pre .0 .1) (yes .0) (yes .1) (yes .2) in
+    ((pre .1 .0 .0, packages.files-stand (now (b .args .s)) (b .args .x .at) (pre .0 .0)), (stands, pre .1 .1 .0))
 
 same-length-4 : tie.Need-same-length-4
 same-length-4 c = search needs
@@ -174,16 +150,17 @@ same-length-5 c = search needs
 
 returns-2 : tie.Need-returns-2
 returns-2 c =
-    let at-answer = c .before .before .before in
-    let answer = at-answer .inside-answer in
-    let start = at-answer .before .before .before .before .before .before .before .before .before .before in
-    let a = start .args in
-    let x = a .x in
+    let k = c .before .before .before in
+    let answer = k .inside-answer in
+    let b = begin k in
     let n = c .enum-told .given .0 .0 in
-    let d = part (now (a .s)) (x .from) (x .file) in
-    let f = part (now (a .s)) (x .file) (x .next) in
-    let no = packages.first-number (now (a .s)) (x .at) d f (answer .result) n (answer .ensures .0) (c .enum-told .given .1) (start .pre .0 .0) in
-    (packages.entry-no (now (a .s)) x (start .pre .0 .1) n (no .0) (no .1), λ e. let z : _≡_ {A = ℕ} 0 1 = cc in absurd (omega arith))
+    let no =
+    packages.first-number (now (b .args .s)) (b .args .x .at) (domain b) (file b) (answer .result) n (answer .ensures .0) (c .enum-told .given .1)
+    (b .pre .0 .0)
+    in (
+      packages.entry-no (now (b .args .s)) (b .args .x) (b .pre .0 .1) n (no .0) (no .1),
+      λ e. let z : _≡_ {A = ℕ} 0 1 = cc in absurd (omega arith),
+    )
 
 same-length-6 : tie.Need-same-length-6
 same-length-6 c = search needs
@@ -196,49 +173,37 @@ same-length-8 c = search needs
 
 returns-3 : tie.Need-returns-3
 returns-3 c =
-    let number = c .before .before .before .before .before .before .before .running-number in
-    let keep = c .before .before .before .before .before .before .before .before .before .before .before .before .before .before .keep-depths in
-    let half = c .before .before .before .before .before .before .before .before in
-    let told2 = half .before .before .before .before .before .before .before .before .before .enum-told2 in
-    let half = c .before .before .before .before .before .before .before .before .before in
-    let at-answer = half .before .before .before .before .before .before .before .before .before .before .before in
-    let answer = at-answer .inside-answer in
-    let start = at-answer .before .before .before .before .before .before .before .before .before .before in
-    let a = start .args in
-    let pre = start .pre in
-    let x = a .x in
-    let d = part (now (a .s)) (x .from) (x .file) in
-    let f = part (now (a .s)) (x .file) (x .next) in
-    let kept = subst (DepthsTold (now (a .s)) (x .at) f _) (told2 .given .1) (answer .ensures .1) in
-    let is = loading.later-number (now (a .s)) (x .at) d f (answer .result) (answer .ensures .0) (told2 .given .0 .0) (told2 .given .1) (number .result)
-    (number .ensures) in
-    let behind = packages.depths-behind (now (a .s)) x (pre .0 .1) (pre .0 .0) (pre .1 .0 .1) (kept .1) (kept .0) (keep .ensures .0) (keep .ensures .1)
-    (omega (arith, keep .kept .1 .0)) in
-    let accepted = packages.entry-yes (now (a .s)) x (pre .0 .1) (number .result) (c .before .before .before .before .if1 .left) is in
-    (accepted, λ e. (c .before .before .enter-package .ensures, behind))
+    let ran = c .before .before .before .before .before .before .before in
+    let four = ran .before .before .before .before in
+    let keep = four .before .before .keep-depths in
+    let k = told four in
+    let b = begin (answered k) in
+    let pre = b .pre in
+    let depths = subst (DepthsTold (now (b .args .s)) (b .args .x .at) (file b) _) (k .enum-told2 .given .1) (answered k .inside-answer .ensures .1) in
+    let behind = packages.depths-behind (now (b .args .s)) (b .args .x) (pre .0 .1) (pre .0 .0) (pre .1 .0 .1) (depths .1) (depths .0) (keep .ensures .0)
+    (keep .ensures .1) (omega (arith, keep .kept .1 .0)) in (
+      packages.entry-yes (now (b .args .s)) (b .args .x) (pre .0 .1) (ran .running-number .result) (c .before .before .before .before .if1 .left) (later ran),
+      λ e. (c .before .before .enter-package .ensures, behind),
+    )
 
 pub package-sound-spec : {M : Type 1} → statement M
 package-sound-spec =
     tie.close
     (tie.spec
+    add-inside-answer
     sub-inside-answer
     part-inside-answer-start
     part-inside-answer-end
-    sub-inside-answer-2
-    part-inside-answer-start-2
-    part-inside-answer-end-2
     slice-aggregate-inside-answer
     inside-answer-requires
     enum-told
     enum-told-2
     slice-aggregate-keep-depths
     keep-depths-requires
+    add-running-number
     sub-running-number
     part-running-number-start
     part-running-number-end
-    sub-running-number-2
-    part-running-number-start-2
-    part-running-number-end-2
     running-number-requires
     same-length
     same-length-2

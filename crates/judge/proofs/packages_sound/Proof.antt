@@ -1,7 +1,5 @@
 -- `judge::packages_sound` meets its contract. Assumes nothing.
-use Rattle.rules.specs.Store.{loaded}
-use Rattle.store.specs.Entries.{part}
-use Rattle.judge.specs.Says.{EntrySays}
+use Rattle.judge.specs.Says.{EntrySays, entryOf}
 use Rattle.depths.proofs.Kept.{depths-domain}
 use Rattle.depths.specs.Depths.{DepthsKept}
 use Rattle.index.proofs.Entering.{index-domain}
@@ -81,13 +79,13 @@ loop-again c =
       turn .inv .5,
     )
 
-enum-known-from : tie.Need-enum-known-from Inv-loop μ-loop
-enum-known-from c = search needs
+enum-known-file : tie.Need-enum-known-file Inv-loop μ-loop
+enum-known-file c = search needs
 
 package-sound-requires : tie.Need-package-sound-requires Inv-loop μ-loop
 package-sound-requires c κs =
     let c1 = c .before .before .before .before in
-    let from = c1 .from in
+    let from = c1 .file in
     let c2 = c1 .before .before in
     let c3 = c2 .before in
     let turn = c3 .loop in
@@ -126,7 +124,7 @@ returns : tie.Need-returns Inv-loop μ-loop
 returns c =
     let c1 = c .before .before .before .before .before .before .before in
     let c2 = c1 .before .before .before .before .before in
-    let from = c2 .from in
+    let from = c2 .file in
     let c3 = c2 .before .before in
     let c4 = c3 .before in
     let turn = c4 .loop in
@@ -135,8 +133,7 @@ returns c =
     let st = start .pre .0 .0 in (
       packages.package-bad (now (a .s)) (a .end) (turn .at) (turn .inv .0) (from .given .0 .0) (from .given .0 .1 .0) (from .given .0 .1 .1 .0)
           (subst (PartAt (now (a .s)) (turn .at) (a .end)) (from .given .1) (c3 .entry-at .ensures))
-          (subst (EntrySays (now (a .s)) (turn .at) (loaded (part (now (a .s)) (from .given .0 .0) (from .given .0 .1 .0))
-          (part (now (a .s)) (from .given .0 .1 .0) (from .given .0 .1 .1 .0)))) (not-true _ (c .if1 .taken)) (c1 .package-sound .ensures .0)),
+          (subst (EntrySays (now (a .s)) (turn .at) (entryOf (now (a .s)) (record { at = turn .at; file = from .given .0 .1 .0; next = from .given .0 .1 .1 .0 }))) (not-true _ (c .if1 .taken)) (c1 .package-sound .ensures .0)),
       λ e. let z :
           _≡_ {A = ℕ} 0 1 = cc in absurd (omega arith),
     )
@@ -144,7 +141,7 @@ returns c =
 loop-less-2 : tie.Need-loop-less-2 Inv-loop μ-loop
 loop-less-2 c =
     let c1 = c .before .before .before .before .before .before .before .before .before .before .before .before in
-    let from = c1 .from in
+    let from = c1 .file in
     let c2 = c1 .before .before in
     let c3 = c2 .before in
     let turn = c3 .loop in
@@ -160,7 +157,7 @@ loop-again-2 c =
     let c1 = c .before .before .before .before .before .before .before in
     let package-sound = c1 .package-sound in
     let c2 = c1 .before .before .before .before .before in
-    let from = c2 .from in
+    let from = c2 .file in
     let c3 = c2 .before .before in
     let c4 = c3 .before in
     let turn = c4 .loop in
@@ -170,8 +167,7 @@ loop-again-2 c =
     let kept = package-sound .ensures .1 (not-false _ (c .if1 .left)) in (
       packages.package-on (now (a .s)) (a .end) (turn .at) (turn .inv .0) (from .given .0 .0) (from .given .0 .1 .0) (from .given .0 .1 .1 .0)
           (subst (PartAt (now (a .s)) (turn .at) (a .end)) (from .given .1) (c3 .entry-at .ensures))
-          (subst (EntrySays (now (a .s)) (turn .at) (loaded (part (now (a .s)) (from .given .0 .0) (from .given .0 .1 .0))
-          (part (now (a .s)) (from .given .0 .1 .0) (from .given .0 .1 .1 .0)))) (not-false _ (c .if1 .left)) (package-sound .ensures .0)),
+          (subst (EntrySays (now (a .s)) (turn .at) (entryOf (now (a .s)) (record { at = turn .at; file = from .given .0 .1 .0; next = from .given .0 .1 .1 .0 }))) (not-false _ (c .if1 .left)) (package-sound .ensures .0)),
       kept .0,
       kept .1,
       omega (arith, turn .inv .3, package-sound .kept .1 .1 .0),
@@ -228,7 +224,7 @@ packages-sound-spec =
     enum-known-next
     loop-less
     loop-again
-    enum-known-from
+    enum-known-file
     package-sound-requires
     same-length
     same-length-2

@@ -1,88 +1,106 @@
--- `policies::admits_all_of` meets its contract: FF is answered first; the loop goes on while the AIDs at the indexes passed are allowed. Assumes nothing.
+-- `policies::admits_all_of` meets its contract: FF is answered first; the loop goes on while what the indexes passed mean is allowed. Assumes nothing.
 use Prim.Native.Nat.{ℕ, _<_}
 use native.Mathlib.Omega.{arith}
-use mathlib.Core.Path.{_≡_, sym, _∙_, subst}
+use mathlib.Core.Path.{_≡_, sym, _∙_, ap, subst}
 use mathlib.Core.Bool.{Bool, true, false}
+use lib.Dec.{ltb}
 use lib.ListN.{length, getD}
 use denote.Ref.{now}
 use borrow.Author.Needs.{needs}
-use borrow.Author.Tests.{not-true, not-false}
+use borrow.Author.Tests.{lt-ltb, le-ltb}
+use Rattle.policies.specs.Say.{slotOf, HasSlot, SlotIs, Admits}
 use Rattle.policies.proofs.Rules as rules
-use Rattle.policies.specs.Say.{HasAid, AdmitsNth}
 use Rattle.policies.proofs.admits_all_of.Statement.{statement}
 use Rattle.policies.proofs.admits_all_of.Tie as tie
 
 abbrev Inv-loop : tie.InvT-loop
-Inv-loop s domains i t u v left₀ c₀ left c = rules.IndexLoop s domains i t u v left c
+Inv-loop s own p t other q at₀ v₀ left₀ c₀ left c = rules.IndexLoop s (p .domains) own (p .policy) t (q .domains) other (q .policy) left c
 
 abbrev μ-loop : tie.MeasureT-loop
-μ-loop s domains at t u v left₀ c₀ left c = left
+μ-loop s own p t other q at₀ v₀ left₀ c₀ left c = left
 
--- the function's start, where the loop stands
+-- the function's start: where the first policy's first byte is read, where the second one's is, where the loop stands
+abbrev begin : tie.After-shared-slice-known5 Inv-loop μ-loop → tie.Start Inv-loop μ-loop
+begin k = k .before .before .before .before .before
+
+abbrev second : tie.After-shared-slice-known6 Inv-loop μ-loop → tie.Start Inv-loop μ-loop
+second k = begin (k .before .before .before)
+
 abbrev start : tie.At-loop Inv-loop μ-loop → tie.Start Inv-loop μ-loop
-start k = k .before .before .before .before .before .before .before .before .before
+start k = second (k .before .before .before)
 
--- the policy at v is not FF
-listed : (k : tie.At-loop Inv-loop μ-loop) → getD (now (start k .args .t)) (start k .args .v) 0 ≡ 255 → ⊥
-listed k e = k .before .if2 .left (k .before .before .wide2 .ensures .0 ∙ e)
+-- the second policy is not FF, nor is the first
+listed : (k : tie.Else2 Inv-loop μ-loop) →
+    let a = second (k .before .before) .args in
+    getD (now (a .t)) (a .q .policy) 0 ≡ 255 → ⊥
+listed k e = k .if2 .left (k .before .wide2 .ensures .0 ∙ e)
 
--- nor is the policy at `at`
-first : (k : tie.At-loop Inv-loop μ-loop) → getD (now (start k .args .s)) (start k .args .at) 0 ≡ 255 → ⊥
-first k e = k .before .before .before .before .if1 .left (k .before .before .before .before .before .wide .ensures .0 ∙ e)
+first : (k : tie.Else1 Inv-loop μ-loop) →
+    let a = begin (k .before .before) .args in
+    getD (now (a .s)) (a .p .policy) 0 ≡ 255 → ⊥
+first k e = k .if1 .left (k .before .wide .ensures .0 ∙ e)
 
 -- the index at hand
 index : (k : tie.In-loop Inv-loop μ-loop) →
     let a = start (k .before) .args in
-    (k .before .loop .c < length (now (a .t))) × HasAid (now (a .t)) (a .u) (getD (now (a .t)) (k .before .loop .c) 0)
+    (k .before .loop .c < length (now (a .t))) × HasSlot (now (a .t)) (a .q .domains) (slotOf (getD (now (a .t)) (k .before .loop .c) 0))
 index k =
     let b = start (k .before) in
-    rules.index-here (b .args .v) (k .before .loop .inv) (listed (k .before)) (k .loop-test .taken) (b .pre .0) (b .pre .1)
+    rules.index-here (now (b .args .own)) (now (b .args .other)) (b .args .q .policy) (k .before .loop .inv) (listed (k .before .before))
+    (k .loop-test .taken) (b .pre .0) (b .pre .1)
 
--- whether the AID with that number is allowed
-answer : (k : tie.After-admits-nth Inv-loop μ-loop) (r : Bool) → k .admits-nth .result ≡ r →
+-- its slot
+index-slot : (k : tie.After-slot Inv-loop μ-loop) →
     let o = k .before .before .before .before in
+    k .slot .result ≡ slotOf (getD (now (start o .args .t)) (o .loop .c) 0)
+index-slot k = k .slot .ensures ∙ ap slotOf (k .before .wide3 .ensures .0)
+
+-- what it stands for
+stands : (k : tie.After-slot-aid Inv-loop μ-loop) →
+    let o = k .before .before .before .before .before in
     let a = start o .args in
-    AdmitsNth (now (a .s)) (a .domains) (a .at) (now (a .t)) (a .u) (getD (now (a .t)) (o .loop .c) 0) r
+    SlotIs (now (a .t)) (a .q .domains) (now (a .other)) (slotOf (getD (now (a .t)) (o .loop .c) 0)) (now (k .slot-aid .result))
+stands k =
+    let a = start (k .before .before .before .before .before) .args in
+    subst (λ (n : ℕ). SlotIs (now (a .t)) (a .q .domains) (now (a .other)) n (now (k .slot-aid .result))) (index-slot (k .before)) (k .slot-aid .ensures)
+
+-- whether that is allowed
+answer : (k : tie.After-listed-slot Inv-loop μ-loop) (r : Bool) → ltb (k .listed-slot .result) 33 ≡ r →
+    let a = start (k .before .before .before .before .before .before) .args in
+    Admits (now (a .s)) (a .p .domains) (now (a .own)) (a .p .policy) (now (k .before .slot-aid .result)) r
 answer k r e =
-    let a = start (k .before .before .before .before) .args in
-    let q = subst (AdmitsNth (now (a .s)) (a .domains) (a .at) (now (a .t)) (a .u) (k .before .wide3 .result)) e (k .admits-nth .ensures) in
-    subst (λ (n : ℕ). AdmitsNth (now (a .s)) (a .domains) (a .at) (now (a .t)) (a .u) n r) (k .before .wide3 .ensures .0) q
+    let a = start (k .before .before .before .before .before .before) .args in
+    subst (Admits (now (a .s)) (a .p .domains) (now (a .own)) (a .p .policy) (now (k .before .slot-aid .result))) e (k .listed-slot .ensures .answer)
 
 shared-slice-read-wide : tie.Need-shared-slice-read-wide Inv-loop μ-loop
-shared-slice-read-wide c =
-    let pre = c .before .before .before .pre in
-    rules.over-in (pre .0)
+shared-slice-read-wide c = rules.over-in (begin c .pre .0)
 
 wide-requires : tie.Need-wide-requires Inv-loop μ-loop
 wide-requires c κs = search needs
 
 returns : tie.Need-returns Inv-loop μ-loop
-returns c = rules.all-every (sym (c .before .wide .ensures .0) ∙ c .if1 .taken)
+returns c =
+    let a = begin (c .before .before) .args in
+    rules.all-every (now (a .own)) (now (a .other)) (sym (c .before .wide .ensures .0) ∙ c .if1 .taken)
 
 shared-slice-read-wide-2 : tie.Need-shared-slice-read-wide-2 Inv-loop μ-loop
-shared-slice-read-wide-2 c =
-    let pre = c .before .before .before .before .before .before .pre in
-    rules.over-in (pre .1)
+shared-slice-read-wide-2 c = rules.over-in (second c .pre .1)
 
 wide-requires-2 : tie.Need-wide-requires-2 Inv-loop μ-loop
 wide-requires-2 c κs = search needs
 
 returns-2 : tie.Need-returns-2 Inv-loop μ-loop
 returns-2 c =
-    let c1 = c .before .before .before in
-    let wide = c1 .before .wide in
-    rules.all-within (λ e. c1 .if1 .left (wide .ensures .0 ∙ e))
-    (sym (c .before .wide2 .ensures .0) ∙ c .if2 .taken)
+    let a = second (c .before .before) .args in
+    rules.all-within (now (a .own)) (now (a .other)) (first (c .before .before .before)) (sym (c .before .wide2 .ensures .0) ∙ c .if2 .taken)
 
 add-c : tie.Need-add-c Inv-loop μ-loop
-add-c c =
-    let pre = c .before .before .before .before .before .before .before .before .pre in
-    omega (arith, rules.over-in (pre .1))
+add-c c = omega (arith, rules.over-in (second (c .before .before) .pre .1))
 
 loop-holds : tie.Need-loop-holds Inv-loop μ-loop
 loop-holds c =
-    let a = c .before .before .before .before .before .before .before .before .args in
-    rules.indexes-start (a .v) (c .before .wide2 .ensures .0)
+    let a = second (c .before .before) .args in
+    rules.indexes-start (now (a .own)) (now (a .other)) (a .q .policy) (c .before .wide2 .ensures .0)
 
 shared-slice-read-wide-3 : tie.Need-shared-slice-read-wide-3 Inv-loop μ-loop
 shared-slice-read-wide-3 c = (index (c .before)) .0
@@ -90,23 +108,29 @@ shared-slice-read-wide-3 c = (index (c .before)) .0
 wide-requires-3 : tie.Need-wide-requires-3 Inv-loop μ-loop
 wide-requires-3 c κs = search needs
 
-admits-nth-requires : tie.Need-admits-nth-requires Inv-loop μ-loop
-admits-nth-requires c κs =
-    let earlier = c .before .before in
-    let earlier-told = earlier .before in
-    (start earlier-told .pre .0, rw (c .wide3 .ensures .0) ((index earlier) .1))
+slot-requires : tie.Need-slot-requires Inv-loop μ-loop
+slot-requires c κs = search needs
+
+slot-aid-requires : tie.Need-slot-aid-requires Inv-loop μ-loop
+slot-aid-requires c κs = rw (index-slot c) ((index (c .before .before .before)) .1)
+
+listed-slot-requires : tie.Need-listed-slot-requires Inv-loop μ-loop
+listed-slot-requires c κs =
+    let o = c .before .before .before .before .before in
+    (start o .pre .0, first (o .before .before .before .before))
 
 returns-3 : tie.Need-returns-3 Inv-loop μ-loop
 returns-3 c =
-    let k = c .before .before .before .before in
+    let x = c .before .before in
+    let k = x .before .before .before .before in
     let o = k .before in
-    let q = answer (c .before) false (not-true (c .before .admits-nth .result) (c .if3 .taken)) in
-    rules.all-hit (start o .args .v) (o .loop .inv) (listed o) (first o) (k .loop-test .taken) q
+    let a = start o .args in
+    let refused = answer (c .before) false (le-ltb (c .before .listed-slot .result) 33 (omega (arith, c .if3 .taken))) in
+    rules.all-hit (now (a .own)) (now (a .other)) (a .q .policy) (o .loop .inv) (listed (o .before)) (first (o .before .before .before .before))
+    (k .loop-test .taken) (now (x .slot-aid .result)) (stands x) refused
 
 add-c-2 : tie.Need-add-c-2 Inv-loop μ-loop
-add-c-2 c =
-    let earlier = c .before .before .before .before in
-    omega (arith, (index earlier) .0)
+add-c-2 c = omega (arith, (index (c .before .before .before .before .before .before)) .0)
 
 sub-left : tie.Need-sub-left Inv-loop μ-loop
 sub-left c = omega arith
@@ -116,20 +140,20 @@ loop-less c = omega arith
 
 loop-again : tie.Need-loop-again Inv-loop μ-loop
 loop-again c =
-    let k = c .before .before .before .before in
-    let q = answer (c .before) true (not-false (c .before .admits-nth .result) (c .if3 .left)) in
-    rules.all-miss (start (k .before) .args .v) (k .before .loop .inv) (listed (k .before)) (k .loop-test .taken) q
+    let x = c .before .before in
+    let k = x .before .before .before .before in
+    let o = k .before in
+    let a = start o .args in
+    let allowed = answer (c .before) true (lt-ltb (c .before .listed-slot .result) 33 (omega (arith, c .if3 .left))) in
+    rules.all-miss (now (a .own)) (now (a .other)) (a .q .policy) (o .loop .inv) (listed (o .before)) (k .loop-test .taken) (now (x .slot-aid .result))
+    (stands x) allowed
 
 returns-4 : tie.Need-returns-4 Inv-loop μ-loop
 returns-4 c =
-    let c1 = c .before .before in
-    let c2 = c1 .before in
-    let c3 = c2 .before .before in
-    let c4 = c3 .before in
-    let n = c4 .wide in
-    let a = c4 .before .before .before .before .args in
-    rules.all-none (a .v) (c .before .loop .inv) (λ e. c1 .if2 .left (c2 .wide2 .ensures .0 ∙ e))
-    (λ e. c3 .if1 .left (n .ensures .0 ∙ e)) (c .loop-test .left)
+    let o = c .before in
+    let a = start o .args in
+    rules.all-none (now (a .own)) (now (a .other)) (a .q .policy) (o .loop .inv) (listed (o .before)) (first (o .before .before .before .before))
+    (c .loop-test .left)
 
 pub admits-all-of-spec : {M : Type 1} → statement M
 admits-all-of-spec =
@@ -147,7 +171,9 @@ admits-all-of-spec =
     loop-holds
     shared-slice-read-wide-3
     wide-requires-3
-    admits-nth-requires
+    slot-requires
+    slot-aid-requires
+    listed-slot-requires
     returns-3
     add-c-2
     sub-left

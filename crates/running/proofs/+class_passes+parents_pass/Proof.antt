@@ -1,7 +1,7 @@
 -- `running::class_passes` and `running::parents_pass` meet their contracts. The measure is twice the rank of the class, and one more for
 -- the class itself; what is seen passes. Assumes nothing.
 use native.Mathlib.Omega.{arith}
-use Prim.Native.Nat.{ℕ, _+_, _-_, _*_, _≤_, _<_}
+use Prim.Native.Nat.{ℕ, _+_, _-_, _*_, _<_}
 use mathlib.Core.Path.{_≡_, refl, subst, sym, _∙_}
 use lib.ListN.{length}
 use denote.Ref.{now}
@@ -77,7 +77,8 @@ parents-pass-claims t = (
 
 abbrev parents-pass-Inv-loop : parents-pass-lts.InvT-loop
 parents-pass-Inv-loop f s index names seen₀ slots₀ v count i₀ seen slots i =
-    FirstPass f s (v .end) (v .own) (visitHome v) (v .number) i × SeenPass f s (v .end) (v .own) seen × SlotsTrue f s slots × (length seen ≡ length seen₀)
+    FirstPass f s (v .end) (v .domain) (v .own) (visitHome v) (v .number) i × SeenPass f s (v .end) (v .domain) (v .own) seen × SlotsTrue f s slots ×
+    (length seen ≡ length seen₀)
 
 abbrev parents-pass-μ-loop : parents-pass-lts.MeasureT-loop
 parents-pass-μ-loop f s index names seen₀ slots₀ v count i₀ seen slots i = count - i
@@ -101,7 +102,7 @@ class-passes-add-bit t c =
     let f = now (b .args .f) in
     let s = now (b .args .s) in
     let v = b .args .v in
-    omega (arith, walk.key-few f s (v .end) (v .own) (visitHome v) (v .number) (b .pre .1 .0 .there) (b .pre .1 .0 .small))
+    omega (arith, walk.key-few f s (v .end) (v .domain) (v .own) (visitHome v) (v .number) (b .pre .1 .0 .there) (b .pre .1 .0 .small))
 
 class-passes-get-requires : (t : ℕ) →
     class-passes-lts.Need-get-requires (class-passes-claims t) (class-passes-at t) class-passes.Post
@@ -110,7 +111,7 @@ class-passes-get-requires t c κs =
     let f = now (b .args .f) in
     let s = now (b .args .s) in
     let v = b .args .v in
-    walk.key-inside f s (v .end) (v .own) (visitHome v) (v .number) (b .pre .1 .0 .there) _ (b .pre .1 .1 .0 .room)
+    walk.key-inside f s (v .end) (v .domain) (v .own) (visitHome v) (v .number) (b .pre .1 .0 .there) _ (b .pre .1 .1 .0 .room)
 
 class-passes-same-length : (t : ℕ) →
     class-passes-lts.Need-same-length (class-passes-claims t) (class-passes-at t) class-passes.Post
@@ -124,7 +125,7 @@ class-passes-returns t c =
     let s = now (b .args .s) in
     let v = b .args .v in
     let m = b .pre .1 .1 .0 in (
-      walk.class-seen f s (v .end) (v .own) (visitHome v) (v .number) (now (b .args .seen)) m (sym (c .before .get .ensures) ∙ c .if1 .taken),
+      walk.class-seen f s (v .end) (v .domain) (v .own) (visitHome v) (v .number) (now (b .args .seen)) m (sym (c .before .get .ensures) ∙ c .if1 .taken),
       (
         m,
         b .pre .1
@@ -207,8 +208,8 @@ class-passes-set-requires t c κs =
     let f = now (b .args .f) in
     let s = now (b .args .s) in
     let v = b .args .v in
-    walk.key-inside f s (v .end) (v .own) (visitHome v) (v .number) (b .pre .1 .0 .there) _ (c .before .before .before .before .parents-pass .ensures .1 .0
-    .room)
+    walk.key-inside f s (v .end) (v .domain) (v .own) (visitHome v) (v .number) (b .pre .1 .0 .there) _
+    (c .before .before .before .before .parents-pass .ensures .1 .0 .room)
 
 class-passes-same-length-4 : (t : ℕ) →
     class-passes-lts.Need-same-length-4 (class-passes-claims t) (class-passes-at t) class-passes.Post
@@ -233,7 +234,7 @@ class-passes-returns-4 t c =
     let seen = steps.seen-placed f s v w p _ (n .ensures .1 .0) in (
       passes,
       (
-        walk.seen-more f s (v .end) (v .own) (visitHome v) (v .number) _ seen (b .pre .1 .0 .there) passes _ (omega arith) (c .before .before .set
+        walk.seen-more f s (v .end) (v .domain) (v .own) (visitHome v) (v .number) _ seen (b .pre .1 .0 .there) passes _ (omega arith) (c .before .before .set
             .ensures),
         n .ensures .1 .1,
       ),
@@ -250,7 +251,7 @@ parents-pass-loop-holds t c =
     let f = now (b .args .f) in
     let s = now (b .args .s) in
     let v = b .args .v in
-    (walk.first-none f s (v .end) (v .own) (visitHome v) (v .number), b .pre .1 .1 .0, b .pre .1 .1 .1, refl)
+    (walk.first-none f s (v .end) (v .domain) (v .own) (visitHome v) (v .number), b .pre .1 .1 .0, b .pre .1 .1 .1, refl)
 
 parents-pass-parent-apart-requires : (t : ℕ) →
     parents-pass-lts.Need-parent-apart-requires (parents-pass-claims t) (parents-pass-at t) parents-pass.Post parents-pass-Inv-loop parents-pass-μ-loop
@@ -368,8 +369,8 @@ parents-pass-returns-2 t c =
     let s = now (b .args .s) in
     let v = b .args .v in
     let n = c .before .before .parents-in in (
-      walk.first-all f s (v .end) (v .own) (visitHome v) (v .number) (n .result) (c .before .loop .i) (n .ensures .0) (c .loop-test .left) (c .before .loop
-          .inv .0),
+      walk.first-all f s (v .end) (v .domain) (v .own) (visitHome v) (v .number) (n .result) (c .before .loop .i) (n .ensures .0)
+          (c .loop-test .left) (c .before .loop .inv .0),
       (c .before .loop .inv .1, c .before .loop .inv .2),
     )
 

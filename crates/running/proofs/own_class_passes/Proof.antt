@@ -2,103 +2,97 @@
 use native.Mathlib.Omega.{arith}
 use mathlib.Core.Path.{_≡_, sym, _∙_, ap, subst}
 use denote.Ref.{now}
+use borrow.Author.Needs.{needs}
 use Rattle.homes.specs.declared.Home.{Home}
 use Rattle.slots.specs.Slots.{SmallHome}
 use Rattle.running.specs.Say.{ClassPasses}
 use Rattle.running.specs.Walk.{visitHome, visitFor, WalkFrom}
 use Rattle.running.specs.declared.visited.Visit.{Visit}
 use Rattle.running.proofs.Whole as whole
-use borrow.Author.Needs.{needs}
 use Rattle.running.proofs.own_class_passes.Statement.{statement}
 use Rattle.running.proofs.own_class_passes.Tie as tie
-use Rattle.running.proofs.own_class_passes.Reads as reads
-use Rattle.running.proofs.own_class_passes.Lts as lts
-use Rattle.bits.proofs.clear_to.Reads as clear-to-reads
-use Rattle.chains.proofs.none_run.Reads as none-run-reads
-use Rattle.homes.proofs.own_home.Reads as own-home-reads
-use Rattle.running.proofs.class_passes.Reads as class-passes-reads
-use Rattle.running.proofs.visited.visit_for.Reads as visit-for-reads
+
+-- the function's start, where the names are asked, and where the walk begins
+abbrev start : tie.After-none-run-arg → tie.Start
+start k = k .before .before .before .before .before .before
+
+abbrev begin : tie.After-own-home → tie.Start
+begin k = start (k .before .before .before .before .before .before .before)
+
+-- the visit of the class
+visit : (k : tie.After-visit-for) → k .visit-for .result ≡ whole.ownVisit (begin (k .before) .args .o)
+visit k =
+    let o = begin (k .before) .args .o in
+    k .visit-for .ensures ∙ ap (λ (h : Home). visitFor (o .names) (o .domain) h (o .names .own)) (k .before .own-home .ensures)
 
 none-run-requires : tie.Need-none-run-requires
-none-run-requires c κs =
-    let pre = c .before .before .before .before .before .pre in
-    pre .1 .0 .0
+none-run-requires c κs = start c .pre .1 .0 .0
 
 returns : tie.Need-returns
 returns c =
-    let b = c .before .before .before .before .before .before .before in
-    let f = now (b .args .f) in
-    let s = now (b .args .s) in
-    let w = b .args .w in
-    (whole.own-nothing f s (w .end) (w .own) (b .pre .0 .1) (c .before .none-run .ensures (c .if1 .taken)), b .pre .1 .1 .1 .1)
+    let b = start (c .before .before) in
+    let a = b .args in
+    let none = c .before .none-run .ensures (c .if1 .taken) in
+    (whole.own-nothing (now (a .f)) (now (a .s)) (a .o .names .end) (a .o .domain) (a .o .names .own) (b .pre .0 .1) none, b .pre .1 .1 .1 .1)
 
 mul-clear-to : tie.Need-mul-clear-to
 mul-clear-to c =
-    let b = c .before .before .before .before .before .before .before .before in
-    let w = b .args .w in
-    record { fits = omega (arith, whole.own-end (now (b .args .f)) (now (b .args .s)) (w .end) (w .own) (b .pre .0 .0), b .pre .1 .1 .0 .1) }
+    let b = start (c .before .before .before) in
+    let a = b .args in
+    let below = whole.own-end (now (a .f)) (now (a .s)) (a .o .names .end) (a .o .names .own) (b .pre .0 .0 .0) in
+    record { fits = omega (arith, below, b .pre .1 .1 .0 .1) }
 
 add-clear-to : tie.Need-add-clear-to
 add-clear-to c = search needs
 
 clear-to-requires : tie.Need-clear-to-requires
 clear-to-requires c κs =
-    let b = c .before .before .before .before .before .before .before .before in
-    let f = now (b .args .f) in
-    let s = now (b .args .s) in
-    let w = b .args .w in
-    omega (arith, whole.own-end f s (w .end) (w .own) (b .pre .0 .0), b .pre .1 .1 .1 .0)
+    let b = start (c .before .before .before) in
+    let a = b .args in
+    omega (arith, whole.own-end (now (a .f)) (now (a .s)) (a .o .names .end) (a .o .names .own) (b .pre .0 .0 .0), b .pre .1 .1 .1 .0)
 
 own-home-requires : tie.Need-own-home-requires
 own-home-requires c κs = search needs
 
 visit-for-requires : tie.Need-visit-for-requires
 visit-for-requires c κs =
-    let b = c .before .before .before .before .before .before .before .before .before .before .before .before in
-    let f = now (b .args .f) in
-    let s = now (b .args .s) in
-    let w = b .args .w in
-    let small = whole.names-small f s (now (b .args .names)) w (b .pre .1 .0 .0) (b .pre .1 .0 .1) (b .pre .1 .1 .0 .1) (b .pre .0 .0) in
-    (small, subst SmallHome (sym (c .own-home .ensures)) (whole.own-small (w .end) (small .end)), small .own)
+    let b = begin c in
+    let a = b .args in
+    let n = b .pre .1 .0 in
+    let z = b .pre .1 .1 .0 .1 in
+    let own = b .pre .0 .0 in
+    let small = whole.names-small (now (a .f)) (now (a .s)) (now (a .names)) (a .o .names) (n .0) (n .1) z (own .0) in
+    let home = subst SmallHome (sym (c .own-home .ensures)) (whole.own-small (a .o .names .end) (small .end)) in
+    (small, whole.domain-small (own .1) z, home, small .own)
 
 class-passes-requires : tie.Need-class-passes-requires
 class-passes-requires c κs =
-    let c1 = c .before .before in
-    let visit-for = c1 .visit-for in
-    let c2 = c1 .before .before .before .before in
-    let b = c2 .before .before .before .before .before .before .before .before .before in
-    let f = now (b .args .f) in
-    let s = now (b .args .s) in
-    let w = b .args .w in
-    let e : visit-for .result ≡ whole.ownVisit w = visit-for .ensures ∙ ap (λ (h : Home). visitFor w h (w .own)) (c
-    .before .before .before .own-home .ensures) in
+    let k = c .before .before in
+    let b = begin (k .before) in
+    let a = b .args in
+    let f = now (a .f) in
+    let s = now (a .s) in
     let n = b .pre .1 .0 in
     let i = b .pre .1 .1 .0 in
-    let from = whole.own-from f s (now (b .args .index)) (now (b .args .names)) w (b .pre .0 .1) (b .pre .0 .0) (n .0) (n .1) (i .0) (i .1) in
-    let seen = whole.seen-none f s (w .end) (w .own) _ (omega (arith, b .pre .1 .1 .1 .0)) (c2 .clear-to
-    .ensures) in
-    (subst (WalkFrom f s (now (b .args .index)) (now (b .args .names))) (sym e) from, (whole.own-seen f s w _ _ e seen, b .pre .1 .1 .1 .1))
+    let from = whole.own-from f s (now (a .index)) (now (a .names)) (a .o) (b .pre .0 .1) (b .pre .0 .0) (n .0) (n .1) (i .0) (i .1) in
+    let cleared = k .before .before .before .before .clear-to .ensures in
+    let seen = whole.seen-none f s (a .o .names .end) (a .o .domain) (a .o .names .own) _ (omega (arith, b .pre .1 .1 .1 .0)) cleared in
+    (subst (WalkFrom f s (now (a .index)) (now (a .names))) (sym (visit k)) from, (whole.own-seen f s (a .o) _ _ (visit k) seen, b .pre .1 .1 .1 .1))
 
 same-length : tie.Need-same-length
 same-length c = search needs
 
 returns-2 : tie.Need-returns-2
 returns-2 c =
-    let c1 = c .before .before in
-    let r = c1 .class-passes in
-    let c2 = c1 .before .before .before in
-    let visit-for = c2 .visit-for in
-    let c3 = c2 .before in
-    let earlier = c3 .before .before .before .before .before .before .before .before .before .before .before .before in
-    let b = earlier
-    in
-    let f = now (b .args .f) in
-    let s = now (b .args .s) in
-    let w = b .args .w in
-    let e : visit-for .result ≡ whole.ownVisit w = visit-for .ensures ∙
-    ap (λ (h : Home). visitFor w h (w .own)) (c3 .own-home .ensures) in
-    let passes = subst (λ (v : Visit). ClassPasses f s (v .end) (v .own) (visitHome v) (v .number) (r .result)) e (r .ensures .0) in
-    (whole.own-answer f s (w .end) (w .own) (b .pre .0 .1) (r .result) passes, r .ensures .1 .1)
+    let r = c .before .before .class-passes in
+    let k = c .before .before .before .before .before in
+    let b = begin (k .before) in
+    let a = b .args in
+    let f = now (a .f) in
+    let s = now (a .s) in
+    let o = a .o in
+    let answer = subst (λ (v : Visit). ClassPasses f s (v .end) (v .domain) (v .own) (visitHome v) (v .number) (r .result)) (visit k) (r .ensures .0) in
+    (whole.own-answer f s (o .names .end) (o .domain) (o .names .own) (b .pre .0 .1) (r .result) answer, r .ensures .1 .1)
 
 pub own-class-passes-spec : {M : Type 1} → statement M
 own-class-passes-spec =

@@ -1,93 +1,82 @@
--- `services::class_allows` meets its contract. Assumes nothing.
-use Rattle.services.specs.declared.Allowed.the-variants.{Yes, No}
-use Rattle.policies.specs.Say.{Admits}
-use Rattle.services.proofs.Allows as allows
+-- `services::class_allows` meets its contract: the method's policy stands over the file's domains. Assumes nothing.
+use mathlib.Core.Path.{_≡_, refl, subst}
+use mathlib.Core.Bool.{Bool, true, false}
+use mathlib.Core.Option.{some}
 use denote.Ref.{now}
-use mathlib.Core.Path.{refl, subst}
-use mathlib.Core.Bool.{true, false}
 use borrow.Author.Needs.{needs}
+use Rattle.policies.specs.Say.{Admits}
+use Rattle.services.specs.Answers.{ClassAllows, allowed}
+use Rattle.services.specs.declared.Allowed.{Allowed}
+use Rattle.services.specs.declared.Allowed.the-variants.{Yes, No}
+use Rattle.services.proofs.Allows as allows
 use Rattle.services.proofs.class_allows.Statement.{statement}
 use Rattle.services.proofs.class_allows.Tie as tie
 
+-- the function's start, where the method was looked for; that, where it is found
+abbrev start : tie.After-find-method → tie.Start
+start k = k .before .before .before .before
+
+abbrev sought : tie.After-m → tie.After-find-method
+sought k = k .before .before
+
 find-method-requires : tie.Need-find-method-requires
 find-method-requires c κs =
-    let start = c .before .before in
-    allows.class-there (now (start .args .g)) (start .args .c) (start .pre)
+    let b = c .before .before .before in
+    allows.class-there (now (b .args .g)) (b .args .c) (b .pre)
 
 enum-known-m : tie.Need-enum-known-m
 enum-known-m c = search needs
 
 domains-at-requires : tie.Need-domains-at-requires
 domains-at-requires c κs =
-    let start = c .before .before .before .before .before .before in
-    allows.class-reads (now (start .args .g)) (start .args .c) (start .pre)
+    let b = start (sought (c .before)) in
+    allows.class-reads (now (b .args .g)) (b .args .c) (b .pre)
 
 policy-of-requires : tie.Need-policy-of-requires
 policy-of-requires c κs =
-    let c1 = c .before .before in
-    let known = c1 .m in
-    let c2 = c1 .before .before in
-    let place = c2 .find-method in
-    let start = c2 .before .before .before in
-    allows.method-there (now (start .args .g)) (start .args .c) (start .args .name) (place .result) (known .given .0 .0) (place .ensures)
-    (known .given .1) (start .pre)
+    let here = c .before .before in
+    let k = sought here in
+    let b = start k in
+    allows.method-there (now (b .args .g)) (b .args .c) (b .args .name) (k .find-method .result) (here .m .given .0 .0) (k .find-method .ensures)
+    (here .m .given .1) (b .pre)
 
 admits-requires : tie.Need-admits-requires
 admits-requires c κs =
-    let c1 = c .before .before .before in
-    let known = c1 .m in
-    let c2 = c1 .before .before in
-    let place = c2 .find-method in
-    let start = c2 .before .before .before in
     let domains = c .before .domains-at in
-    let policy = c .policy-of in
-    allows.policy-over (now (start .args .g)) (start .args .c) (start .args .name) (place .result) (known .given .0 .0) (place .ensures) (known .given .1)
-    (domains .result) (policy .result) (domains .ensures) (policy .ensures) (start .pre)
+    let here = c .before .before .before in
+    let k = sought here in
+    let b = start k in
+    allows.policy-over (now (b .args .g)) (b .args .c) (b .args .name) (k .find-method .result) (here .m .given .0 .0) (k .find-method .ensures)
+    (here .m .given .1) (domains .result) (c .policy-of .result) (domains .ensures) (c .policy-of .ensures) (b .pre)
+
+-- the answer for the class, by the answer for the policy
+said : (c : tie.After-admits) (r : Bool) (v : Allowed) → c .admits .result ≡ r → allowed v ≡ some r →
+    let a = start (sought (c .before .before .before .before)) .args in
+    ClassAllows (now (a .g)) (now (a .own)) (a .c) (a .name) (now (a .domain)) v
+said c r v e w =
+    let policy = c .before .policy-of in
+    let domains = c .before .before .domains-at in
+    let here = c .before .before .before .before in
+    let k = sought here in
+    let a = start k .args in
+    let says : Bool → Type 0 = Admits (now (a .g)) (domains .result) (now (a .own)) (policy .result) (now (a .domain)) in
+    allows.class-says (now (a .g)) (a .c) (a .name) (k .find-method .result) (here .m .given .0 .0) (k .find-method .ensures) (here .m .given .1)
+    (domains .result) (now (a .own)) (policy .result) r (now (a .domain)) v (domains .ensures) (policy .ensures) (subst says e (c .admits .ensures)) w
 
 returns : tie.Need-returns
-returns c =
-    let c1 = c .before .before in
-    let policy = c1 .policy-of in
-    let c2 = c1 .before in
-    let domains = c2 .domains-at in
-    let c3 = c2 .before .before in
-    let known = c3 .m in
-    let c4 = c3 .before .before in
-    let place = c4 .find-method in
-    let start = c4 .before .before .before in
-    let g = now (start .args .g) in
-    let d = now (start .args .domain) in
-    allows.class-says g (start .args .c) (start .args .name) (place .result) (known .given .0 .0) (place .ensures) (known .given .1) (domains .result)
-    (policy .result) true d Yes (domains .ensures) (policy .ensures)
-    (subst (Admits g (domains .result) (policy .result) d) (c .if1 .taken) (c .before .admits .ensures)) refl
+returns c = said (c .before) true Yes (c .if1 .taken) refl
 
 enum-told : tie.Need-enum-told
 enum-told c = search needs
 
 returns-2 : tie.Need-returns-2
-returns-2 c =
-    let c1 = c .before .before in
-    let policy = c1 .policy-of in
-    let c2 = c1 .before in
-    let domains = c2 .domains-at in
-    let c3 = c2 .before .before in
-    let known = c3 .m in
-    let c4 = c3 .before .before in
-    let place = c4 .find-method in
-    let start = c4 .before .before .before in
-    let g = now (start .args .g) in
-    let d = now (start .args .domain) in
-    allows.class-says g (start .args .c) (start .args .name) (place .result) (known .given .0 .0) (place .ensures) (known .given .1) (domains .result)
-    (policy .result) false d No (domains .ensures) (policy .ensures)
-    (subst (Admits g (domains .result) (policy .result) d) (c .if1 .left) (c .before .admits .ensures)) refl
+returns-2 c = said (c .before) false No (c .if1 .left) refl
 
 returns-3 : tie.Need-returns-3
 returns-3 c =
-    let c1 = c .before .before in
-    let place = c1 .find-method in
-    let start = c1 .before .before .before in
-    allows.class-none (now (start .args .g)) (start .args .c) (start .args .name) (place .result) (now (start .args .domain)) (place .ensures)
-    (c .enum-told .given .1)
+    let k = c .before .before in
+    let a = start k .args in
+    allows.class-none (now (a .g)) (now (a .own)) (a .c) (a .name) (k .find-method .result) (now (a .domain)) (k .find-method .ensures) (c .enum-told .given .1)
 
 pub class-allows-spec : {M : Type 1} → statement M
 class-allows-spec =

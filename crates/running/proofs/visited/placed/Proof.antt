@@ -10,11 +10,6 @@ use Rattle.running.proofs.Visits as visits
 use borrow.Author.Needs.{needs}
 use Rattle.running.proofs.visited.placed.Statement.{statement}
 use Rattle.running.proofs.visited.placed.Tie as tie
-use Rattle.running.proofs.visited.placed.Reads as reads
-use Rattle.running.proofs.visited.placed.Lts as lts
-use Rattle.running.proofs.visited.home_of.Reads as home-of-reads
-use Rattle.slots.proofs.record_in.Reads as record-in-reads
-use Rattle.slots.proofs.slot_for.Reads as slot-for-reads
 
 home-of-requires : tie.Need-home-of-requires
 home-of-requires c κs = search needs

@@ -11,10 +11,6 @@ use Rattle.running.proofs.Visits as visits
 use borrow.Author.Needs.{needs}
 use Rattle.running.proofs.visited.record_of.Statement.{statement}
 use Rattle.running.proofs.visited.record_of.Tie as tie
-use Rattle.running.proofs.visited.record_of.Reads as reads
-use Rattle.running.proofs.visited.record_of.Lts as lts
-use Rattle.homes.proofs.file_of.Reads as file-of-reads
-use Rattle.running.proofs.visited.home_of.Reads as home-of-reads
 
 cast-at : tie.Need-cast-at
 cast-at c = search needs

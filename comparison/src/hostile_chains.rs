@@ -1,0 +1,160 @@
+//! Hostile stores of chains of classes of kind 0 and levels of interfaces: question 20
+//! compares the lists of the methods that run with those of all interfaces above.
+
+use crate::hostile::{aid, asked, filled, packed, packed_in, runs, start, workload};
+use crate::hostile::{CHAIN, LARGEST, OWN_ALONE};
+use crate::hostile_lists::Lists;
+use crate::ordinary::domain;
+use crate::workloads::{used, Workload};
+use independent::generate::model::{ClassModel, FileModel};
+use independent::ledger::Entry;
+use independent::policy::OWN;
+
+/// A package whose classes of kind 0 are a chain of 7, each with so many names of its own.
+fn chain_package(number: usize, names: u16, domains: Vec<Vec<u8>>, allowed: &[u8]) -> Entry {
+    let class = |k: u8| {
+        let parents: Vec<(u8, u8)> = (0..k)
+            .last()
+            .map(|parent| (0, parent))
+            .into_iter()
+            .collect();
+        let first = names * u16::from(k);
+        let methods = (first..first + names).map(|name| runs(name, Some(allowed)));
+        ClassModel::new(0, &parents, methods.collect())
+    };
+    packed(FileModel {
+        aid: aid(number),
+        domains,
+        classes: (0..7).map(class).collect(),
+        ..FileModel::default()
+    })
+}
+
+/// One level of interfaces: so many in a package, all with the same methods.
+struct Level {
+    home: usize,
+    domains: Vec<Vec<u8>>,
+    count: u8,
+    names: u16,
+    asking: Vec<u8>,
+}
+
+impl Level {
+    fn of(lists: &Lists) -> Self {
+        Level {
+            home: lists.home,
+            domains: lists.asked.clone(),
+            count: 8,
+            names: 4,
+            asking: lists.asking.clone(),
+        }
+    }
+
+    /// Its package, with four parents each in the level before, if there is one.
+    fn package(&self, number: usize, before: Option<usize>) -> Entry {
+        let four = |i: u8| (0..4).map(|k| (1, (4 * i + k) % self.count)).collect();
+        let methods = (0..self.names).map(|name| asked(name, &self.asking));
+        let interface = ClassModel::new(1, &[], methods.collect());
+        let class = |i: u8| ClassModel {
+            parents: before.map_or(Vec::new(), |_| four(i)),
+            ..interface.clone()
+        };
+        let model = FileModel {
+            aid: aid(number),
+            domains: self.domains.clone(),
+            imports: before.map(aid).into_iter().collect(),
+            classes: (0..self.count).map(class).collect(),
+            ..FileModel::default()
+        };
+        packed_in(self.home, model)
+    }
+}
+
+/// Levels of interfaces by turns, in about half of the store; then packages of 32 classes
+/// below a class, by the number of its package and its own, and one interface or three.
+fn below_class(
+    mut entries: Vec<Entry>,
+    length: usize,
+    levels: &[Level],
+    parents: usize,
+    above: (usize, u8),
+) -> Vec<Entry> {
+    let mut last = 1;
+    for level in 0..6 {
+        let before = (level > 0).then_some(last);
+        let entry = levels[level % levels.len()].package(last + 1, before);
+        if used(&entries) + used(std::slice::from_ref(&entry)) > length / 2 {
+            break;
+        }
+        entries.push(entry);
+        last += 1;
+    }
+    filled(entries, length, |k| {
+        let four = |i: u8| [(1, above.1), (2, i % 4), (2, (i + 1) % 4), (2, (i + 2) % 4)];
+        let class = |i| ClassModel::new(0, &four(i)[..parents], vec![]);
+        packed(FileModel {
+            aid: aid(100 + k),
+            imports: vec![aid(above.0), aid(last)],
+            classes: (0..32).map(class).collect(),
+            ..FileModel::default()
+        })
+    })
+}
+
+/// A chain with as many names as there is room for, each with this list.
+fn chain_with(name: &'static str, kb: usize, list: &[u8]) -> Workload {
+    let length = (1024 * kb).min(LARGEST);
+    let (names, count) = if kb == 8 { (16, 8) } else { (64, 16) };
+    let mut entries = start();
+    entries.push(chain_package(1, names, vec![], list));
+    let level = Level {
+        home: 0,
+        domains: vec![],
+        count,
+        names,
+        asking: list.to_vec(),
+    };
+    let entries = below_class(entries, length, &[level], 2, (1, 6));
+    workload(name, &entries, length)
+}
+
+pub(crate) fn chain(kb: usize) -> Workload {
+    chain_with(CHAIN, kb, &[])
+}
+
+pub(crate) fn own_alone() -> Workload {
+    chain_with(OWN_ALONE, 64, &[OWN])
+}
+
+pub(crate) fn chain_of_lists(name: &'static str, lists: Lists) -> Workload {
+    let level = Level::of(&lists);
+    let mut entries = start();
+    entries.push(chain_package(1, 4, lists.running, &lists.listed));
+    let entries = below_class(entries, LARGEST, &[level], 4, (1, 6));
+    workload(name, &entries, LARGEST)
+}
+
+/// The same where the methods that run lie in two packages by turns, and the interfaces
+/// in the homes of both.
+pub(crate) fn lists_by_turns(name: &'static str, lists: [Lists; 2]) -> Workload {
+    let levels = [Level::of(&lists[0]), Level::of(&lists[1])];
+    let package = |number: usize, imports, lists: &Lists, parents: &[(u8, u8)], names: [u16; 2]| {
+        let methods = names.map(|name| runs(name, Some(&lists.listed)));
+        let model = FileModel {
+            aid: aid(number),
+            domains: lists.running.clone(),
+            imports,
+            classes: vec![ClassModel::new(0, parents, methods.to_vec())],
+            ..FileModel::default()
+        };
+        packed_in(lists.home, model)
+    };
+    let mut entries = start();
+    if lists[1].home != lists[0].home {
+        entries.push(Entry::Domain(domain(lists[1].home)));
+    }
+    entries.push(package(1, vec![], &lists[0], &[], [1, 3]));
+    entries.push(package(50, vec![aid(1)], &lists[1], &[(1, 0)], [0, 2]));
+    let entries = below_class(entries, LARGEST, &levels, 4, (50, 0));
+    workload(name, &entries, LARGEST)
+}
