@@ -1,4 +1,4 @@
-/* Writes the package files of the example week, field by field as document 01 lays them out. */
+/* Writes the package files of the example week, field by field as documents 01 and 02 lay them out. */
 #include "packages.h"
 
 #include <stdio.h>
@@ -18,6 +18,9 @@ const struct aid CABINET = {"cabinet", 6, {0xA0, 0x00, 0x00, 0x00, 0xF1, 0x02}};
 
 /* Where the size of the whole file stands: behind the mark and the version. */
 enum { SIZE_PLACE = 5 };
+
+/* The versions of a package file: only the second one has handlers. */
+enum { VERSION_1 = 1, VERSION_2 = 2 };
 
 /* Class kinds and the bits of a method. */
 enum { KIND_CLASS = 0 };
@@ -58,12 +61,13 @@ static void put_aid(struct file *file, const struct aid *aid)
 }
 
 /* Mark, version, a size that end_file fills in, and the package AID. */
-static void begin_file(struct file *file, const struct aid *package)
+static void begin_file(struct file *file, unsigned version, const struct aid *package)
 {
-    static const uint8_t mark_and_version[] = {'B', 'P', 'K', 0x00, 0x01};
+    static const uint8_t mark[] = {'B', 'P', 'K'};
 
     file->length = 0;
-    put_bytes(file, mark_and_version, sizeof mark_and_version);
+    put_bytes(file, mark, sizeof mark);
+    put_u2(file, version);
     put_u2(file, 0);
     put_aid(file, package);
 }
@@ -156,11 +160,14 @@ static void put_method(struct file *file, unsigned bits, unsigned name, unsigned
     put_bytes(file, code, code_length);
 }
 
-/* Code that does nothing but call the static method of reference 0. */
-static const uint8_t call_and_return[] = {
-    0x8D, 0x00, 0x00, /* invokestatic, reference 0 */
-    0x7A              /* return */
-};
+/* Behind a code of version 2: one handler, by offsets in that code. */
+static void put_one_handler(struct file *file, unsigned start, unsigned end, unsigned target)
+{
+    put_u1(file, 1);
+    put_u2(file, start);
+    put_u2(file, end);
+    put_u2(file, target);
+}
 
 void write_meals(struct file *file)
 {
@@ -174,7 +181,7 @@ void write_meals(struct file *file)
         0x78              /* sreturn */
     };
 
-    begin_file(file, &MEALS);
+    begin_file(file, VERSION_1, &MEALS);
     put_domains(file);
     put_no_imports(file);
     put_one_reference(file, OWN, NAME_PRICE);
@@ -193,7 +200,7 @@ void write_statements(struct file *file, unsigned statement_allows)
         0x78              /* sreturn */
     };
 
-    begin_file(file, &STATEMENTS);
+    begin_file(file, VERSION_1, &STATEMENTS);
     put_domains(file);
     put_one_import(file, &MEALS);
     put_one_reference(file, IMPORT_1, NAME_ORDER);
@@ -210,7 +217,7 @@ void write_diet(struct file *file, unsigned price_allows)
         0x78  /* sreturn */
     };
 
-    begin_file(file, &DIET);
+    begin_file(file, VERSION_1, &DIET);
     put_domains(file);
     put_one_import(file, &MEALS);
     put_no_references(file);
@@ -223,7 +230,7 @@ void write_cabinet(struct file *file)
 {
     static const uint8_t book_code[] = {0x7A /* return */};
 
-    begin_file(file, &CABINET);
+    begin_file(file, VERSION_1, &CABINET);
     put_domains(file);
     put_no_imports(file);
     put_no_references(file);
@@ -233,26 +240,39 @@ void write_cabinet(struct file *file)
     end_file(file);
 }
 
-void write_requests(struct file *file, unsigned forward_allows)
+void write_requests(struct file *file, unsigned forward_allows, unsigned handler_end)
 {
-    begin_file(file, &REQUESTS);
+    static const uint8_t forward_code[] = {
+        0x8D, 0x00, 0x00, /* 0: invokestatic, reference 0: book */
+        0x7A,             /* 3: return */
+        0x3B,             /* 4: pop: the exception, if book threw one */
+        0x7A              /* 5: return */
+    };
+    enum { CALL = 0, CATCH = 4 };
+
+    begin_file(file, VERSION_2, &REQUESTS);
     put_domains(file);
     put_one_import(file, &CABINET);
     put_one_reference(file, IMPORT_1, NAME_BOOK);
     put_one_class(file, 1);
-    put_method(file, VISIBLE | STATIC, NAME_FORWARD, forward_allows, call_and_return,
-               sizeof call_and_return);
+    put_method(file, VISIBLE | STATIC, NAME_FORWARD, forward_allows, forward_code,
+               sizeof forward_code);
+    put_one_handler(file, CALL, handler_end, CATCH);
     end_file(file);
 }
 
 void write_treats(struct file *file)
 {
-    begin_file(file, &TREATS);
+    static const uint8_t treat_code[] = {
+        0x8D, 0x00, 0x00, /* invokestatic, reference 0: forward */
+        0x7A              /* return */
+    };
+
+    begin_file(file, VERSION_1, &TREATS);
     put_domains(file);
     put_one_import(file, &REQUESTS);
     put_one_reference(file, IMPORT_1, NAME_FORWARD);
     put_one_class(file, 1);
-    put_method(file, VISIBLE | STATIC, NAME_TREAT, BY_NONE, call_and_return,
-               sizeof call_and_return);
+    put_method(file, VISIBLE | STATIC, NAME_TREAT, BY_NONE, treat_code, sizeof treat_code);
     end_file(file);
 }

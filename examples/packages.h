@@ -57,8 +57,17 @@ void write_diet(struct file *file, unsigned price_allows);
 /* Pharmacy: book takes a drug out of the cabinet; the directory and the pharmacy may call it. */
 void write_cabinet(struct file *file);
 
-/* Directory: forward calls book. */
-void write_requests(struct file *file, unsigned forward_allows);
+/* Offsets in the code of forward: the last byte of its call, and where the next instruction starts. */
+enum {
+    LAST_BYTE_OF_CALL = 2,
+    BEHIND_CALL = 3
+};
+
+/*
+ * Directory: forward calls book; a handler guards the code from the call up to handler_end and catches
+ * what book throws. The file is of version 2.
+ */
+void write_requests(struct file *file, unsigned forward_allows, unsigned handler_end);
 
 /* Canteen: treat calls the directory's forward; it allows no domain. */
 void write_treats(struct file *file);

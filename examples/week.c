@@ -237,7 +237,7 @@ static void wednesday_on_the_card(void)
     load(card, "meals, the last byte missing,", &CANTEEN, &file, 1, LOADER_FILE_LAYOUT);
     file.bytes[0] = 'X';
     load(card, "meals, another mark,", &CANTEEN, &file, 1, LOADER_FILE_MARK);
-    write_requests(&file, BY_DIRECTORY);
+    write_requests(&file, BY_DIRECTORY, BEHIND_CALL);
     load(card, "requests, before cabinet,", &DIRECTORY, &file, 1, LOADER_IMPORT_MISSING);
     if (!telling) {
         puts("C a0000000e1");
@@ -297,11 +297,15 @@ static void saturday(void)
     query(&CANTEEN, &CABINET, "book", NAME_BOOK, false, LOADER_DONE);
     query(&RADIOLOGY, &CABINET, "book", NAME_BOOK, false, LOADER_DONE);
     query(&CANTEEN, &CABINET, "order", NAME_ORDER, false, LOADER_METHOD_UNKNOWN);
-    say("  The canteen tries to reach it through the directory: treat calls forward, forward calls book.\n"
+    say("  Forward of requests calls book; a handler catches what book throws, so requests is of version 2.\n"
+        "  In the first draft the handler ends at the last byte of the call, where no instruction starts.");
+    write_requests(&file, BY_DIRECTORY, LAST_BYTE_OF_CALL);
+    load(card, "requests, draft,", &DIRECTORY, &file, 1, LOADER_HANDLER);
+    say("  The canteen tries to reach book through the directory: treat calls forward, forward calls book.\n"
         "  If forward is open to the canteen, requests is refused; if it is not, treats is.");
-    write_requests(&file, BY_CANTEEN | BY_DIRECTORY);
+    write_requests(&file, BY_CANTEEN | BY_DIRECTORY, BEHIND_CALL);
     load(card, "requests, for the canteen,", &DIRECTORY, &file, 1, LOADER_CALL_POLICY);
-    write_requests(&file, BY_DIRECTORY);
+    write_requests(&file, BY_DIRECTORY, BEHIND_CALL);
     load(card, "requests", &DIRECTORY, &file, 1, LOADER_DONE);
     write_treats(&file);
     load(card, "treats", &CANTEEN, &file, 1, LOADER_CALL_POLICY);

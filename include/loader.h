@@ -24,6 +24,13 @@
  * it lies there: one package file serves vendors who do not know the domain. The
  * query tells what a method allows where it lies.
  *
+ * Versions. A package file is of version 1 or 2. In version 2 each code is
+ * followed by its handlers: offsets of the part that is guarded, and of where to
+ * go on when that part fails. Files of both versions lie in one store and may
+ * import one another. A load checks that handlers fit their code (24) and runs
+ * none. A call that a handler guards, or that stands where it goes on, is a call
+ * of its method like any other.
+ *
  * Used. The bytes that a store's opening and its entries take stand in its
  * bytes 5 and 6, the high byte first: LOADER_USED(store). It may be read of any
  * store whose last call answered neither 1 nor 2. docs/FORMATS.md has the whole
@@ -111,13 +118,15 @@ extern "C" {
  * minor one where something is added. Since 1.1 an accepted load's figure is the
  * depth itself; in 1.0 it was only not less. Since 1.2 index FE in an allowed
  * list means the domain that the package is loaded in; before, it was refused
- * with 11.
+ * with 11. Since 1.3 package files of version 2 are loaded too; before, they were
+ * refused with 10. To a library before 1.3, a store that holds one is not sound.
  */
 #define LOADER_VERSION_MAJOR 1u
-#define LOADER_VERSION_MINOR 2u
+#define LOADER_VERSION_MINOR 3u
 #define LOADER_VERSION (LOADER_VERSION_MAJOR * 256u + LOADER_VERSION_MINOR)
 
-/* The number of an answer: the question that was answered no. */
+/* The number of an answer: the question that was answered no. 22 and 23 are no numbers of the
+   loader. */
 enum loader_number {
     /* Done: every question was answered yes. */
     LOADER_DONE = 0,
@@ -139,7 +148,7 @@ enum loader_number {
     LOADER_PACKAGE_IMPORTED = 8,
     /* Does it have this class, and that class this name? */
     LOADER_METHOD_UNKNOWN = 9,
-    /* Does the file begin with mark and version? */
+    /* Does the file begin with mark and version, 1 or 2? */
     LOADER_FILE_MARK = 10,
     /* Does the rest read exactly to its end as laid out, size, counts and ranges included? */
     LOADER_FILE_LAYOUT = 11,
@@ -168,7 +177,10 @@ enum loader_number {
        and its ancestors allows? */
     LOADER_RUNNING_POLICY = 20,
     /* Does the entry fit, used not passing the buffer's length? */
-    LOADER_STORE_FULL = 21
+    LOADER_STORE_FULL = 21,
+    /* Is each handler's start below its end, its end at most the code length; do start and target
+       begin an instruction, and does end begin one or equal the length? */
+    LOADER_HANDLER = 24
 };
 
 /* The least and greatest lengths of a store and an AID, and the greatest depth of a class. */
@@ -226,8 +238,8 @@ uint32_t loader_delete(uint8_t *store, size_t store_length,
  *
  * In:      store; domain: the AID of the loading domain, a created one;
  *          file: the whole package file.
- * Numbers: 1, 2, 3, 5, 10, 11, 12, 13, 14, 15, 16, 17, 18, 19, 20, 21, asked in
- *          this order, each of the whole file before the next.
+ * Numbers: 1, 2, 3, 5, 10, 11, 12, 13, 14, 15, 16, 17, 24, 18, 19, 20, 21, asked
+ *          in this order, each of the whole file before the next.
  * Changes: the package's entry is written at used: kind, length, the domain's
  *          AID with its length, the file as it is. Used grows by its
  *          4 + domain_length + file_length bytes. All other bytes stay.

@@ -1,6 +1,10 @@
 /* A name and a sentence for each number of the loader; README.md has the same in its table. */
 #include "loader_text.h"
 
+/* What is said of any other number. */
+#define NO_NAME ""
+#define NO_TEXT "no number of the loader"
+
 /* In ascending order of the numbers. */
 static const struct {
     const char *name;
@@ -16,7 +20,7 @@ static const struct {
     {"LOADER_PACKAGE_UNKNOWN", "the package is not installed"},
     {"LOADER_PACKAGE_IMPORTED", "another package imports it"},
     {"LOADER_METHOD_UNKNOWN", "the package has no such class or method"},
-    {"LOADER_FILE_MARK", "the file does not begin with mark and version"},
+    {"LOADER_FILE_MARK", "the file does not begin with mark and version, 1 or 2"},
     {"LOADER_FILE_LAYOUT", "the file does not read as laid out"},
     {"LOADER_PACKAGE_EXISTS", "the package is installed already"},
     {"LOADER_IMPORT_MISSING", "an import is not installed"},
@@ -27,15 +31,18 @@ static const struct {
     {"LOADER_CALL_REFERENCE", "a call names no method that it may call"},
     {"LOADER_CALL_POLICY", "a method called does not allow all that it must"},
     {"LOADER_RUNNING_POLICY", "a method that runs does not allow all that it must"},
-    {"LOADER_STORE_FULL", "the entry does not fit"}
+    {"LOADER_STORE_FULL", "the entry does not fit"},
+    {NO_NAME, NO_TEXT},
+    {NO_NAME, NO_TEXT},
+    {"LOADER_HANDLER", "a handler's offsets do not fit its code"}
 };
 
 const char *loader_number_name(uint32_t number)
 {
-    return number < LOADER_NUMBERS ? numbers[number].name : "";
+    return number < LOADER_NUMBERS ? numbers[number].name : NO_NAME;
 }
 
 const char *loader_number_text(uint32_t number)
 {
-    return number < LOADER_NUMBERS ? numbers[number].text : "no number of the loader";
+    return number < LOADER_NUMBERS ? numbers[number].text : NO_TEXT;
 }

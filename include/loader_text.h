@@ -8,8 +8,8 @@
 extern "C" {
 #endif
 
-/* How many numbers there are: 0 to LOADER_NUMBERS - 1. */
-#define LOADER_NUMBERS 22u
+/* One more than the greatest number. Below it 22 and 23 are no numbers of the loader. */
+#define LOADER_NUMBERS 25u
 
 /* The name of a number, as enum loader_number has it; for any other number "". */
 const char *loader_number_name(uint32_t number);

@@ -18,7 +18,7 @@ for input in tests/card/*.txt examples/week.card; do
     [ ! -s "$out/said" ] || fail "$input: the card says:" "$out/said"
     inputs=$((inputs + 1))
 done
-[ "$inputs" -ge 9 ] || fail "inputs are missing: $inputs are there"
+[ "$inputs" -ge 10 ] || fail "inputs are missing: $inputs are there"
 same examples/week.card crates/card/stdin
 same examples/week.card.expected crates/card/stdout
 

@@ -3,8 +3,8 @@
 # reader, on the fixed cases and on COUNT generated call sequences.
 #
 # Prints the table of numbers answered and a line that begins with "ok", or what differs; exit
-# status 0 only if nothing does and, from 20,000 sequences on, every number and depth was reached and FE
-# decided often enough.
+# status 0 only if nothing does and, from 20,000 sequences on, every number and depth was reached, FE
+# decided and wrong readings of versions and handlers were told apart often enough.
 # Builds what is missing or out of date; writes only under target/ and comparison/target/.
 # LOADER_LIBRARY and CARD may name another archive of the six operations, called libloader.a, and
 # another simulated card, which are then tested and not built.

@@ -3,8 +3,11 @@
  *
  *     limit NUMBER VALUE NAME       a load (or call) with this many of what is limited answers this number
  *     store NUMBER LENGTH BYTES     question 2 of a buffer that holds these bytes, then zeros (0 where it is sound)
- *     load NUMBER DOMAIN FILE       a load into the week's store, where meals is installed
+ *     load NUMBER FILE              a load into the week's store, where meals and cabinet are installed
  *     code NUMBER BYTES             a load of a package with this code
+ *     handler NUMBER START END TARGET BYTES
+ *                                   a load of a package of version 2 with this code and this handler; a store that holds
+ *                                   it is sound where the number is 0, and is not where it is another
  *     length LENGTH OPCODE          an instruction has this many bytes; 0: there is no such instruction
  *     branch KIND OPCODE            1 or 2: it branches by an s1 or an s2; 0: it does not
  *     call PLACE OPCODE             it calls the reference at this byte; 0: it does not
@@ -104,6 +107,18 @@ static void write_code(const uint8_t *code, unsigned length)
     end();
 }
 
+/* The same as a file of version 2, with so many handlers, each this one: start, end, target. */
+static void write_handlers(const uint8_t *code, unsigned length, unsigned n, const unsigned *handler)
+{
+    write_code(code, length);
+    file[4] = 2;
+    u1(n);
+    for (unsigned i = 0; i < n; i++) {
+        u2(handler[0]), u2(handler[1]), u2(handler[2]);
+    }
+    end();
+}
+
 /* A file with so many of what is limited; 0 where the name is not known. */
 static int write_limit(const char *name, unsigned n)
 {
@@ -114,6 +129,12 @@ static int write_limit(const char *name, unsigned n)
         memset(code, 0, sizeof code);
         code[n == 0 ? 0 : n - 1] = 0x7A;
         write_code(code, n);
+        return 1;
+    }
+    if (strcmp(name, "handlers of a code") == 0) {
+        static const uint8_t returns[] = {0x7A};
+        static const unsigned whole[] = {0, 1, 0};
+        write_handlers(returns, sizeof returns, n, whole);
         return 1;
     }
     begin(strcmp(name, "bytes of an AID in a file") == 0 ? n : 5,
@@ -247,20 +268,55 @@ static int store_holds(unsigned number, char *text)
     return number == 0 ? said == LOADER_PACKAGE_UNKNOWN : said == number;
 }
 
-/* The store of the week's Monday, then the load. */
+static unsigned load_into(const struct aid *into, const uint8_t *bytes, size_t length)
+{
+    return LOADER_NUMBER(loader_load(store, LOADER_STORE_MOST, into->bytes, into->length, bytes, length));
+}
+
+/* The week's domains, with what the dumps import, then the load. */
 static int load_holds(unsigned number, const char *text)
 {
     static const struct aid *const all[] = {&CANTEEN, &DIRECTORY, &PHARMACY};
     static uint8_t bytes[4096];
-    struct file meals;
+    struct file meals, cabinet;
     unsigned n = bytes_of(text, bytes);
     loader_fresh(store, LOADER_STORE_MOST);
     for (int i = 0; i < 3; i++) {
         loader_create(store, LOADER_STORE_MOST, all[i]->bytes, all[i]->length);
     }
     write_meals(&meals);
-    loader_load(store, LOADER_STORE_MOST, CANTEEN.bytes, CANTEEN.length, meals.bytes, meals.length);
-    return LOADER_NUMBER(loader_load(store, LOADER_STORE_MOST, DIRECTORY.bytes, DIRECTORY.length, bytes, n)) == number;
+    write_cabinet(&cabinet);
+    return load_into(&CANTEEN, meals.bytes, meals.length) == 0 &&
+           load_into(&PHARMACY, cabinet.bytes, cabinet.length) == 0 && load_into(&DIRECTORY, bytes, n) == number;
+}
+
+/* The load; then the same handler written over one that was accepted, the last bytes of the store's last entry. */
+static int handler_holds(unsigned number, const char *text)
+{
+    enum { HANDLER_BYTES = 6 };
+    static uint8_t code[4096];
+    static const unsigned accepted[] = {0, 2, 3};
+    unsigned handler[3], length, said;
+    int rest = 0;
+    if (sscanf(text, "%u %u %u %n", &handler[0], &handler[1], &handler[2], &rest) < 3) {
+        return 0;
+    }
+    length = bytes_of(text + rest, code);
+    write_handlers(code, length, 1, handler);
+    if (loaded() != number) {
+        return 0;
+    }
+    write_handlers(code, length, 1, accepted);
+    if (loaded() != 0) {
+        return 0;
+    }
+    for (unsigned i = 0; i < 3; i++) {
+        uint8_t *place = store + LOADER_USED(store) - HANDLER_BYTES + 2 * i;
+        place[0] = (uint8_t)(handler[i] / 256);
+        place[1] = (uint8_t)(handler[i] % 256);
+    }
+    said = LOADER_NUMBER(loader_query(store, LOADER_STORE_MOST, domain, 5, domain, 5, 0, 0));
+    return said == (number == 0 ? LOADER_PACKAGE_UNKNOWN : LOADER_STORE_UNSOUND);
 }
 
 static int holds(char *line)
@@ -284,6 +340,9 @@ static int holds(char *line)
     }
     if (strcmp(kind, "code") == 0) {
         return code_number(bytes, bytes_of(line + rest, bytes)) == first;
+    }
+    if (strcmp(kind, "handler") == 0) {
+        return handler_holds(first, line + rest);
     }
     sscanf(line + rest, "%x", &value);
     if (strcmp(kind, "length") == 0) {

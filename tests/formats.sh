@@ -1,7 +1,8 @@
 #!/bin/sh
-# formats.sh: the figures of docs/FORMATS.md on the static library. Both dumps are contiguous, load, and are refused with any byte
-# of their opening changed; every limit holds at its value and is refused one past it; lengths, branches, calls and last
-# instructions of all opcodes are those of the tables; the codes are answered as said.
+# formats.sh: the figures of docs/FORMATS.md on the static library. The dumps are contiguous, load, and are refused with bytes of
+# their opening changed; every limit holds at its value and is refused one past it; lengths, branches, calls and last instructions
+# of all opcodes are those of the tables; the codes and handlers are answered as said, and a store that holds a handler is sound
+# where its load is accepted, and only there.
 #
 # Prints a line that begins with "ok", or what is wrong; exit status 0 only if all is right.
 set -u
@@ -25,6 +26,9 @@ dump() {
             for (i = 1; i <= n; i++) { printf "%s", bytes[i]; next_place++ }
         }' "$page"
 }
+
+# with DUMP PLACE BYTES: the dump with other bytes at a place, as the page counts it
+with() { echo "$1" | sed "s/^\(.\{$((2 * 0x$2))\}\).\{${#3}\}/\1$3/"; }
 
 # the rows of the table under a heading: cells between bars
 rows() {
@@ -61,20 +65,42 @@ marked() {
         # a class cannot have a depth of 0, and no count is below 0
         if [ "$least" -gt 0 ] && [ "$name" != 'depth of a class' ]; then echo "limit $number $((least - 1)) $name"; fi
     done
-    package=$(dump 1) || exit 1
-    echo "load 0 $package"
-    echo "load 10 FF${package#42}"
-    echo "load 11 $(echo "$package" | sed 's/^\(.\{10\}\)..../\1FFFF/')"
-    echo "load 11 ${package}00"
-    # FE is an index, FD is none; FE is no count
-    echo "load 11 $(echo "$package" | sed 's/^\(.\{110\}\)FE/\1FD/')"
-    echo "load 11 $(echo "$package" | sed 's/^\(.\{108\}\)01/\1FE/')"
-    store=$(dump 2) || exit 1
-    echo "store 0 $((${#store} / 2)) $store"
-    echo "store 0 300 $store"
-    for place in 0 2 4 6 8 10 12 14; do
-        echo "store 2 $((${#store} / 2)) $(echo "$store" | sed "s/^\(.\{$place\}\)../\1EE/")"
+    first=$(dump 1) || exit 1
+    second=$(dump 2) || exit 1
+    store=$(dump 3) || exit 1
+    for package in "$first" "$second"; do
+        echo "load 0 $package"
+        echo "load 10 $(with "$package" 0000 FF)"
+        for version in 0000 0003 0100 0102; do echo "load 10 $(with "$package" 0003 "$version")"; done
+        echo "load 11 $(with "$package" 0005 FFFF)"
+        echo "load 11 ${package}00"
     done
+    # FE is an index, FD is none; FE is no count
+    echo "load 11 $(with "$first" 0037 FD)"
+    echo "load 11 $(with "$first" 0036 FE)"
+    # version 1 has no handler count, version 2 has one
+    echo "load 11 $(with "$second" 0003 0001)"
+    echo "load 11 $(with "$first" 0003 0002)"
+    echo "load 0 $(with "$(with "$first" 0003 0002)" 0005 0040)00"
+    # a handler count that is not that of the handlers
+    echo "load 11 $(with "$second" 0040 00)"
+    echo "load 11 $(with "$second" 0040 02)"
+    echo "load 11 $(with "$second" 0040 11)"
+    # other offsets: the code has 6 bytes, and instructions start at 0, 3, 4 and 5
+    echo "load 24 $(with "$second" 0041 0001)"
+    echo "load 24 $(with "$second" 0041 0003)"
+    echo "load 24 $(with "$second" 0043 0002)"
+    echo "load 0 $(with "$second" 0043 0006)"
+    echo "load 24 $(with "$second" 0043 0007)"
+    echo "load 0 $(with "$second" 0045 0005)"
+    echo "load 24 $(with "$second" 0045 0006)"
+    length=$((${#store} / 2))
+    echo "store 0 $length $store"
+    echo "store 0 300 $store"
+    for place in 0000 0001 0002 0003 0004 0005 0006 0007; do echo "store 2 $length $(with "$store" "$place" EE)"; done
+    # its package has no codes, so that version 2 is laid out alike
+    echo "store 0 $length $(with "$store" 001B 0002)"
+    echo "store 2 $length $(with "$store" 001B 0003)"
     for n in 1 2 3 4 5; do list "^$n\$" | sed "s/^/length $n /"; done
     list '^none' | sed 's/^/length 0 /'
     marked branch 1 'branch by the s1' | grep -v '^branch 0'
@@ -84,7 +110,12 @@ marked() {
     marked call 1 '^call the reference'
     marked last 1 'may be the last'
     rows Code | sed 's/^\([^|]*\)|\([^|]*\).*/code \2 \1/'
+    code=$(sed -n 's/^Handlers of the code `\([0-9A-F ]*\)`.*/\1/p' "$page")
+    rows Start | while IFS='|' read -r start end target number; do echo "handler $number $start $end $target $code"; done
 } >"$out/lines" || fail "the page cannot be read"
+
+# the packages of the first two dumps are loaded in the week
+for n in 1 2; do grep -q " $(dump $n)\$" examples/week.card || fail "dump $n is no file of the week"; done
 
 # the ranges of the fields are those of the limits
 while IFS='|' read -r field limit; do
@@ -100,6 +131,7 @@ parent count|parents of a class
 method count|methods of a class
 allowed count|domains that a method allows
 code length|bytes of a code
+handler count|handlers of a code
 FIELDS
 
 # every opcode stands once in the table of lengths
@@ -109,9 +141,9 @@ FIELDS
     list '^none'
 } | sort >"$out/opcodes"
 awk 'BEGIN { for (i = 0; i < 256; i++) printf "%02X\n", i }' | cmp -s - "$out/opcodes" || fail "the table has not each opcode once"
-for kind in limit load store length branch call last code; do
+for kind in limit load store length branch call last code handler; do
     grep -q "^$kind " "$out/lines" || fail "nothing is tried of: $kind"
 done
 "$out/formats" <"$out/lines" >"$out/said" || fail "the library says otherwise:" "$out/said"
 
-echo "ok formats: $(cat "$out/said") of the page's limits, dumps, instructions and codes"
+echo "ok formats: $(cat "$out/said") of the page's limits, dumps, instructions, codes and handlers"

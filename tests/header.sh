@@ -1,6 +1,7 @@
 #!/bin/sh
 # header.sh: the C headers compile by themselves as C99, C11, C++98 and C++17, with other compilers at hand too, and where int has
-# 16 bits; each number from 0 to 21 has one constant; the static library exports the six operations and needs memset alone.
+# 16 bits; each number from 0 to 21, and 24, has one constant; the static library exports the six operations and needs memset
+# alone.
 #
 # Prints a line that begins with "ok", or what is wrong; exit status 0 only if all is right.
 set -u
@@ -55,7 +56,13 @@ if command -v clang >/dev/null; then
 fi
 
 sed -n '/^enum loader_number {/,/^};/s/^ *LOADER_[A-Z_]* = \([0-9]*\),\{0,1\}$/\1/p' include/loader.h >"$out/numbers"
-seq 0 21 | cmp -s - "$out/numbers" || fail "the numbers are not 0 to 21, each once" "$out/numbers"
+{
+    seq 0 21
+    echo 24
+} | cmp -s - "$out/numbers" || fail "the numbers are not 0 to 21 and 24, each once" "$out/numbers"
+# each of them but 0 is asked by an operation, and no other is
+sed -n '/^ \* Numbers: /,/^ \* Changes: /{/Changes/d; s/;.*//; p}' include/loader.h | grep -o '[0-9][0-9]*' | sort -nu >"$out/asked"
+sed 1d "$out/numbers" | cmp -s - "$out/asked" || fail "the operations' lists have other numbers" "$out/asked"
 
 need_library
 nm -g "$library" | awk 'NF == 2 && $1 == "U" { print "needs " $2 } NF == 3 { print "has " $3 }' | sort >"$out/symbols"
@@ -63,4 +70,4 @@ printf '%s\n' create delete fresh load query remove | sed 's/^/has loader_/' >"$
 echo 'needs memset' >>"$out/symbols.expected"
 same "$out/symbols.expected" "$out/symbols"
 
-echo "ok header: $done; 22 numbers; the library needs memset alone"
+echo "ok header: $done; $(($(wc -l <"$out/numbers"))) numbers; the library needs memset alone"

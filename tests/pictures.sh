@@ -20,7 +20,7 @@ shown() {
         grep -q ">$text</text>" "docs/$picture.svg" || fail "docs/$picture.svg does not show $text"
     done
 }
-shown week canteen directory pharmacy meals statements diet cabinet requests treats price order statement book forward treat
+shown week canteen directory pharmacy meals statements diet cabinet requests treats price order statement book forward treat "version 2"
 # shellcheck disable=SC2046
 shown crates $(sed -n 's/^\([a-z][a-z0-9_]*\):.*/\1/p' crates.txt)
 [ "$(grep -c 'class="line red"' docs/week.svg)" -ge 2 ] || fail "docs/week.svg does not show the refused chain"

@@ -22,20 +22,28 @@ sed -n '/^It prints$/,/^\[/s/^    //p' README.md >"$out/os.expected"
 [ -s "$out/os.expected" ] || fail "README.md does not say what the program prints"
 same "$out/os.expected" "$out/os.out"
 
-# the table of numbers: NUMBER NAME TEXT
+# the table of numbers: NUMBER NAME TEXT; of a number without a name it is said that it is none
 cat >"$out/names.c" <<'C'
 #include <stdio.h>
+#include <string.h>
 #include "loader_text.h"
 int main(void)
 {
-    for (uint32_t i = 0; i < LOADER_NUMBERS; i++) {
-        printf("%u %s %s\n", (unsigned)i, loader_number_name(i), loader_number_text(i));
+    uint32_t past_the_last = 0;
+    for (uint32_t i = 0; i < 256; i++) {
+        if (loader_number_name(i)[0] != '\0') {
+            printf("%u %s %s\n", (unsigned)i, loader_number_name(i), loader_number_text(i));
+            past_the_last = i + 1;
+        } else if (strcmp(loader_number_text(i), "no number of the loader") != 0) {
+            return 1;
+        }
     }
-    return loader_number_name(LOADER_NUMBERS)[0] == '\0' ? 0 : 1;
+    return past_the_last == LOADER_NUMBERS ? 0 : 1;
 }
 C
 compile names "$out/names.c" include/loader_text.c
-"$out/names" >"$out/names.text" || fail "a number past the last one has a name"
+"$out/names" >"$out/names.text" ||
+    fail "a number without a name has a text of its own, or LOADER_NUMBERS is not one more than the last number"
 sed -n 's/^| *\([0-9][0-9]*\) *| *`\(LOADER_[A-Z_]*\)`: *\([^|]*[^| ]\) *|.*/\1 \2 \3/p' README.md >"$out/names.readme"
 same "$out/names.readme" "$out/names.text"
 # and the header's own: NUMBER NAME

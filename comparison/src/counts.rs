@@ -1,15 +1,17 @@
 //! How often each operation answered each number, loads by their depth figure, and what
-//! FE decided.
+//! FE and handlers decided.
 
 use independent::depths::DepthCounts;
+use independent::handler_counts::HandlerCounts;
 use independent::ledger::Call;
 use independent::loader::{Independent, Loader};
 use independent::own_domain::OwnCounts;
+use independent::questions::NUMBERS;
 use std::cell::RefCell;
 
 pub const OPERATIONS: [&str; 6] = ["fresh", "create", "delete", "load", "remove", "query"];
 
-const NUMBERS: usize = 22;
+const GREATEST: usize = NUMBERS[NUMBERS.len() - 1] as usize;
 const LOAD: usize = 3;
 const QUERY: usize = 5;
 
@@ -19,7 +21,7 @@ const CAN_ANSWER: [&[usize]; 6] = [
     &[0, 1, 2, 3, 4, 21],
     &[0, 1, 2, 3, 5, 6],
     &[
-        0, 1, 2, 3, 5, 10, 11, 12, 13, 14, 15, 16, 17, 18, 19, 20, 21,
+        0, 1, 2, 3, 5, 10, 11, 12, 13, 14, 15, 16, 17, 24, 18, 19, 20, 21,
     ],
     &[0, 1, 2, 3, 7, 8],
     &[0, 1, 2, 3, 7, 9],
@@ -27,9 +29,10 @@ const CAN_ANSWER: [&[usize]; 6] = [
 
 #[derive(Default)]
 pub struct Counts {
-    answers: [[u64; NUMBERS]; 6],
+    answers: [[u64; GREATEST + 1]; 6],
     depths: DepthCounts,
     own: OwnCounts,
+    handlers: HandlerCounts,
     /// Queries answered yes.
     yes: u64,
 }
@@ -47,6 +50,7 @@ impl Counts {
     fn note_call(&mut self, operation: usize, call: &Call, answer: u32, store: &[u8]) {
         self.note(operation, answer);
         self.own.note(call, answer, store);
+        self.handlers.note(call, answer, store);
         if operation == LOAD && answer & 0xFF == 0 {
             self.depths.note(answer >> 8, store);
         }
@@ -63,11 +67,11 @@ impl Counts {
     /// Rows are operations, columns numbers; a dash where there is nothing to reach.
     pub fn print(&self) {
         print!("{:8}", "");
-        (0..NUMBERS).for_each(|number| print!("{number:>7}"));
+        NUMBERS.iter().for_each(|number| print!("{number:>7}"));
         println!();
         for (operation, name) in OPERATIONS.iter().enumerate() {
             print!("{name:8}");
-            for number in 0..NUMBERS {
+            for number in NUMBERS.map(usize::from) {
                 match self.answers[operation][number] {
                     0 if !CAN_ANSWER[operation].contains(&number) => print!("{:>7}", "-"),
                     count => print!("{count:>7}"),
@@ -79,12 +83,12 @@ impl Counts {
         println!("{accepted} of {loads} loads accepted: {}", self.depths);
         let (yes, queries) = (self.yes, self.answers[QUERY][0]);
         println!("{yes} of {queries} queries answered yes");
-        println!("{}", self.own);
+        println!("{}\n{}", self.own, self.handlers);
     }
 
     /// What falls short of this many answers of each number, this many accepted loads by
-    /// each depth and origin, this many decisions of each kind by FE, and a fifth of loads
-    /// accepted.
+    /// each depth and origin, this many decisions of each kind by FE and by handlers, and a
+    /// fifth of loads accepted.
     pub fn shortfalls(&self, least: u64) -> Vec<String> {
         let mut found = Vec::new();
         for (operation, numbers) in CAN_ANSWER.iter().enumerate() {
@@ -101,6 +105,7 @@ impl Counts {
         }
         found.extend(self.depths.shortfalls(least));
         found.extend(self.own.shortfalls(least));
+        found.extend(self.handlers.shortfalls(least));
         found
     }
 }

@@ -1,6 +1,7 @@
 //! The cases that every run compares, whatever its count.
 
 use independent::generate::faults::faulty_file;
+use independent::generate::handler_cases;
 use independent::generate::lineages::lineages;
 use independent::generate::own_pairs::own_pairs;
 use independent::generate::random::Random;
@@ -10,6 +11,8 @@ use independent::generate::stores::planted_store;
 use independent::generate::valid::valid_file;
 use independent::ledger::Call;
 use independent::loader::{Sequence, Step};
+use independent::package::Version;
+use independent::questions::OF_A_FILE;
 
 const DOMAIN: &[u8] = &[0xA0, 0, 0, 0, 0xD1];
 
@@ -25,13 +28,17 @@ fn group(name: &'static str, sequences: impl Iterator<Item = Sequence> + 'static
 
 /// The groups in the order in which they are run; the seed is that of the run.
 pub fn groups(seed: u64) -> Vec<Group> {
-    let seeds = move |count: u64| (0..count).map(move |n| seed.wrapping_mul(257).wrapping_add(n));
-    let limits = std::iter::once_with(special::limits);
+    let mut found = at_limits();
+    found.extend(of_version_2());
+    found.extend(given());
+    found.extend(seeded(seed));
+    found
+}
+
+/// Lengths, counts and lists.
+fn at_limits() -> Vec<Group> {
+    let limits = Version::BOTH.into_iter().map(special::limits);
     let lists = std::iter::once_with(special::own_limit_lists);
-    let pairs = own_pairs().into_iter();
-    let faults = seeds(30).flat_map(|s| [with_faults(s, 1), with_faults(s, 2)]);
-    let questions = (0..=5).chain(10..=20);
-    let stores = questions.flat_map(move |question| seeds(10).map(move |s| over(s, question)));
     vec![
         group(
             "buffers and arguments of all lengths",
@@ -39,7 +46,32 @@ pub fn groups(seed: u64) -> Vec<Group> {
         ),
         group("limits at their value and one past", limits),
         group("lists with FE at their limits and past", lists),
-        group("two packages with FE in every way", pairs),
+        group("two packages with FE in every way", own_pairs().into_iter()),
+    ]
+}
+
+/// Versions and handlers.
+fn of_version_2() -> Vec<Group> {
+    let limits = std::iter::once_with(handler_cases::limits);
+    let orders = std::iter::once_with(handler_cases::orders);
+    vec![
+        group("versions and handlers at their limits and past", limits),
+        group(
+            "every handler of short codes",
+            handler_cases::handlers_of_codes().into_iter(),
+        ),
+        group("faults of two codes in every order", orders),
+        group(
+            "two packages of either version",
+            handler_cases::version_pairs().into_iter(),
+        ),
+    ]
+}
+
+/// Stores and codes that are the same in every run.
+fn given() -> Vec<Group> {
+    let codes = Version::BOTH.into_iter().flat_map(special::short_codes);
+    vec![
         group(
             "stores full to the byte",
             special::full_stores().into_iter(),
@@ -49,21 +81,29 @@ pub fn groups(seed: u64) -> Vec<Group> {
             lineages().into_iter(),
         ),
         group("hostile ladders", special::hostile().into_iter()),
-        group("one and two faults per file", faults),
-        group("stores with one fault", stores),
         group(
             "one byte of a store flipped, then each call",
             special::damaged_stores(),
         ),
+        group("codes of one and two bytes", codes),
+    ]
+}
+
+/// Files and stores by the seed.
+fn seeded(seed: u64) -> Vec<Group> {
+    let seeds = move |count: u64| (0..count).map(move |n| seed.wrapping_mul(257).wrapping_add(n));
+    let faults = seeds(30).flat_map(|s| [with_faults(s, 1), with_faults(s, 2)]);
+    let questions = (0..=5).chain(OF_A_FILE);
+    let stores = questions.flat_map(move |question| seeds(10).map(move |s| over(s, question)));
+    let codes = seeds(64).map(|s| special::three_byte_codes(Version::BOTH[s as usize % 2], s));
+    vec![
+        group("one and two faults per file", faults),
+        group("stores with one fault", stores),
         group(
             "every byte of further stores flipped",
             seeds(6).map(flipped),
         ),
-        group("codes of one and two bytes", special::short_codes()),
-        group(
-            "codes of three bytes",
-            seeds(64).map(special::three_byte_codes),
-        ),
+        group("codes of three bytes", codes),
     ]
 }
 
@@ -97,9 +137,12 @@ fn with_faults(seed: u64, faults: usize) -> Sequence {
         steps.push(load(file));
     }
     let model = valid_file(random, &scene, DOMAIN, &[0xC0; 6]);
-    for first in 10..=20 {
-        let last = if faults == 1 { first } else { 20 };
-        for second in (first..=last).skip(faults - 1) {
+    for (place, &first) in OF_A_FILE.iter().enumerate() {
+        let seconds = match faults {
+            1 => &OF_A_FILE[place..=place],
+            _ => &OF_A_FILE[place + 1..],
+        };
+        for &second in seconds {
             let questions = [first, second];
             let file = faulty_file(random, &scene, DOMAIN, &model, &questions[..faults]);
             steps.extend(file.map(load));

@@ -3,6 +3,7 @@
 //! so that question 2 is all that it costs.
 
 use crate::hostile_chains::{chain, chain_of_lists, lists_by_turns, own_alone};
+use crate::hostile_handlers::{in_second, long_codes, short_codes};
 use crate::hostile_lists::Lists;
 use crate::hostile_tables::{below, crossing, domains, maps, names, packages, references, shuffle};
 use crate::ordinary::domain;
@@ -34,6 +35,11 @@ pub const MAPS: &str = "15 imports of 32 domains each";
 pub const MAPS_CALLED: &str = "the same, each import called";
 pub const PACKAGES: &str = "packages of chosen AIDs, 15 imports each";
 pub const NAMES: &str = "64 names a class";
+pub const SHORT_HANDLERS: &str = "as many codes of one byte as fit, 16 handlers each";
+pub const LONG_HANDLERS: &str = "the longest codes of one-byte instructions, 16 handlers each";
+pub const WIDE_HANDLERS: &str = "the longest codes of any instructions, 16 handlers each";
+pub const CHAIN_SECOND: &str = "the chain in version 2";
+pub const CALLED_SECOND: &str = "the references called, in 16 handlers' ranges";
 
 /// The sizes of the chain's stores, for its growth.
 pub const CHAIN_SIZES: [usize; 4] = [8, 16, 32, 64];
@@ -72,7 +78,19 @@ pub fn all() -> Vec<Workload> {
     found.push(maps(MAPS_CALLED, true));
     found.push(packages());
     found.push(names());
+    found.extend(with_handlers());
     found
+}
+
+/// Those of version 2.
+fn with_handlers() -> [Workload; 5] {
+    [
+        short_codes(),
+        long_codes(LONG_HANDLERS, false),
+        long_codes(WIDE_HANDLERS, true),
+        in_second(CHAIN_SECOND, &chain(64), 0),
+        in_second(CALLED_SECOND, &references(CALLED, 700, true), 16),
+    ]
 }
 
 pub(crate) const LARGEST: usize = 65_535;

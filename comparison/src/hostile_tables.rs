@@ -152,6 +152,7 @@ pub(crate) fn maps(name: &'static str, called: bool) -> Workload {
             imports: (0..15).map(|i| aid(1 + i)).collect(),
             references: (0..15).map(|i| (1 + i, 0, 1)).collect(),
             classes: if called { vec![caller.clone()] } else { vec![] },
+            ..FileModel::default()
         })
     });
     workload(name, &entries, LARGEST)

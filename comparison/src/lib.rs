@@ -2,17 +2,20 @@
 
 #![deny(unsafe_code)]
 
+mod below_ladder;
 pub mod counts;
 pub mod fixed;
 pub mod frames;
 pub mod guarded;
 pub mod hostile;
 mod hostile_chains;
+mod hostile_handlers;
 mod hostile_lists;
 mod hostile_tables;
 pub mod instructions;
 pub mod library;
 pub mod ordinary;
+pub mod ordinary_handlers;
 pub mod report;
 pub mod stack;
 pub mod tables;

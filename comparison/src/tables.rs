@@ -2,6 +2,7 @@
 
 use crate::counts::OPERATIONS;
 use crate::hostile;
+use crate::ordinary_handlers as handled;
 use crate::timing::Times;
 use crate::workloads::{self as named, Workload};
 
@@ -86,6 +87,9 @@ impl Measured {
             named::REMOVE,
             named::OWN_LOAD,
             named::OWN_QUERY,
+            handled::LOAD,
+            handled::QUERY,
+            handled::OVER_FIRST,
         ] {
             let (small, large) = (self.of(name, "8 KB"), self.of(name, "64 KB"));
             let library = large.library.best() / small.library.best();

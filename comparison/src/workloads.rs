@@ -1,8 +1,10 @@
 //! What the benchmark times: a store, and one call over it.
 
+use crate::below_ladder::below_ladder;
 use crate::ordinary::{domain, home, of_codes, of_size, ordinary, package, Own, CODE};
+use crate::ordinary_handlers::with_handlers;
 use independent::generate::limits::ladder;
-use independent::generate::model::{ClassModel, FileModel};
+use independent::generate::model::FileModel;
 use independent::ledger::{Call, Entry, Ledger};
 use independent::store;
 
@@ -59,10 +61,11 @@ pub fn all() -> Vec<Workload> {
     found.extend(of_file(CODES, CODES, &codes).into_iter().take(1));
     found.push(below_ladder());
     found.push(empty());
+    found.extend(with_handlers());
     found
 }
 
-fn buffer_bytes(kb: usize) -> usize {
+pub(crate) fn buffer_bytes(kb: usize) -> usize {
     (1024 * kb).min(65_535)
 }
 
@@ -81,17 +84,22 @@ pub fn used(entries: &[Entry]) -> usize {
     store::HEAD + entries.iter().map(entry_bytes).sum::<usize>()
 }
 
-fn four_domains() -> Vec<Entry> {
+pub(crate) fn four_domains() -> Vec<Entry> {
     (0..4).map(|number| Entry::Domain(domain(number))).collect()
 }
 
 /// Four domains, and ordinary packages for the largest store and one more.
 fn full_entries(own: Own) -> Vec<Entry> {
+    full_of(|number| ordinary(number, 1, CODE, own))
+}
+
+/// The same of packages made from their numbers.
+pub(crate) fn full_of(make: impl Fn(usize) -> FileModel) -> Vec<Entry> {
     let mut entries = four_domains();
     for number in 0.. {
         entries.push(Entry::Package {
             domain: home(number),
-            file: ordinary(number, 1, CODE, own).bytes(),
+            file: make(number).bytes(),
         });
         if used(&entries) > buffer_bytes(64) {
             break;
@@ -101,7 +109,7 @@ fn full_entries(own: Own) -> Vec<Entry> {
 }
 
 /// As many of the entries as a store of this size holds.
-fn first_entries(entries: &[Entry], kb: usize) -> &[Entry] {
+pub(crate) fn first_entries(entries: &[Entry], kb: usize) -> &[Entry] {
     let fits = |&count: &usize| used(&entries[..count]) <= buffer_bytes(kb);
     let count = (0..entries.len()).take_while(fits).last();
     &entries[..count.unwrap_or(0)]
@@ -118,7 +126,7 @@ fn with_own() -> Vec<Workload> {
 }
 
 /// Asks about a method of the last entry.
-fn last_query(
+pub(crate) fn last_query(
     name: &'static str,
     kb: usize,
     entries: &[Entry],
@@ -136,7 +144,7 @@ fn last_query(
 }
 
 /// The last entry loaded over the others.
-fn last_load(name: &'static str, kb: usize, entries: &[Entry]) -> Workload {
+pub(crate) fn last_load(name: &'static str, kb: usize, entries: &[Entry]) -> Workload {
     let Some((Entry::Package { domain, file }, earlier)) = entries.split_last() else {
         panic!("a store of {kb} KB has no room for an ordinary package");
     };
@@ -144,7 +152,7 @@ fn last_load(name: &'static str, kb: usize, entries: &[Entry]) -> Workload {
     over(name, kb, earlier, Call::Load { domain, file })
 }
 
-fn over(name: &'static str, kb: usize, entries: &[Entry], call: Call) -> Workload {
+pub(crate) fn over(name: &'static str, kb: usize, entries: &[Entry], call: Call) -> Workload {
     Workload {
         name,
         size: format!("{kb} KB"),
@@ -155,7 +163,7 @@ fn over(name: &'static str, kb: usize, entries: &[Entry], call: Call) -> Workloa
 }
 
 /// Asks about the first class's first method.
-fn query(number: usize) -> Call {
+pub(crate) fn query(number: usize) -> Call {
     Call::Query {
         domain: domain(0),
         package: package(number),
@@ -183,7 +191,11 @@ fn of_domains(count: u32) -> [Workload; 2] {
 }
 
 /// A file loaded into a store without packages, and a query of it there.
-fn of_file(load_name: &'static str, query_name: &'static str, file: &[u8]) -> [Workload; 2] {
+pub(crate) fn of_file(
+    load_name: &'static str,
+    query_name: &'static str,
+    file: &[u8],
+) -> [Workload; 2] {
     let mut entries = four_domains();
     let size = format!("{} bytes", file.len());
     let (domain, file) = (domain(0), file.to_vec());
@@ -206,48 +218,6 @@ fn of_file(load_name: &'static str, query_name: &'static str, file: &[u8]) -> [W
         number: 0,
     };
     [load, query]
-}
-
-/// A package of one import, or none, whose classes have these parents.
-fn importer(number: usize, import: Option<usize>, kind: u8, parents: &[Vec<(u8, u8)>]) -> Entry {
-    let class = |parents: &Vec<(u8, u8)>| ClassModel::new(kind, parents, vec![]);
-    let model = FileModel {
-        aid: package(number),
-        imports: import.map(package).into_iter().collect(),
-        classes: parents.iter().map(class).collect(),
-        ..FileModel::default()
-    };
-    Entry::Package {
-        domain: domain(0),
-        file: model.bytes(),
-    }
-}
-
-/// A full store: 500 packages without imports, then seven levels of 32 interfaces with four
-/// parents each in the level before, then packages of one class with four parents in the last
-/// level. A query judges them all.
-fn below_ladder() -> Workload {
-    let four = |class: u8| (0..4).map(|k| (1, (4 * class + k) % 32)).collect();
-    let mut entries = four_domains();
-    entries.extend((0..500).map(|number| importer(number, None, 0, &[])));
-    let first = vec![Vec::new(); 32];
-    entries.push(importer(500, None, 1, &first));
-    let level: Vec<Vec<(u8, u8)>> = (0..32).map(four).collect();
-    entries.extend((501..507).map(|number| importer(number, Some(number - 1), 1, &level)));
-    for number in 507.. {
-        entries.push(importer(number, Some(506), 0, &level[..1]));
-        if used(&entries) > 65_535 {
-            entries.pop();
-            break;
-        }
-    }
-    Workload {
-        name: BELOW,
-        size: format!("{} packages", entries.len() - 4),
-        store: written(&entries, 65_535),
-        call: query(506),
-        number: 9,
-    }
 }
 
 /// A store without entries, as small as one may be.

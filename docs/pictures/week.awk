@@ -23,10 +23,12 @@ function take_aid(    n) {
 # What packages.c calls an AID; of another length or ending, its digits.
 function called(aid) { return aid in title ? title[aid] : aid }
 
-# Keeps what a package file says: its methods with what they allow and call, and its parents.
+# Keeps what a package file says: its version, its methods with what they allow and call, and its parents.
 function read_package(p, bytes,    i, j, k, n, m, allowed, bits) {
     file = bytes
-    at = 1 + 2 * 7
+    at = 1 + 2 * 3
+    version[p] = number(2)
+    take(2)
     aid_of[p] = take_aid()
     n = number(1)
     for (i = 0; i < n; i++) domain_at[i] = take_aid()
@@ -72,6 +74,8 @@ function read_method(p, class,    r, bits, name, n, i, code) {
         call_to[calls] = reference[hex(substr(code, i + 2, 4))]
         i += 4
     }
+    # handlers are not drawn: a call inside one is a call of its method
+    if (version[p] == 2) take(6 * number(1))
 }
 
 # "packages.c": NAME = {"name", length, {0x.., ..}}
@@ -129,6 +133,7 @@ function draw_package(p, c, class,    r, x, label) {
     box(x, top[p], WIDE, height[p], class)
     label = called(aid_of[p])
     text(x + 10, top[p] + 19, label, "name")
+    if (version[p] != 1) text(x + 16 + width(label, 13), top[p] + 19, "version " version[p], "small")
     if (class == "refused") text(x + 16 + width(label, 13), top[p] + 19, "refused with " refusal, "rednote")
     for (r = 1; r <= rows[p]; r++) {
         text(x + 18, row_y(p, r) + 4, method[p, r], "method")

@@ -50,7 +50,7 @@ pub struct Contents<'a> {
     pub packages: Vec<Installed<'a>>,
     package_numbers: HashMap<&'a [u8], usize>,
     domain_numbers: HashMap<&'a [u8], usize>,
-    /// How FE is misread, if it is.
+    /// How a load is misread, if it is.
     pub misreading: Option<Misreading>,
 }
 

@@ -1,4 +1,4 @@
-//! An independent reading of document 01 with requests 2 and 5 of document 02: the
+//! An independent reading of document 01 with requests 2, 5 and 7 of document 02: the
 //! staff card loader.
 
 pub mod bytes;
@@ -7,9 +7,13 @@ pub mod code;
 pub mod contents;
 pub mod depths;
 pub mod generate;
+pub mod handler_counts;
+pub mod handler_faults;
+pub mod handlers;
 pub mod ledger;
 pub mod load_questions;
 pub mod loader;
+mod misread_handlers;
 pub mod misreadings;
 pub mod operations;
 pub mod own_domain;

@@ -1,22 +1,24 @@
-//! Questions 10 to 20, asked of a load. Each is asked of the whole file.
+//! Questions 10 to 20, asked of a load; `handlers` has 24. Each is asked of the whole file.
 
 use crate::code::{self, CallKind};
 use crate::contents::{Contents, Lineage, MethodPlace, Place};
+use crate::handlers::Handlers;
 use crate::misreadings::Misreading;
-use crate::package::{self, Class, Method, Package};
+use crate::package::{self, Class, Method, Package, Version};
 use crate::policy::Role;
+use std::borrow::Cow;
 
 /// The greatest depth of a class.
 const MAX_DEPTH: u8 = 8;
 
-/// Does the file begin with mark and version?
-pub fn q10(file: &[u8]) -> bool {
-    file.starts_with(&package::MARK_AND_VERSION)
+/// Does the file begin with mark and version? If so, which version.
+pub fn q10(file: &[u8], misreading: Option<Misreading>) -> Option<Version> {
+    package::version(file, misreading)
 }
 
 /// Does the rest read exactly to its end as laid out, size, counts and ranges included?
-pub fn q11(file: &[u8], misreading: Option<Misreading>) -> Option<Package<'_>> {
-    package::read_by(file, misreading)
+pub fn q11(file: &[u8], version: Version, misreading: Option<Misreading>) -> Option<Package<'_>> {
+    package::read_by(file, version, misreading)
 }
 
 /// Is the package AID not installed?
@@ -27,7 +29,14 @@ pub fn q12(contents: &Contents, package: &Package) -> bool {
 /// Is each import installed? If so, their numbers.
 pub fn q13(contents: &Contents, package: &Package) -> Option<Vec<usize>> {
     let imports = package.imports.iter();
-    imports.map(|aid| contents.package_number(aid)).collect()
+    imports
+        .map(|aid| {
+            let number = contents.package_number(aid)?;
+            let version = contents.packages[number].package.version;
+            let refuses = |wrong: Misreading| wrong.refuses_import(package.version, version);
+            (!contents.misreading.is_some_and(refuses)).then_some(number)
+        })
+        .collect()
 }
 
 /// Does each parent exist, an own one with a smaller number; have interfaces only
@@ -92,31 +101,39 @@ pub fn q15(package: &Package) -> bool {
     })
 }
 
-/// A code of the file, split into instructions.
+/// A code of the file, split into instructions, and its handlers.
 pub struct Code<'a> {
-    class: usize,
-    method: usize,
-    bytes: &'a [u8],
-    starts: Vec<usize>,
+    pub class: usize,
+    pub method: usize,
+    pub bytes: &'a [u8],
+    pub starts: Vec<usize>,
+    pub handlers: Handlers<'a>,
+}
+
+/// Each code of the file, split; `None` for one that does not split.
+pub fn codes_of<'p, 'a: 'p>(
+    package: &'p Package<'a>,
+) -> impl Iterator<Item = Option<Code<'a>>> + 'p {
+    let classes = package.classes.iter().enumerate();
+    classes.flat_map(|(class, record)| {
+        let methods = record.methods.iter().enumerate();
+        methods.filter_map(move |(method, declared)| {
+            let bytes = declared.code?;
+            Some(code::split(bytes).map(|starts| Code {
+                class,
+                method,
+                bytes,
+                starts,
+                handlers: declared.handlers,
+            }))
+        })
+    })
 }
 
 /// Does each code split into instructions from offset 0 to its end, low at most
 /// high, the last being 70, 72–7A, 93 or A8?
 pub fn q16<'a>(package: &Package<'a>) -> Option<Vec<Code<'a>>> {
-    let mut codes = Vec::new();
-    for (class, record) in package.classes.iter().enumerate() {
-        for (method, declared) in record.methods.iter().enumerate() {
-            if let Some(bytes) = declared.code {
-                codes.push(Code {
-                    class,
-                    method,
-                    bytes,
-                    starts: code::split(bytes)?,
-                });
-            }
-        }
-    }
-    Some(codes)
+    codes_of(package).collect()
 }
 
 /// Is each branch target an offset where an instruction starts?
@@ -145,7 +162,11 @@ pub fn q18(contents: &Contents, judged: usize, codes: &[Code]) -> Option<Vec<Cal
             },
             method: code.method,
         };
-        for (kind, index) in code::calls(code.bytes, &code.starts) {
+        let starts = match contents.misreading {
+            None => Cow::Borrowed(&code.starts),
+            Some(wrong) => Cow::Owned(wrong.looked_at(code)),
+        };
+        for (kind, index) in code::calls(code.bytes, &starts) {
             let named = named_method(contents, judged, kind, index)?;
             found.push(Call { caller, named });
         }

@@ -1,32 +1,82 @@
-//! Wrong readings of FE. Tests show that generated sequences find them, and counts ask
-//! by them whether an answer hangs on FE; the loader itself uses none.
+//! Wrong readings of FE and of handlers. Tests show that generated sequences find them, and
+//! counts ask by them on what an answer hangs; the loader itself uses none.
 
+use crate::handler_faults::HandlerFault;
 use crate::policy::{Policy, Role, Standing, OWN};
 
 #[derive(Clone, Copy, Debug, PartialEq, Eq)]
 pub enum Misreading {
-    /// In every file the domain that is loading.
+    /// FE is in every file the domain that is loading.
     NowLoading,
-    /// Every domain.
+    /// FE is every domain.
     EveryDomain,
-    /// No index of a file without domains.
+    /// FE is no index of a file without domains.
     NotWithoutDomains,
-    /// Another right than the same AID by index.
+    /// FE is another right than the same AID by index.
     ApartFromIndex,
-    /// No domain.
+    /// FE is no domain.
     NoDomain,
-    /// A policy as an allowed count too, alone as FF is.
+    /// FE is a policy as an allowed count too, alone as FF is.
     CountToo,
-    /// The domain that a query asks for.
+    /// FE is the domain that a query asks for.
     AskedFor,
-    /// Nothing in the list of a method that calls (question 19).
+    /// FE is nothing in the list of a method that calls (question 19).
     NotOfCallers,
-    /// Nothing in the list of a class's or an ancestor's method (question 20).
+    /// FE is nothing in the list of a class's or an ancestor's method (question 20).
     NotOfAncestors,
+
+    /// A handler with this fault alone is good.
+    Forgiven(HandlerFault),
+    /// A handler whose end is the code's length is bad.
+    EndBelowLength,
+    /// A handler whose target lies in its range is bad.
+    TargetOutside,
+    /// Handlers that do not come in the order of their starts are bad.
+    InOrder,
+    /// Handlers that overlap are bad.
+    Apart,
+    /// A handler that is repeated is bad.
+    Once,
+    /// Version 2 is none.
+    FirstAlone,
+    /// Version 0 is read as 1.
+    VersionZero,
+    /// Version 3 is read as 2.
+    VersionThree,
+    /// The version is its low byte.
+    LowByteAlone,
+    /// Version 1 has handlers.
+    HandlersInFirst,
+    /// Version 2 has no handlers.
+    NoneInSecond,
+    /// A method without a code has a handler count too.
+    CountOfEach,
+    /// 17 handlers are no more than there may be.
+    Most17,
+    /// 16 handlers are more than there may be.
+    Most15,
+    /// Handlers that the file's end cuts off are left out.
+    CutOff,
+    /// An offset past the code is a matter of question 11.
+    OffsetsIn11,
+    /// 24 is asked before 17.
+    Before17,
+    /// 24 is asked after 18.
+    After18,
+    /// 16, 17 and 24 are asked of one method after the other.
+    MethodByMethod,
+    /// 24 is not asked of a store's packages.
+    NotInSoundness,
+    /// Calls in a handler's range are none.
+    RangeUncalled,
+    /// Calls from a handler's target on are none.
+    HandlerUncalled,
+    /// A package of another version is no import.
+    VersionsApart,
 }
 
 impl Misreading {
-    pub const ALL: [Misreading; 9] = [
+    pub const OWN_DOMAIN: [Misreading; 9] = [
         Misreading::NowLoading,
         Misreading::EveryDomain,
         Misreading::NotWithoutDomains,

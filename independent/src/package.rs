@@ -1,11 +1,42 @@
 //! The package file, parsed to structures.
 
 use crate::bytes::Reader;
+use crate::handlers::{HandlerReader, Handlers};
 use crate::misreadings::Misreading;
 use crate::policy::{Policy, PolicyReader};
 
-/// The mark "BPK" and version 1.
-pub const MARK_AND_VERSION: [u8; 5] = [0x42, 0x50, 0x4B, 0, 1];
+/// The mark "BPK".
+pub const MARK: [u8; 3] = [0x42, 0x50, 0x4B];
+
+/// Mark and version.
+pub const HEAD: usize = 5;
+
+/// The version of a file; the second has handlers (request 7).
+#[derive(Clone, Copy, Debug, Default, PartialEq, Eq)]
+pub enum Version {
+    #[default]
+    First,
+    Second,
+}
+
+impl Version {
+    pub const BOTH: [Version; 2] = [Version::First, Version::Second];
+
+    pub fn of(field: [u8; 2]) -> Option<Self> {
+        match field {
+            [0, 1] => Some(Version::First),
+            [0, 2] => Some(Version::Second),
+            _ => None,
+        }
+    }
+
+    pub fn field(self) -> [u8; 2] {
+        match self {
+            Version::First => [0, 1],
+            Version::Second => [0, 2],
+        }
+    }
+}
 
 pub const MAX_DOMAINS: usize = 32;
 pub const MAX_IMPORTS: usize = 15;
@@ -21,6 +52,7 @@ pub const STATIC: u8 = 0x20;
 
 #[derive(Clone, Debug)]
 pub struct Package<'a> {
+    pub version: Version,
     pub aid: &'a [u8],
     pub domains: Vec<&'a [u8]>,
     pub imports: Vec<&'a [u8]>,
@@ -52,6 +84,8 @@ pub struct Method<'a> {
     pub policy: Policy<'a>,
     /// Present when the method is implemented.
     pub code: Option<&'a [u8]>,
+    /// Of this code.
+    pub handlers: Handlers<'a>,
 }
 
 impl Class<'_> {
@@ -67,15 +101,29 @@ impl Method<'_> {
     }
 }
 
-/// Reads the file after mark and version; `None` unless it reads exactly to its end.
-pub fn read(file: &[u8]) -> Option<Package<'_>> {
-    read_by(file, None)
+/// The version of a file that begins with mark and version.
+pub fn version(file: &[u8], misreading: Option<Misreading>) -> Option<Version> {
+    let field = file.get(MARK.len()..HEAD)?.try_into().ok()?;
+    let version = match misreading {
+        None => Version::of(field),
+        Some(wrong) => wrong.version(field),
+    };
+    version.filter(|_| file.starts_with(&MARK))
 }
 
-/// The same with FE misread.
-pub fn read_by(file: &[u8], misreading: Option<Misreading>) -> Option<Package<'_>> {
+/// Reads a file; `None` unless it has mark and version and reads exactly to its end.
+pub fn read(file: &[u8]) -> Option<Package<'_>> {
+    read_by(file, version(file, None)?, None)
+}
+
+/// Reads the file after mark and version, by a misreading or none.
+pub fn read_by(
+    file: &[u8],
+    version: Version,
+    misreading: Option<Misreading>,
+) -> Option<Package<'_>> {
     let mut reader = Reader::new(file);
-    reader.take(MARK_AND_VERSION.len())?;
+    reader.take(HEAD)?;
     if usize::from(reader.u2()?) != file.len() {
         return None;
     }
@@ -84,14 +132,12 @@ pub fn read_by(file: &[u8], misreading: Option<Misreading>) -> Option<Package<'_
     let imports = read_aids(&mut reader, MAX_IMPORTS)?;
     let references = read_references(&mut reader)?;
     let class_count = reader.count1(MAX_CLASSES)?;
-    let policies = PolicyReader {
-        domain_count: domains.len(),
-        misreading,
-    };
+    let methods = MethodReader::new(version, domains.len(), misreading);
     let classes = (0..class_count)
-        .map(|_| read_class(&mut reader, &policies))
+        .map(|_| read_class(&mut reader, &methods))
         .collect::<Option<Vec<_>>>()?;
     reader.rest().is_empty().then_some(Package {
+        version,
         aid,
         domains,
         imports,
@@ -119,7 +165,50 @@ fn read_references(reader: &mut Reader) -> Option<Vec<Reference>> {
     Some(references.collect())
 }
 
-fn read_class<'a>(reader: &mut Reader<'a>, policies: &PolicyReader) -> Option<Class<'a>> {
+/// What the methods of a file are read by.
+struct MethodReader {
+    policies: PolicyReader,
+    handlers: HandlerReader,
+}
+
+impl MethodReader {
+    fn new(version: Version, domain_count: usize, misreading: Option<Misreading>) -> Self {
+        MethodReader {
+            policies: PolicyReader {
+                domain_count,
+                misreading,
+            },
+            handlers: HandlerReader {
+                version,
+                misreading,
+            },
+        }
+    }
+
+    fn read<'a>(&self, reader: &mut Reader<'a>) -> Option<Method<'a>> {
+        let bits = reader.u1()?;
+        if bits & !(VISIBLE | IMPLEMENTED | STATIC) != 0 {
+            return None;
+        }
+        let name = reader.u2()?;
+        let policy = self.policies.read(reader)?;
+        let code = if bits & IMPLEMENTED != 0 {
+            Some(read_code(reader)?)
+        } else {
+            None
+        };
+        Some(Method {
+            visible: bits & VISIBLE != 0,
+            is_static: bits & STATIC != 0,
+            name,
+            policy,
+            code,
+            handlers: self.handlers.read(reader, code)?,
+        })
+    }
+}
+
+fn read_class<'a>(reader: &mut Reader<'a>, methods: &MethodReader) -> Option<Class<'a>> {
     let kind = reader.count1(1)?;
     let parent_count = reader.count1(MAX_PARENTS)?;
     let parents = reader.take(2 * parent_count)?.chunks_exact(2);
@@ -128,29 +217,8 @@ fn read_class<'a>(reader: &mut Reader<'a>, policies: &PolicyReader) -> Option<Cl
         interface: kind == 1,
         parents: parents.map(|pair| (pair[0], pair[1])).collect(),
         methods: (0..method_count)
-            .map(|_| read_method(reader, policies))
+            .map(|_| methods.read(reader))
             .collect::<Option<Vec<_>>>()?,
-    })
-}
-
-fn read_method<'a>(reader: &mut Reader<'a>, policies: &PolicyReader) -> Option<Method<'a>> {
-    let bits = reader.u1()?;
-    if bits & !(VISIBLE | IMPLEMENTED | STATIC) != 0 {
-        return None;
-    }
-    let name = reader.u2()?;
-    let policy = policies.read(reader)?;
-    let code = if bits & IMPLEMENTED != 0 {
-        Some(read_code(reader)?)
-    } else {
-        None
-    };
-    Some(Method {
-        visible: bits & VISIBLE != 0,
-        is_static: bits & STATIC != 0,
-        name,
-        policy,
-        code,
     })
 }
 

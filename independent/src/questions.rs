@@ -1,10 +1,26 @@
-//! Questions 1 to 9 and 21, and the orders in which an entry is judged.
+//! Questions 1 to 9 and 21, and the orders in which questions are asked.
 
 use crate::bytes::AID_LENGTHS;
 use crate::contents::{Contents, MethodPlace, Place};
-use crate::load_questions::{q10, q11, q12, q13, q14, q15, q16, q17, q18, q19, q20};
+use crate::handlers::q24;
+use crate::load_questions::{q10, q11, q12, q13, q14, q15, q16, q17, q18, q19, q20, Code};
 use crate::misreadings::Misreading;
+use crate::package::Package;
 use crate::store::{self, Body, HEAD};
+
+/// Every number that a call can answer, 0 among them.
+pub const NUMBERS: [u8; 23] = [
+    0, 1, 2, 3, 4, 5, 6, 7, 8, 9, 10, 11, 12, 13, 14, 15, 16, 17, 18, 19, 20, 21, 24,
+];
+
+/// The questions about a file, in the order in which a load asks them.
+pub const OF_A_FILE: [u8; 12] = [10, 11, 12, 13, 14, 15, 16, 17, 24, 18, 19, 20];
+
+/// The place of a question about a file in this order.
+pub fn asked_place(question: u8) -> usize {
+    let place = OF_A_FILE.iter().position(|&asked| asked == question);
+    place.expect("a question about a file")
+}
 
 /// Has the store 64 to 65,535 bytes?
 pub fn q1(store: &[u8]) -> bool {
@@ -16,7 +32,7 @@ pub fn q2(store: &[u8]) -> Option<Contents<'_>> {
     q2_by(store, None)
 }
 
-/// The same with FE misread.
+/// The same by a misreading.
 pub fn q2_by(store: &[u8], misreading: Option<Misreading>) -> Option<Contents<'_>> {
     let mut contents = Contents::by(misreading);
     let mut used = HEAD;
@@ -109,7 +125,15 @@ pub fn judge_creation(contents: &Contents, room: Room, domain: &[u8]) -> Result<
     number(q21(room, &Body::Domain(domain)), 21)
 }
 
-/// Asks 3, 5 and 10 to 21 of a load. With all yes the package is among the
+/// Asks 16, 17 and 24, each of the whole file.
+pub fn judge_codes<'a>(package: &Package<'a>) -> Result<Vec<Code<'a>>, u8> {
+    let codes = q16(package).ok_or(16)?;
+    number(q17(&codes), 17)?;
+    number(q24(&codes), 24)?;
+    Ok(codes)
+}
+
+/// Asks 3, 5, 10 to 17, 24 and 18 to 21 of a load. With all yes the package is among the
 /// contents and the depth of its deepest class is given, 0 if it has none; with a no
 /// the contents are of no further use.
 pub fn judge_load<'a>(
@@ -120,14 +144,17 @@ pub fn judge_load<'a>(
 ) -> Result<u8, u8> {
     number(q3(&[domain]), 3)?;
     number(q5(contents, domain), 5)?;
-    number(q10(file), 10)?;
-    let package = q11(file, contents.misreading).ok_or(11)?;
+    let misreading = contents.misreading;
+    let version = q10(file, misreading).ok_or(10)?;
+    let package = q11(file, version, misreading).ok_or(11)?;
     number(q12(contents, &package), 12)?;
     let imports = q13(contents, &package).ok_or(13)?;
     let lineages = q14(contents, &package, &imports).ok_or(14)?;
     number(q15(&package), 15)?;
-    let codes = q16(&package).ok_or(16)?;
-    number(q17(&codes), 17)?;
+    let codes = match misreading {
+        None => judge_codes(&package)?,
+        Some(wrong) => wrong.judge_codes(&package)?,
+    };
 
     let depth = lineages.iter().map(|l| l.depth).max().unwrap_or(0);
     let body = Body::Package { domain, file };
@@ -136,6 +163,7 @@ pub fn judge_load<'a>(
     contents.add(domain, entry, package, imports, lineages);
 
     let calls = q18(contents, judged, &codes).ok_or(18)?;
+    misreading.map_or(Ok(()), |wrong| wrong.after_18(&codes))?;
     number(q19(contents, domain, &calls), 19)?;
     number(q20(contents, judged), 20)?;
     number(q21(room, &body), 21)?;

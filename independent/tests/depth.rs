@@ -5,7 +5,9 @@ mod common;
 use common::*;
 use independent::generate::limits::chain;
 use independent::generate::model::{ClassModel, FileModel};
+use independent::handlers::Handler;
 use independent::operations::{load, remove};
+use independent::package::Version;
 
 /// The parents of each class of a file.
 type Parents<'a> = &'a [&'a [(u8, u8)]];
@@ -162,8 +164,10 @@ fn a_refused_load_carries_0() {
     assert_eq!(load(&mut store(200), &D1[1..], &file).encoded(), 3);
     assert_eq!(load(&mut store(200), P1, &file).encoded(), 5);
     let mut version = file.clone();
-    version[4] = 2;
+    version[4] = 3;
     assert_eq!(load(&mut store(200), D1, &version).encoded(), 10);
+    version[4] = 2;
+    assert_eq!(load(&mut store(200), D1, &version).encoded(), 5 << 8);
     let cut = &file[..file.len() - 1];
     assert_eq!(load(&mut store(200), D1, cut).encoded(), 11);
     let mut installed = store_with(&[chain(P1, 0, 5)]);
@@ -182,9 +186,12 @@ fn after_chain(classes: Vec<ClassModel>) -> FileModel {
 }
 
 #[test]
-fn a_load_refused_by_13_to_20_carries_0() {
+fn a_load_refused_by_13_to_24_carries_0() {
     let with = |parents: &[(u8, u8)], methods| after_chain(vec![class(parents, methods)]);
     let code = |code: &[u8]| with(&[], vec![coded(STATIC, 1, Some(&[]), code)]);
+    let mut handled = code(&[0x10, 0, 0x7A]);
+    handled.version = Version::Second;
+    handled.classes[5].methods[0].handlers = vec![Handler::new(0, 3, 1)];
     let narrower = vec![
         class(&[(0, 4)], vec![method(BODY, 7, None)]),
         class(&[(0, 5)], vec![method(BODY, 7, Some(&[0]))]),
@@ -197,6 +204,7 @@ fn a_load_refused_by_13_to_20_carries_0() {
         (15, with(&[(0, 4)], vec![method(STATIC & !BODY, 1, None)])),
         (16, code(&[0x00])),
         (17, code(&[0x70, 0x01])),
+        (24, handled),
         (18, code(&[0x8B, 0, 0, 0x7A])),
         (19, code(&[0x8D, 0, 0, 0x7A])),
         (20, after_chain(narrower)),

@@ -1,6 +1,7 @@
 //! What the generators promise, and runs of generated sequences.
 
-use independent::code::{LENGTHS, NONE, SWITCH};
+mod common;
+use common::{answers, numbers};
 use independent::generate::faults::faulty_file;
 use independent::generate::limits::{count_limits, method_limits};
 use independent::generate::lines::line_file;
@@ -10,10 +11,9 @@ use independent::generate::sequences::sequence;
 use independent::generate::special;
 use independent::generate::stores::planted_store;
 use independent::generate::valid::valid_file;
-use independent::ledger::{Call, Ledger};
-use independent::loader::{damage, Independent, Loader, Sequence, Step};
 use independent::operations::{create, fresh, load};
-use independent::questions::q2;
+use independent::package::Version;
+use independent::questions::{asked_place, q2, OF_A_FILE};
 
 const DOMAIN: &[u8] = &[0xA0, 0, 0, 0, 0xD1];
 
@@ -48,75 +48,28 @@ fn valid_files_are_accepted() {
 
 #[test]
 fn planted_faults_give_their_number() {
-    let mut planted = [[0; 21]; 21];
+    let mut planted = [[0; OF_A_FILE.len()]; OF_A_FILE.len()];
     for seed in 0..60 {
         let random = &mut Random::new(seed);
         let (store, scene) = scene(random);
         let model = valid_file(random, &scene, DOMAIN, &[0xC0; 6]);
-        for first in 10..=20 {
-            for second in 10..=20 {
-                let questions = [first, second];
-                if let Some(file) = faulty_file(random, &scene, DOMAIN, &model, &questions) {
-                    let number = load(&mut store.clone(), DOMAIN, &file).number;
-                    assert_eq!(number, first.min(second), "seed {seed}, {questions:?}");
-                    planted[usize::from(first)][usize::from(second)] += 1;
-                }
+        let pairs = OF_A_FILE.iter().flat_map(|&a| OF_A_FILE.map(|b| [a, b]));
+        for questions in pairs {
+            if let Some(file) = faulty_file(random, &scene, DOMAIN, &model, &questions) {
+                let number = load(&mut store.clone(), DOMAIN, &file).number;
+                let [first, second] = questions.map(asked_place);
+                let right = OF_A_FILE[first.min(second)];
+                assert_eq!(number, right, "seed {seed}, {questions:?}");
+                planted[first][second] += 1;
             }
         }
     }
     // Every pair finds a place in most of the 60 files.
-    for (first, row) in planted.iter().enumerate().skip(10) {
-        for (second, &count) in row.iter().enumerate().skip(10) {
+    for (first, row) in OF_A_FILE.iter().zip(&planted) {
+        for (second, &count) in OF_A_FILE.iter().zip(row) {
             assert!(count >= LEAST_PLANTED, "{first}, {second}: {count}");
         }
     }
-}
-
-/// The answers of a sequence; the ledger follows where it may.
-fn answers(sequence: &Sequence) -> Vec<u32> {
-    let mut store = sequence.start.clone();
-    let mut ledger = sequence.has_ledger().then(|| Ledger::new(store.len()));
-    let mut found = Vec::new();
-    for step in &sequence.steps {
-        match step {
-            Step::Damage { place, bits } => damage(&mut store, *place, *bits),
-            Step::Call(call) => {
-                let answer = Independent.call(&mut store, call);
-                if let Some(ledger) = &mut ledger {
-                    assert_eq!(answer, ledger.call(call).encoded());
-                    assert!(store == ledger.written_out(store.len()));
-                }
-                found.push(answer);
-            }
-        }
-    }
-    found
-}
-
-#[test]
-fn one_and_two_byte_codes() {
-    let mut counts = [0; 22];
-    for (index, sequence) in special::short_codes().enumerate() {
-        let loads = answers(&sequence).into_iter().skip(3).step_by(2);
-        for (code, answer) in loads.enumerate() {
-            let number = (answer & 0xFF) as usize;
-            if index == 0 {
-                let last = matches!(code, 0x77..=0x7A | 0x93);
-                assert_eq!(number, if last { 0 } else { 16 });
-            } else {
-                counts[number] += 1;
-            }
-        }
-    }
-    // 87 one-byte instructions before 5 that may be last, 70 00, and 72 with any byte.
-    assert_eq!(counts[0], 87 * 5 + 1 + 256);
-    assert_eq!(counts[17], 255);
-    assert_eq!(counts[16], 65_536 - 87 * 5 - 1 - 256 - 255);
-}
-
-/// The numbers of a sequence.
-fn numbers(sequence: &Sequence) -> Vec<u32> {
-    answers(sequence).into_iter().map(|a| a & 0xFF).collect()
 }
 
 /// One call of each kind: with an AID of this length as the package and a file of such bytes, then as the domain.
@@ -155,7 +108,9 @@ fn limits_in_a_sequence() {
         expected.extend([u32::from(file.number), removed]);
     }
     expected.extend([0, 0, 0, 0, 0, 0, 0, 0, 14, 7, 14, 7]);
-    assert_eq!(numbers(&special::limits()), expected);
+    for version in Version::BOTH {
+        assert_eq!(numbers(&special::limits(version)), expected);
+    }
 }
 
 #[test]
@@ -168,61 +123,6 @@ fn hostile_files() {
     for sequence in special::hostile() {
         assert_eq!(answers(&sequence), expected);
     }
-}
-
-/// Questions 16 and 17 of a code of three bytes, by instructions one after the other; no switch has so few.
-fn short_number(code: &[u8]) -> u32 {
-    let mut starts = Vec::new();
-    let mut at = 0;
-    while at < code.len() {
-        starts.push(at as i32);
-        match LENGTHS[usize::from(code[at])] {
-            NONE | SWITCH => return 16,
-            length => at += usize::from(length),
-        }
-    }
-    let last = code[*starts.last().unwrap() as usize];
-    if at > code.len() || !matches!(last, 0x70 | 0x72 | 0x77..=0x7A | 0x93 | 0xA8) {
-        return 16;
-    }
-    let lands = |&start: &i32| {
-        let at = start as usize;
-        let offset = match code[at] {
-            0x60..=0x70 => i32::from(code[at + 1] as i8),
-            0x71 | 0x98..=0xA8 => i32::from(i16::from_be_bytes([code[at + 1], code[at + 2]])),
-            _ => return true,
-        };
-        starts.contains(&(start + offset))
-    };
-    if starts.iter().all(lands) {
-        0
-    } else {
-        17
-    }
-}
-
-#[test]
-fn codes_of_three_bytes() {
-    let mut counts = [0; 18];
-    for seed in 0..8 {
-        let sequence = special::three_byte_codes(seed);
-        let found = numbers(&sequence);
-        for (pair, step) in found[3..]
-            .chunks(2)
-            .zip(sequence.steps[3..].iter().step_by(2))
-        {
-            let Step::Call(Call::Load { file, .. }) = step else {
-                panic!("no load: {step:?}");
-            };
-            let number = short_number(&file[file.len() - 3..]);
-            assert_eq!(pair, [number, if number == 0 { 0 } else { 7 }]);
-            counts[number as usize] += 1;
-        }
-    }
-    assert!(
-        counts[0] > 0 && counts[16] > 0 && counts[17] > 0,
-        "{counts:?}"
-    );
 }
 
 #[test]
@@ -269,16 +169,14 @@ fn planted_stores_are_sound_or_not() {
         package_pool: vec![vec![3; 9], vec![1; 5], vec![8; 16]],
         ..Scene::default()
     };
-    let mut faulty = [0; 21];
+    let questions: Vec<u8> = (0..=5).chain(OF_A_FILE).collect();
+    let mut faulty = vec![0; questions.len()];
     for seed in 0..1000 {
-        let question = seed as u8 % 21;
-        if !(6..=9).contains(&question) {
-            let store = planted_store(&mut Random::new(seed), &pools, question);
-            let sound = q2(&store.bytes).is_some();
-            assert_eq!(sound, !store.faulty, "seed {seed}");
-            faulty[usize::from(question)] += u32::from(store.faulty);
-        }
+        let place = seed as usize % questions.len();
+        let store = planted_store(&mut Random::new(seed), &pools, questions[place]);
+        let sound = q2(&store.bytes).is_some();
+        assert_eq!(sound, !store.faulty, "seed {seed}");
+        faulty[place] += u32::from(store.faulty);
     }
-    let planted = (1..21).filter(|question| !(6..=9).contains(question));
-    assert!(planted.clone().all(|question| faulty[question] > 20));
+    assert!(faulty[1..].iter().all(|&count| count > 20), "{faulty:?}");
 }

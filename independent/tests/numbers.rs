@@ -2,7 +2,9 @@
 
 mod common;
 use common::*;
+use independent::generate::handler_cases::with_handler;
 use independent::generate::limits::chain;
+use independent::handlers::Handler;
 use independent::operations::{create, delete, fresh, load, query, remove};
 use independent::Answer;
 
@@ -81,6 +83,10 @@ fn load_numbers() {
     assert_eq!(load(&mut store(200), D1, &[]).number, 10);
     assert_eq!(load(&mut store(200), D1, &file[..4]).number, 10);
     assert_eq!(load(&mut store(200), D1, &file[..5]).number, 11);
+    for (handler, number) in [(Handler::new(0, 1, 0), 0), (Handler::new(0, 1, 1), 24)] {
+        let file = with_handler(&[0x7A], handler).bytes();
+        assert_eq!(load(&mut store(200), D1, &file).number, number);
+    }
     let done = Answer {
         number: 0,
         figure: 4,

@@ -5,6 +5,7 @@ use common::*;
 use independent::generate::model::{ClassModel, FileModel};
 use independent::generate::own_lists::own_limits;
 use independent::operations::{create, delete, load, query, remove};
+use independent::package::Version;
 
 const OWN: u8 = 0xFE;
 
@@ -59,7 +60,8 @@ fn allows(list: Option<&[u8]>, domain: &[u8]) -> bool {
 #[test]
 fn lists_with_fe_at_their_limits_and_past_them() {
     for domain_count in [0, 1, 2, 31, 32] {
-        for limit in own_limits(P1, D2, domain_count) {
+        let both = Version::BOTH.map(|version| own_limits(version, P1, D2, domain_count));
+        for limit in both.into_iter().flatten() {
             let answer = load(&mut store(2048), D1, &limit.file);
             let name = limit.name;
             assert_eq!(

@@ -124,17 +124,18 @@ fn listed(folder: &Path) -> Vec<PathBuf> {
 #[test]
 fn calls_are_answered_as_a_third_reader_answers_them() {
     let vectors = Path::new(env!("CARGO_MANIFEST_DIR")).join("../tests/vectors");
-    let mut all = 0;
+    let (mut all, mut wrong) = (0, Vec::new());
     for folder in listed(&vectors) {
         let files = listed(&folder).into_iter();
         let calls = files.filter(|path| path.to_string_lossy().ends_with(".calls.gz"));
         for path in calls {
             let (compared, differences) = run(&path);
             println!("{}: {compared} calls", path.display());
-            assert_eq!(differences, [], "{}", path.display());
+            wrong.extend(differences.into_iter().map(|pair| (path.clone(), pair)));
             all += compared;
         }
     }
     println!("{all} calls");
+    assert_eq!(wrong, []);
     assert!(all > 0, "there are no calls");
 }

@@ -8,10 +8,12 @@ use comparison::stack::peaks;
 use comparison::tables::{print_stack, Measured};
 use comparison::timing::measure;
 use comparison::workloads::{self, Workload};
+use independent::generate::handler_cases;
 use independent::generate::own_pairs::own_pairs;
 use independent::generate::sequences::sequence;
 use independent::generate::special;
 use independent::loader::{Sequence, Step};
+use independent::package::Version;
 use std::process::ExitCode;
 
 /// The fewest rounds that count.
@@ -73,12 +75,15 @@ fn processor() -> String {
     name.map_or("unknown processor".into(), |(_, name)| name.trim().into())
 }
 
-/// Calls that reach deep: limits, lists with FE, ladders, full stores, all that is timed, and others.
+/// Calls that reach deep: limits, lists with FE, handlers, ladders, full stores, all that is timed,
+/// and others.
 fn stack_sequences<'a>(workloads: impl Iterator<Item = &'a Workload>) -> Vec<Sequence> {
     let mut found = special::lengths();
-    found.push(special::limits());
+    found.extend(Version::BOTH.map(special::limits));
     found.push(special::own_limit_lists());
     found.extend(own_pairs());
+    found.extend([handler_cases::limits(), handler_cases::orders()]);
+    found.extend(handler_cases::version_pairs());
     found.extend(special::full_stores());
     found.extend(special::hostile());
     found.extend((0..300).map(sequence));

@@ -4,6 +4,7 @@
 use independent::card::run_card;
 use independent::generate::files::sized_file;
 use independent::generate::lines::line_file;
+use independent::package::Version;
 use std::collections::BTreeMap;
 use std::io::{self, Read, Write};
 use std::process::{Command, ExitCode, Stdio};
@@ -60,19 +61,23 @@ fn fixed() -> Vec<Vec<u8>> {
             files.push(line);
         }
     }
-    files.extend([full_card(0), full_card(1)].map(String::into_bytes));
+    for version in Version::BOTH {
+        let full = [0, 1].map(|past| full_card(version, past));
+        files.extend(full.map(String::into_bytes));
+    }
     files
 }
 
 /// Loads that fill the card's 8,192 bytes, or would pass them by this much; then calls
 /// that need room, before and after some is made.
-fn full_card(past: usize) -> String {
+fn full_card(version: Version, past: usize) -> String {
     let hex = |bytes: &[u8]| -> String { bytes.iter().map(|b| format!("{b:02X}")).collect() };
     // Header, the domain, and the bytes of each entry before its file.
     let rest = 8192 - 7 - 8 - 3 * 9 - 2 * 3900;
     let mut text = String::from("C A0000000D1\n");
     for (number, size) in [(1, 3900), (2, 3900), (3, rest + past)] {
-        let file = sized_file(&[0xA0, 0, 0, 1, number], size).expect("a file of this size");
+        let file =
+            sized_file(version, &[0xA0, 0, 0, 1, number], size).expect("a file of this size");
         text += &format!("L A0000000D1 {}\n", hex(&file.bytes()));
     }
     text + "C A0000000D2\nR A000000102\nC A0000000D2\nR A000000103\nD A0000000D2\n"

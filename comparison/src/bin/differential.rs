@@ -12,11 +12,11 @@ use std::process::ExitCode;
 use std::time::Instant;
 
 /// From this many sequences on, each number and depth must have been answered often enough,
-/// and FE must have decided often enough.
+/// and FE and handlers must have decided often enough.
 const FULL_RUN: u64 = 20_000;
 
 /// How often each operation must answer each of its numbers in a full run, loads carry each
-/// depth and FE decide.
+/// depth, FE decide, and answers tell each wrong reading of handlers apart.
 const LEAST: u64 = 100;
 
 const LIBRARY: Guarded<Library> = Guarded(Library);

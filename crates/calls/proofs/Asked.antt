@@ -6,7 +6,7 @@ use mathlib.Core.List.{[], _∷_}
 use lib.Dec.{T}
 use Rattle.rules.specs.Bytes.{Bytes, Aid, noneOr}
 use Rattle.rules.specs.Code.{Call, splitFrom, codeSplits, callsOf}
-use Rattle.rules.specs.Package.{Limits, storeLimits, Method, codeIf}
+use Rattle.rules.specs.Package.{Limits, formatOf, storeLimits, Method, codeIf}
 use Rattle.rules.specs.Classes.{installed, allows, allowsAllOf}
 use Rattle.rules.specs.Questions.{ownMethod, methodNamed}
 use Rattle.places.specs.Reads.{Reads}
@@ -78,8 +78,8 @@ module _ {f s : Bytes} {end : ℕ} {d : Aid} {i : ℕ} (code : Bytes) where
   calls-begin h g =
       let ds = g .1 .pack .domains in
       let m = g .3 .0 in
-      let t = method-part (storeLimits s) ds f i m (g .3 .1) (g .3 .2) in
-      let split = splits-from (storeLimits s) f (t .middle) (m .implemented) (m .code) (g .3 .1) (t .code) (g .3 .3) in
+      let t = method-part (formatOf (storeLimits s) f) ds f i m (g .3 .1) (g .3 .2) in
+      let split = splits-from (storeLimits s) f (t .middle) (m .implemented) (m .code) (t .behind) (t .code) (g .3 .3) in
       record {
         splits = rw (h (storeLimits s) ds m (g .3 .1) (g .3 .2)) split;
         left = λ a m j p.

@@ -17,7 +17,7 @@ use Rattle.places.proofs.Steady.{Steady, steady-u1, steady-method, steady-class
 use Rattle.places.proofs.Inverse.{reads-left, reads-counted, reads-u1}
 use Rattle.files.specs.Say.{MethodsAt, ClassesAt, AfterMethod, AfterClass}
 use Rattle.files.proofs.Walks.{classes-read}
-use Rattle.homes.specs.Homes.{Imports}
+use Rattle.homes.specs.Homes.{formatAt, Imports}
 use Rattle.refusals.specs.Order.{firstOf, Asks, noOf, noOfAll, numbers, rising}
 use Rattle.refusals.proofs.Walks.{NumberLoop, numbers-start, numbers-on, numbers-done}
 use Rattle.named.specs.Named.{Judged}
@@ -99,11 +99,11 @@ module _ {A : Type 0} (R : List Aid → Reader A) (steady : (ds : List Aid) → 
 
 -- the methods of a class
 abbrev pub MethodsLoop : Bytes → Bytes → ℕ → Aid → ℕ → ℕ → ℕ → ℕ → Type 0
-MethodsLoop f s end d i past left c = AskLoop (method (storeLimits s)) mostMethods (codeTest codeSplits) f s end d methodAsks i past left c
+MethodsLoop f s end d i past left c = AskLoop (method (formatAt s f)) mostMethods (codeTest codeSplits) f s end d methodAsks i past left c
 
 -- the classes of a file
 abbrev pub ClassesLoop : Bytes → Bytes → ℕ → Aid → ℕ → ℕ → ℕ → ℕ → Type 0
-ClassesLoop f s end d i past left c = AskLoop (class (storeLimits s)) mostClasses (classTest codeSplits) f s end d classAsks i past left c
+ClassesLoop f s end d i past left c = AskLoop (class (formatAt s f)) mostClasses (classTest codeSplits) f s end d classAsks i past left c
 
 module _ {f s : Bytes} {end : ℕ} {d : Aid} where
   -- the order of the questions of methods
@@ -113,27 +113,27 @@ module _ {f s : Bytes} {end : ℕ} {d : Aid} where
   pub methods-begin : {i k n : ℕ} → OwnClass f s end i → MethodsAt f i k → n ≡ getD f k 0 → MethodsLoop f s end d k 0 n (k + 1)
   methods-begin {k = k} {n} g h e =
       let ds = g .1 .pack .domains in
-      ask-begin (method (storeLimits s)) (steady-method (storeLimits s)) mostMethods (codeTest codeSplits) methodAsks methods-rise k
+      ask-begin (method (formatAt s f)) (steady-method (formatAt s f)) mostMethods (codeTest codeSplits) methodAsks methods-rise k
       (g .0) (g .1) (g .2)
       (g .3 .0 .methods, g .3 .1, h (storeLimits s) ds (g .3 .0) (g .3 .1) (g .3 .2), g .3 .3) n e
 
   module _ (k past : ℕ) {left c : ℕ} (l : MethodsLoop f s end d k past left c) where
     pub methods-one : 0 < left → OwnMethod f s end c
-    methods-one h = ask-one (method (storeLimits s)) (steady-method (storeLimits s)) mostMethods (codeTest codeSplits) methodAsks methods-rise k l h
+    methods-one h = ask-one (method (formatAt s f)) (steady-method (formatAt s f)) mostMethods (codeTest codeSplits) methodAsks methods-rise k l h
 
     pub methods-on : (n m e : ℕ) → 0 < left → MethodCallsAre f s end d c n → m ≡ firstOf past n → AfterMethod f c e → MethodsLoop f s end d k m (left - 1) e
     methods-on n m e h b w r =
-        ask-on (method (storeLimits s)) (steady-method (storeLimits s)) mostMethods (codeTest codeSplits) methodAsks methods-rise k l h
+        ask-on (method (formatAt s f)) (steady-method (formatAt s f)) mostMethods (codeTest codeSplits) methodAsks methods-rise k l h
         n b m e w (r (storeLimits s))
 
     pub methods-end : {i : ℕ} → left ≤ 0 → MethodsAt f i k → ClassCallsAre f s end d i past
     methods-end h m a x j p =
-        ask-end (method (storeLimits s)) (steady-method (storeLimits s)) mostMethods (codeTest codeSplits) methodAsks methods-rise k l h
+        ask-end (method (formatAt s f)) (steady-method (formatAt s f)) mostMethods (codeTest codeSplits) methodAsks methods-rise k l h
         a (x .methods) j (m (storeLimits s) (a .self .pack .domains) x j p)
 
 -- each class of a file whose codes split
 classes-split : (f s : Bytes) (end i : ℕ) (g : Judged f s end) → CodesSplit f → ClassesAt f i →
-    Reading (counted mostClasses u1 (class (storeLimits s) (g .1 .pack .domains))) (all (classTest codeSplits)) f i
+    Reading (counted mostClasses u1 (class (formatAt s f) (g .1 .pack .domains))) (all (classTest codeSplits)) f i
 unfolding q16-splits
 classes-split f s end i g h k =
     let p = g .1 .pack in
@@ -154,21 +154,21 @@ module _ {f s : Bytes} {end : ℕ} {d : Aid} where
 
   pub classes-begin : {k n : ℕ} → Judged f s end → CodesSplit f → ClassesAt f k → n ≡ getD f k 0 → ClassesLoop f s end d k 0 n (k + 1)
   classes-begin {k} {n} g h m e =
-      ask-begin (class (storeLimits s)) (steady-class (storeLimits s)) mostClasses (classTest codeSplits) classAsks classes-rise k
+      ask-begin (class (formatAt s f)) (steady-class (formatAt s f)) mostClasses (classTest codeSplits) classAsks classes-rise k
       (g .0) (g .1) (g .2) (classes-split f s end k g h m) n e
 
   module _ (k past : ℕ) {left c : ℕ} (l : ClassesLoop f s end d k past left c) where
     pub classes-one : 0 < left → OwnClass f s end c
-    classes-one h = ask-one (class (storeLimits s)) (steady-class (storeLimits s)) mostClasses (classTest codeSplits) classAsks classes-rise k l h
+    classes-one h = ask-one (class (formatAt s f)) (steady-class (formatAt s f)) mostClasses (classTest codeSplits) classAsks classes-rise k l h
 
     pub classes-on : (n m e : ℕ) → 0 < left → ClassCallsAre f s end d c n → m ≡ firstOf past n → AfterClass f c e → ClassesLoop f s end d k m (left - 1) e
     classes-on n m e h b w r =
-        ask-on (class (storeLimits s)) (steady-class (storeLimits s)) mostClasses (classTest codeSplits) classAsks classes-rise k l h
+        ask-on (class (formatAt s f)) (steady-class (formatAt s f)) mostClasses (classTest codeSplits) classAsks classes-rise k l h
         n b m e w (r (storeLimits s))
 
     pub classes-end : left ≤ 0 → ClassesAt f k → FileCallsAre f s end d past
     classes-end h m = file-calls past λ a.
-        ask-end (class (storeLimits s)) (steady-class (storeLimits s)) mostClasses (classTest codeSplits) classAsks classes-rise k l h
+        ask-end (class (formatAt s f)) (steady-class (formatAt s f)) mostClasses (classTest codeSplits) classAsks classes-rise k l h
         a (a .self .pack .classes) (length f) (classes-read m (storeLimits s) (a .self .pack) (a .imports .setting .reads))
 
 -- in every setting with this loading domain

@@ -23,7 +23,7 @@ use Rattle.rules.specs.Operations.{firstNo}
 use Rattle.places.specs.Reads.{Reads}
 use Rattle.codes.specs.Calls.{kindOf}
 use Rattle.codes.specs.declared.Calling.{Calling}
-use Rattle.homes.specs.Homes.{Imports}
+use Rattle.homes.specs.Homes.{formatAt, Imports}
 use Rattle.refusals.specs.Order.{Asks, noOf}
 use Rattle.named.specs.Named.{OfJudged}
 use Rattle.calls.specs.Codes.{codeTest, classTest}
@@ -39,10 +39,10 @@ pub record Asking (f s : Bytes) (end : ℕ) (d : Aid) : Type 0 where
 
 -- a reader's value at a place, in the setting's own file
 abbrev pub MethodOf : {f s : Bytes} {end : ℕ} {d : Aid} → Asking f s end d → ℕ → Method → ℕ → Type 0
-MethodOf {f} {s} a i m j = Reads (method (storeLimits s) (a .self .pack .domains)) f i m j
+MethodOf {f} {s} a i m j = Reads (method (formatAt s f) (a .self .pack .domains)) f i m j
 
 abbrev pub ClassOf : {f s : Bytes} {end : ℕ} {d : Aid} → Asking f s end d → ℕ → Class → ℕ → Type 0
-ClassOf {f} {s} a i k j = Reads (class (storeLimits s) (a .self .pack .domains)) f i k j
+ClassOf {f} {s} a i k j = Reads (class (formatAt s f) (a .self .pack .domains)) f i k j
 
 -- the answers of 18
 abbrev pub callNames : {f s : Bytes} {end : ℕ} {d : Aid} → Asking f s end d → Call → Bool
@@ -71,11 +71,11 @@ Reading {A} r p s i = (x : A) × (j : ℕ) × Reads r s i x j × T (p x)
 -- in the file being judged a method or class whose codes split stands at a place
 abbrev pub OwnMethod : Bytes → Bytes → ℕ → ℕ → Type 0
 OwnMethod f s end i =
-    (es : List Entry) × (self : Installed) × Imports f s end es self × Reading (method (storeLimits s) (self .pack .domains)) (codeTest codeSplits) f i
+    (es : List Entry) × (self : Installed) × Imports f s end es self × Reading (method (formatAt s f) (self .pack .domains)) (codeTest codeSplits) f i
 
 abbrev pub OwnClass : Bytes → Bytes → ℕ → ℕ → Type 0
 OwnClass f s end i =
-    (es : List Entry) × (self : Installed) × Imports f s end es self × Reading (class (storeLimits s) (self .pack .domains)) (classTest codeSplits) f i
+    (es : List Entry) × (self : Installed) × Imports f s end es self × Reading (class (formatAt s f) (self .pack .domains)) (classTest codeSplits) f i
 
 -- question 16 was answered yes
 abbrev pub CodesSplit : Bytes → Type 0

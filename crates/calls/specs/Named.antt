@@ -17,7 +17,7 @@ use mathlib.Core.Option.{Option, none, some}
 use lib.Dec.{eqb}
 use lib.ListN.{length}
 use Rattle.rules.specs.Bytes.{Bytes, Aid, at, _andThen_}
-use Rattle.rules.specs.Package.{Limits, storeLimits, Reference, Package, method, class, readFile}
+use Rattle.rules.specs.Package.{Limits, formatOf, storeLimits, Reference, Package, method, class, readFile}
 use Rattle.rules.specs.Store.{Entry}
 use Rattle.rules.specs.Classes.{Installed, installed}
 use Rattle.rules.specs.Questions.{Named, referenceNames, callForm, callNamesMethod}
@@ -25,7 +25,7 @@ use Rattle.places.specs.Reads.{Reads}
 use Rattle.files.specs.Say.{OfMethod, ReferencesAt}
 use Rattle.codes.specs.Calls.{kindOf}
 use Rattle.codes.specs.declared.Calling.{Calling}
-use Rattle.homes.specs.Homes.{fileOf, HomeIs}
+use Rattle.homes.specs.Homes.{fileOf, formatAt, HomeIs}
 use Rattle.named.specs.Named.{OfJudged, homeOf}
 use Rattle.calls.specs.declared.Asker.{Asker}
 use Rattle.calls.specs.declared.Naming.{Naming}
@@ -50,8 +50,8 @@ pub record NamedAt (f s : Bytes) (end : ℕ) (t : List ℕ) (es : List Entry) (s
   pub lies : HomeIs f s end es self (homeOf end t p) (x .class .home)
   pub classEnd : ℕ
   pub methodEnd : ℕ
-  pub declaring : Reads (class (storeLimits s) (x .class .home .pack .domains)) (fileOf f s (homeOf end t p)) c (x .declaring) classEnd
-  pub method : Reads (method (storeLimits s) (x .class .home .pack .domains)) (fileOf f s (homeOf end t p)) m (x .method) methodEnd
+  pub declaring : Reads (class (formatAt s (fileOf f s (homeOf end t p))) (x .class .home .pack .domains)) (fileOf f s (homeOf end t p)) c (x .declaring) classEnd
+  pub method : Reads (method (formatAt s (fileOf f s (homeOf end t p))) (x .class .home .pack .domains)) (fileOf f s (homeOf end t p)) m (x .method) methodEnd
   pub imported : x .imported ≡ not (eqb p 0)
 
 -- what is named, if anything is
@@ -72,7 +72,8 @@ ReferenceIs f s end t k r = OfJudged f s end λ es self. NamedIs f s end t es se
 
 -- a fact of whatever is named by the class record at c and the method at m of a file
 abbrev pub OfNamed : Bytes → ℕ → ℕ → (Named → Type 0) → Type 0
-OfNamed g c m q = (x : Named) (l : Limits) (ds : List Aid) (j k : ℕ) → Reads (class l ds) g c (x .declaring) j → Reads (method l ds) g m (x .method) k → q x
+OfNamed g c m q = (x : Named) (l : Limits) (ds : List Aid) (j k : ℕ) → Reads (class (formatOf l g) ds) g c (x .declaring) j →
+    Reads (method (formatOf l g) ds) g m (x .method) k → q x
 
 -- visible if imported
 abbrev pub SeenIs : Bytes → ℕ → Bool → Bool → Type 0

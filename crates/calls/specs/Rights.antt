@@ -18,7 +18,7 @@ use Rattle.rules.specs.Classes.{Installed, installed, MethodAt, allows, allowsA
 use Rattle.rules.specs.Questions.{methodNamed}
 use Rattle.places.specs.Reads.{Reads}
 use Rattle.files.specs.Say.{DomainsAt}
-use Rattle.homes.specs.Homes.{Imports, ownHome, fileOf, HomeIs}
+use Rattle.homes.specs.Homes.{Imports, ownHome, fileOf, formatAt, HomeIs}
 use Rattle.homes.specs.declared.Home.{Home}
 use Rattle.named.specs.Named.{OfJudged}
 use Rattle.policies.specs.declared.RightsPlace.{RightsPlace}
@@ -29,7 +29,7 @@ use Rattle.calls.specs.declared.NamedFound.the-variants as found
 pub record Stands (f s : Bytes) (end : ℕ) (es : List Entry) (self : Installed) (h : Home) (m : ℕ) (x : MethodAt) : Type 0 where
   pub lies : HomeIs f s end es self h (x .class .home)
   pub to : ℕ
-  pub reads : Reads (method (storeLimits s) (x .class .home .pack .domains)) (fileOf f s h) m (x .method) to
+  pub reads : Reads (method (formatAt s (fileOf f s h)) (x .class .home .pack .domains)) (fileOf f s h) m (x .method) to
 
 abbrev pub StandsThere : Bytes → Bytes → Home → ℕ → Type 0
 StandsThere f s h m = (end : ℕ) × (es : List Entry) × (self : Installed) × Imports f s end es self × (x : MethodAt) × Stands f s end es self h m x

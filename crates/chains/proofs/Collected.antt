@@ -16,7 +16,7 @@ use Rattle.places.specs.Reads.{Reads, Placed}
 use Rattle.places.proofs.Track.{put-none}
 use Rattle.files.specs.Say as files
 use Rattle.files.specs.declared.Spot.the-variants as spots
-use Rattle.homes.specs.Homes.{fileOf, HomeIs}
+use Rattle.homes.specs.Homes.{fileOf, formatAt, HomeIs}
 use Rattle.homes.specs.declared.Home.{Home}
 use Rattle.classes.specs.Say.{Judged, ClassThere, Kind0ParentIs, RecordAt}
 use Rattle.classes.specs.declared.ClassFound.{ClassFound}
@@ -39,7 +39,7 @@ module _ (f s : Bytes) (hc : Home) (nc p : ℕ) (there : ClassThere f s hc nc) (
     (w : Gathers (fileOf f s hc) (textOf f s hc) m m′ p (hc .from) a e e′) where
   reads : (end : ℕ) (es : List Entry) (self : Installed) → Judged f s end es self → (x : Installed) → HomeIs f s end es self hc x → (k : Class) → at
       (x .pack .classes) nc ≡ some k →
-      (j : ℕ) × Reads (class (storeLimits s) (x .pack .domains)) (fileOf f s hc) p k j
+      (j : ℕ) × Reads (class (formatAt s (fileOf f s hc)) (x .pack .domains)) (fileOf f s hc) p k j
   reads = class-at f s hc nc p at-p
 
   -- a name that is not there is not declared
@@ -63,7 +63,7 @@ module _ (f s : Bytes) (hc : Home) (nc p : ℕ) (there : ClassThere f s hc nc) (
 
       Found : Class → Installed → Type 0
       Found k y = Has m a e q ⊎ ((i : ℕ) × (q ≡ hc .from + i) × (i < length (fileOf f s hc)) × Nameless (textOf f s hc) m a e (nameAt (textOf f s hc) q) ×
-          Placed (method (storeLimits s) (y .pack .domains)) (fileOf f s hc) (declaredInstance k (nameAt (textOf f s hc) q)) (some i))
+          Placed (method (formatAt s (fileOf f s hc)) (y .pack .domains)) (fileOf f s hc) (declaredInstance k (nameAt (textOf f s hc) q)) (some i))
 
       first-time : Found (there .1 .class) (there .1 .pack)
       first-time =
@@ -77,10 +77,12 @@ module _ (f s : Bytes) (hc : Home) (nc p : ℕ) (there : ClassThere f s hc nc) (
           let u = reads end es self j y o k v in
           again (w .from (storeLimits s) (y .pack .domains) k (u .0) (u .1) q has)
         where
-          again : Found k y → Placed (method (storeLimits s) (y .pack .domains)) (fileOf f s hc) (declaredInstance k (nameAt (textOf f s hc) q)) (some i)
+          again : Found k y → Placed (method (formatAt s (fileOf f s hc)) (y .pack .domains)) (fileOf f s hc)
+              (declaredInstance k (nameAt (textOf f s hc) q)) (some i)
           again (inl old) = absurd (n q old refl)
           again (inr t) = let same : t .0 ≡ i = omega (arith, t .1) in subst
-              (λ (b : ℕ). Placed (method (storeLimits s) (y .pack .domains)) (fileOf f s hc) (declaredInstance k (nameAt (textOf f s hc) q)) (some b))
+              (λ (b : ℕ). Placed (method (formatAt s (fileOf f s hc)) (y .pack .domains)) (fileOf f s hc)
+              (declaredInstance k (nameAt (textOf f s hc) q)) (some b))
               same (t .4)
 
       go : Found (there .1 .class) (there .1 .pack) →

@@ -11,7 +11,7 @@ use lib.ListN.{length, getD}
 use borrow.Author.Tests.{eq-eqb, ne-eqb}
 use Rattle.rules.specs.Bytes.{Bytes, find, u1}
 use Rattle.rules.specs.Code.{u2At}
-use Rattle.rules.specs.Package.{mostMethods, Method, method}
+use Rattle.rules.specs.Package.{formatOf, mostMethods, Method, method}
 use Rattle.places.specs.Reads.{Placed, nil}
 use Rattle.places.proofs.Steady.{steady-u1}
 use Rattle.places.proofs.Inverse.{reads-counted, reads-u1}
@@ -71,8 +71,8 @@ pub record Gathering (g t : Bytes) (l m : List ℕ) (start base a e left c to : 
   pub end : to + left ≤ e + 64
   pub here : loops.MethodLoop nil nil g start left c
   pub from : loops.OfMethods g start λ lim ds ms. (q : ℕ) → Has m a to q →
-      Has l a e q ⊎ ((i : ℕ) × (q ≡ base + i) × (i < length g) × Nameless t l a e (nameAt t q) × Placed (method lim ds) g
-      (find (isInstance (nameAt t q)) ms) (some i))
+      Has l a e q ⊎ ((i : ℕ) × (q ≡ base + i) × (i < length g) × Nameless t l a e (nameAt t q)
+      × Placed (method (formatOf lim g) ds) g (find (isInstance (nameAt t q)) ms) (some i))
   pub kept : (x : ℕ) → Nameless t m a to x → Nameless t l a e x
   pub loop : (x : ℕ) → Nameless t m a to x → loops.MethodLoop (find (isInstance x)) (find (isInstance x)) g start left c
 
@@ -91,7 +91,7 @@ module _ (g t : Bytes) (l : List ℕ) (start base a e : ℕ) (held : Held g t ba
     where
       few : left ≤ 64
       few =
-          let c = reads-counted mostMethods u1 (method (there .0) (there .1)) steady-u1 g start (there .2 .0) (there .2 .1) (there .2 .2) in
+          let c = reads-counted mostMethods u1 (method (formatOf (there .0) g) (there .1)) steady-u1 g start (there .2 .0) (there .2 .1) (there .2 .2) in
           let w = reads-u1 g start (c .number) (c .place) (c .count) in
           omega (arith, z, w .byte, c .small)
 
@@ -128,28 +128,29 @@ module _ (g t : Bytes) (l : List ℕ) (start base a e : ℕ) (held : Held g t ba
         other : (x : ℕ) → Nameless t m′ a to′ x → nameAt t (base + c) ≡ x → ⊥
         other x n z = n (en .there .0) (en .there .1) (en .there .2 ∙ z)
 
-        first : Nameless t m a to (nameAt t (base + c)) → loops.OfMethods g start λ lim ds ms. Placed (method lim ds) g
+        first : Nameless t m a to (nameAt t (base + c)) → loops.OfMethods g start λ lim ds ms. Placed (method (formatOf lim g) ds) g
             (find (isInstance (nameAt t (base + c))) ms) (some c)
         first n = loops.find-hit (isInstance (nameAt t (base + c))) (inv .loop (nameAt t (base + c)) n) more (test-true g t base c held at-c q)
 
         entered-from : loops.OfMethods g start λ lim ds ms. (y : ℕ) → Has m′ a to′ y →
-            Has l a e y ⊎ ((i : ℕ) × (y ≡ base + i) × (i < length g) × Nameless t l a e (nameAt t y) × Placed (method lim ds) g
+            Has l a e y ⊎ ((i : ℕ) × (y ≡ base + i) × (i < length g) × Nameless t l a e (nameAt t y) × Placed (method (formatOf lim g) ds) g
             (find (isInstance (nameAt t y)) ms) (some i))
         entered-from lim ds ms j p y has = ⊎-elim old new (en .from y has)
           where
-            old : Has m a to y → Has l a e y ⊎ ((i : ℕ) × (y ≡ base + i) × (i < length g) × Nameless t l a e (nameAt t y) × Placed (method lim ds) g
+            old : Has m a to y → Has l a e y ⊎ ((i : ℕ) × (y ≡ base + i) × (i < length g) × Nameless t l a e (nameAt t y) × Placed (method (formatOf lim g) ds) g
                 (find (isInstance (nameAt t y)) ms) (some i))
             old h = inv .from lim ds ms j p y h
 
             new : (y ≡ base + c) × Nameless t m a to (nameAt t (base + c)) → Has l a e y ⊎
-                ((i : ℕ) × (y ≡ base + i) × (i < length g) × Nameless t l a e (nameAt t y) × Placed (method lim ds) g (find (isInstance (nameAt t y)) ms)
+                ((i : ℕ) × (y ≡ base + i) × (i < length g) × Nameless t l a e (nameAt t y) × Placed (method (formatOf lim g) ds) g
+                (find (isInstance (nameAt t y)) ms)
                 (some i))
             new u = inr (
               c,
               u .0,
               omega (arith, steps.method-in at-c),
               subst (λ (v : ℕ). Nameless t l a e (nameAt t v)) (sym (u .0)) (inv .kept (nameAt t (base + c)) (u .1)),
-              subst (λ (v : ℕ). Placed (method lim ds) g (find (isInstance (nameAt t v)) ms) (some c)) (sym (u .0)) (first (u .1) lim ds ms j p),
+              subst (λ (v : ℕ). Placed (method (formatOf lim g) ds) g (find (isInstance (nameAt t v)) ms) (some c)) (sym (u .0)) (first (u .1) lim ds ms j p),
             )
 
         entered : Gathering g t l m′ start base a e (left - 1) next to′

@@ -19,7 +19,7 @@ use Rattle.files.specs.Say.{spot, ImplementedIs, InstancePlaced}
 use Rattle.files.specs.Say as say
 use Rattle.files.specs.declared.Spot.{Spot}
 use Rattle.files.specs.declared.Spot.the-variants as spots
-use Rattle.homes.specs.Homes.{fileOf, ownHome, ClassPlaced}
+use Rattle.homes.specs.Homes.{fileOf, formatAt, ownHome, ClassPlaced}
 use Rattle.homes.specs.Homes as homes
 use Rattle.homes.specs.declared.Home.{Home}
 use Rattle.homes.proofs.Homes.{home-bounds}
@@ -37,8 +37,8 @@ module _ (f s : Bytes) (h : Home) (n : ℕ) where
       h n name r
   instance-is g i name r z p q end es self j x o k e =
       let y = class-at f s h n i p end es self j x o k e in
-      subst (λ (b : Bytes). Placed (method (storeLimits s) (x .pack .domains)) b (declaredInstance k name) (spot r)) z
-      (q (storeLimits s) (x .pack .domains) k (y .0) (subst (λ (b : Bytes). Reads (class (storeLimits s) (x .pack .domains)) b i k (y .0)) (sym z) (y .1)))
+      subst (λ (b : Bytes). Placed (method (formatAt s b) (x .pack .domains)) b (declaredInstance k name) (spot r)) z
+      (q (storeLimits s) (x .pack .domains) k (y .0) (subst (λ (b : Bytes). Reads (class (formatAt s b) (x .pack .domains)) b i k (y .0)) (sym z) (y .1)))
 
   -- the first method of a name: the class declares it
   pub first-here : (name i : ℕ) → InstanceAt f s h n name (spots.At i) → FirstIs f s h n name (At h i)
@@ -130,7 +130,7 @@ module _ (f s : Bytes) (end b : ℕ) where
               (
                 u .0 .method,
                 u .2 .ends,
-                subst (λ (y : Bytes). Reads (method (storeLimits s) d) y i (u .0 .method) (u .2 .ends)) (sym z)
+                subst (λ (y : Bytes). Reads (method (formatAt s y) d) y i (u .0 .method) (u .2 .ends)) (sym z)
                     (u .2 .reads),
               ),
             )
@@ -141,7 +141,7 @@ module _ (f s : Bytes) (end b : ℕ) where
         implemented-is b′ y es self q =
             let u = first-own (At h i) p es self q in
             let d : List Aid = u .0 .class .home .pack .domains in
-            y (storeLimits s) d (u .0 .method) (u .2 .ends) (subst (λ (t : Bytes). Reads (method (storeLimits s) d) t i (u .0 .method) (u .2 .ends))
+            y (storeLimits s) d (u .0 .method) (u .2 .ends) (subst (λ (t : Bytes). Reads (method (formatAt s t) d) t i (u .0 .method) (u .2 .ends))
             (sym z) (u .2 .reads))
 
         pub runs-this : ImplementedIs g i true → RunsIs f s end b name (At h i)

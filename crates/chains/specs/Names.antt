@@ -18,7 +18,7 @@ use mathlib.Core.Option.{none, some}
 use lib.Dec.{eqb}
 use lib.ListN.{length, getD}
 use Rattle.rules.specs.Bytes.{Bytes, pick}
-use Rattle.rules.specs.Package.{storeLimits, method}
+use Rattle.rules.specs.Package.{formatOf, storeLimits, method}
 use Rattle.rules.specs.Classes.{installed, depthUpTo, declaredInstance}
 use Rattle.places.specs.Reads.{Placed}
 use Rattle.files.specs.Say as files
@@ -59,8 +59,8 @@ pub record Gathers (g t : Bytes) (l m : List ℕ) (c base a e r : ℕ) : Type 0 
   pub below : Same l m 0 a
   pub end : r ≤ e + 64
   pub from : files.OfClass g c λ lim ds k j. (q : ℕ) → Has m a r q →
-      Has l a e q ⊎ ((i : ℕ) × (q ≡ base + i) × (i < length g) × Nameless t l a e (nameAt t q) × Placed (method lim ds) g
-      (declaredInstance k (nameAt t q)) (some i))
+      Has l a e q ⊎ ((i : ℕ) × (q ≡ base + i) × (i < length g) × Nameless t l a e (nameAt t q)
+      × Placed (method (formatOf lim g) ds) g (declaredInstance k (nameAt t q)) (some i))
   pub left : files.OfClass g c λ lim ds k j. (x : ℕ) → Nameless t m a r x → Nameless t l a e x × (declaredInstance k x ≡ none)
 
 pub record HomeFor (l : List ℕ) (i q : ℕ) (g : Home) : Type 0 where

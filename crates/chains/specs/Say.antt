@@ -20,7 +20,7 @@ use Rattle.places.specs.Reads.{Reads, Placed}
 use Rattle.files.specs.Say.{spot}
 use Rattle.files.specs.Say as files
 use Rattle.files.specs.declared.Spot.{Spot}
-use Rattle.homes.specs.Homes.{fileOf, HomeIs}
+use Rattle.homes.specs.Homes.{fileOf, formatAt, HomeIs}
 use Rattle.homes.specs.declared.Home.{Home}
 use Rattle.classes.specs.Say.{Judged, AtClass}
 use Rattle.chains.specs.declared.RunsFound.{RunsFound}
@@ -36,14 +36,15 @@ abbrev pub RecordThere : Bytes → ℕ → Type 0
 RecordThere g i = files.ClassThere g i
 
 abbrev pub InstanceAt : Bytes → Bytes → Home → ℕ → ℕ → Spot → Type 0
-InstanceAt f s h n name r = AtClass f s h n λ end es self x k. Placed (method (storeLimits s) (x .pack .domains)) (fileOf f s h) (declaredInstance k name)
+InstanceAt f s h n name r = AtClass f s h n λ end es self x k. Placed (method (formatAt s (fileOf f s h)) (x .pack .domains)) (fileOf f s h)
+    (declaredInstance k name)
     (spot r)
 
 -- the method o stands at place i of the file at home h
 pub record MethodIn (f s : Bytes) (end : ℕ) (es : List Entry) (self : Installed) (h : Home) (i : ℕ) (o : MethodAt) : Type 0 where
   pub home : HomeIs f s end es self h (o .class .home)
   pub ends : ℕ
-  pub reads : Reads (method (storeLimits s) (o .class .home .pack .domains)) (fileOf f s h) i (o .method) ends
+  pub reads : Reads (method (formatAt s (fileOf f s h)) (o .class .home .pack .domains)) (fileOf f s h) i (o .method) ends
 
 -- the method told is the first that declares a non-static one of the name, or there is none
 abbrev pub FirstFound : Bytes → Bytes → ℕ → List Entry → Installed → ClassAt → ℕ → RunsFound → Type 0

@@ -17,7 +17,7 @@ use Rattle.places.proofs.Track.{placed-at, placed-none}
 use Rattle.files.specs.Say.{MethodsAt}
 use Rattle.files.specs.Say as say
 use Rattle.files.specs.declared.Spot.the-variants as spots
-use Rattle.homes.specs.Homes.{fileOf, ownHome, HomeIs, ClassPlaced}
+use Rattle.homes.specs.Homes.{fileOf, formatAt, ownHome, HomeIs, ClassPlaced}
 use Rattle.homes.specs.Homes as homes
 use Rattle.homes.specs.declared.Home.{Home}
 use Rattle.homes.proofs.Homes.{home-bounds}
@@ -30,11 +30,11 @@ module _ (f s : Bytes) (h : Home) (n : ℕ) where
   -- the place of a class's record
   pub class-at : (i : ℕ) → ClassPlaced f s h n (spots.At i) → (end : ℕ) (es : List Entry) (self : Installed) → Judged f s end es self → (x : Installed) →
       HomeIs f s end es self h x →
-      (k : Class) → at (x .pack .classes) n ≡ some k → (j : ℕ) × Reads (class (storeLimits s) (x .pack .domains)) (fileOf f s h) i k j
+      (k : Class) → at (x .pack .classes) n ≡ some k → (j : ℕ) × Reads (class (formatAt s (fileOf f s h)) (x .pack .domains)) (fileOf f s h) i k j
   class-at i p end es self j x o k e =
       let y = placed-at (p end es self (j .parents .imported) x o) in
       let z : y .0 ≡ k = Option·some-injective _ _ (sym (y .2) ∙ e) in
-      (y .1, subst (λ (a : Class). Reads (class (storeLimits s) (x .pack .domains)) (fileOf f s h) i a (y .1)) z (y .3))
+      (y .1, subst (λ (a : Class). Reads (class (formatAt s (fileOf f s h)) (x .pack .domains)) (fileOf f s h) i a (y .1)) z (y .3))
 
   pub class-nowhere : (i : ℕ) → ClassPlaced f s h n spots.Nothing → ClassThere f s h n → RecordAt f s h n i
   class-nowhere i p t = let c = t .1 in absurd
@@ -49,7 +49,7 @@ module _ (f s : Bytes) (h : Home) (n : ℕ) where
         (
           c .class,
           y .0,
-          subst (λ (b : Bytes). Reads (class (storeLimits s) (c .pack .pack .domains)) b i (c .class)
+          subst (λ (b : Bytes). Reads (class (formatAt s b) (c .pack .pack .domains)) b i (c .class)
               (y .0)) (sym z) (y .1),
         ),
       )
@@ -59,8 +59,8 @@ module _ (f s : Bytes) (h : Home) (n : ℕ) where
   methods-in g i r z p q end es self j x o k e =
       let y = class-at i p end es self j x o k e in (
         y .0,
-        subst (λ (b : Bytes). Reads (counted mostMethods u1 (method (storeLimits s) (x .pack .domains))) b r (k .methods) (y .0)) z
-            (q (storeLimits s) (x .pack .domains) k (y .0) (subst (λ (b : Bytes). Reads (class (storeLimits s) (x .pack .domains)) b i k (y .0)) (sym z)
+        subst (λ (b : Bytes). Reads (counted mostMethods u1 (method (formatAt s b) (x .pack .domains))) b r (k .methods) (y .0)) z
+            (q (storeLimits s) (x .pack .domains) k (y .0) (subst (λ (b : Bytes). Reads (class (formatAt s b) (x .pack .domains)) b i k (y .0)) (sym z)
             (y .1))),
       )
 

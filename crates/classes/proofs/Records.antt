@@ -10,7 +10,7 @@ use lib.ListN.{length, drop, getD, length-drop}
 use lib.Seq.{getD-drop}
 use borrow.Author.Tests.{eq-eqb, ne-eqb}
 use Rattle.rules.specs.Bytes.{Bytes, Aid, at, u1}
-use Rattle.rules.specs.Package.{Limits, storeLimits, ClassNumber, Class, classNumber, class}
+use Rattle.rules.specs.Package.{Limits, Format, storeLimits, ClassNumber, Class, classNumber, class}
 use Rattle.rules.specs.Store.{Entry}
 use Rattle.rules.specs.Classes.{Installed}
 use Rattle.rules.proofs.Tests.{none-some}
@@ -24,7 +24,7 @@ use Rattle.places.proofs.Track.{placed-at, placed-none, many-length, many-wide,
 use Rattle.files.specs.Say.{spot}
 use Rattle.files.specs.declared.Spot.{Spot}
 use Rattle.files.specs.declared.Spot.the-variants.{At, Nothing}
-use Rattle.homes.specs.Homes.{fileOf, recordFrom, HomeIs, HomeThere, RecordIs}
+use Rattle.homes.specs.Homes.{fileOf, formatAt, recordFrom, HomeIs, HomeThere, RecordIs}
 use Rattle.homes.specs.declared.Home.{Home}
 use Rattle.classes.specs.Say.{Judged, ClassThere, CountIs, ParentThere, Kind0Is}
 
@@ -42,11 +42,11 @@ at-split [] i h = absurd (omega arith)
 at-split (y ∷ ys) zero h = (y, refl, refl)
 at-split (y ∷ ys) (suc i) h = at-split ys i (omega arith)
 
-module _ (l : Limits) (few : l .parents ≤ 8) (ds : List Aid) (g : Bytes) (c : ℕ) (k : Class) (j : ℕ) (p : Reads (class l ds) g c k j) where
+module _ (form : Format) (few : form .limits .parents ≤ 8) (ds : List Aid) (g : Bytes) (c : ℕ) (k : Class) (j : ℕ) (p : Reads (class form ds) g c k j) where
   pub front : Front k (drop c g)
   front =
-      let t = class-part l ds g c k j p in
-      let u = reads-counted (l .parents) u1 classNumber steady-u1 g (c + 1) (k .parents) (t .middle) (t .parents) in
+      let t = class-part form ds g c k j p in
+      let u = reads-counted (form .limits .parents) u1 classNumber steady-u1 g (c + 1) (k .parents) (t .middle) (t .parents) in
       let w = reads-u1 g (c + 1) (u .number) (u .place) (u .count) in
       let len = many-length classNumber steady-number (u .number) g (u .place) (k .parents) (t .middle) (u .list) in
       let wide : (i : ℕ) (a : ClassNumber) (e : ℕ) → Reads classNumber g i a e → i + 2 ≡ e = λ i a e q. (number-part g i a e q) .next in
@@ -83,13 +83,13 @@ module _ (f s : Bytes) (h : Home) (n : ℕ) where
         let t = p end es self (j .parents .imported) x o in
         go (t .0) (t .1) (t .2)
       where
-        go : (c : Spot) → Placed (class (storeLimits s) (x .pack .domains)) (fileOf f s h) (at (x .pack .classes) n) (spot c) → r ≡ recordFrom
+        go : (c : Spot) → Placed (class (formatAt s (fileOf f s h)) (x .pack .domains)) (fileOf f s h) (at (x .pack .classes) n) (spot c) → r ≡ recordFrom
             (fileOf f s h) c → Front k r
         go (At c) q z =
             let y = placed-at q in
             let same : y .0 ≡ k = Option·some-injective _ _ (sym (y .2) ∙ e) in
             subst (λ (b : Bytes). Front k b) (sym z) (subst (λ (a : Class). Front a (drop c (fileOf f s h))) same
-            (front (storeLimits s) ((limits-range s) .1) (x .pack .domains) (fileOf f s h) c (y .0) (y .1) (y .3)))
+            (front (formatAt s (fileOf f s h)) ((limits-range s) .1) (x .pack .domains) (fileOf f s h) c (y .0) (y .1) (y .3)))
         go Nothing q z = absurd (none-some (sym (placed-none q) ∙ e))
 
     there-front : (t : ClassThere f s h n) → Front (t .1 .class) r

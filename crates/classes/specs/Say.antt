@@ -22,7 +22,7 @@ use Rattle.rules.specs.Classes.{Installed, installed, ClassAt, classNamed, isKi
 use Rattle.rules.specs.Questions.{q14-parents}
 use Rattle.places.specs.Reads.{Reads}
 use Rattle.files.specs.declared.Spot.the-variants as spots
-use Rattle.homes.specs.Homes.{Parents, fileOf, HomeIs, ClassPlaced}
+use Rattle.homes.specs.Homes.{Parents, fileOf, formatAt, HomeIs, ClassPlaced}
 use Rattle.homes.specs.declared.Home.{Home}
 use Rattle.classes.specs.declared.ClassSpot.{ClassSpot}
 use Rattle.classes.specs.declared.ClassFound.{ClassFound}
@@ -113,5 +113,5 @@ RecordAt f s h n i = ClassPlaced f s h n (spots.At i)
 
 -- the place of its list of methods
 abbrev pub MethodsIn : Bytes → Bytes → Home → ℕ → ℕ → Type 0
-MethodsIn f s h n r = AtClass f s h n λ end es self x k. (j : ℕ) × Reads (counted mostMethods u1 (method (storeLimits s) (x .pack .domains)))
+MethodsIn f s h n r = AtClass f s h n λ end es self x k. (j : ℕ) × Reads (counted mostMethods u1 (method (formatAt s (fileOf f s h)) (x .pack .domains)))
     (fileOf f s h) r (k .methods) j

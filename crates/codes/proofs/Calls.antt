@@ -13,7 +13,7 @@ use Rattle.codes.specs.Calls.{kindOf, SplitsFrom, callsFrom, callsHere, 
 use Rattle.codes.specs.declared.Calling.{Calling}
 use Rattle.codes.specs.declared.CallHere.{CallHere}
 use Rattle.codes.specs.declared.CallHere.the-variants as here
-use Rattle.codes.proofs.Splitting.{split-turn, split-ended, split-inside}
+use Rattle.rules.proofs.Splitting.{split-turn, split-ended, split-inside}
 use Rattle.instructions.proofs.Sizes.{nonzero-is, whole-nonzero}
 
 -- from offset 0 on they are the calls of the code

@@ -1,9 +1,9 @@
 -- The laws that the proofs of this crate's functions cite.
 mod Targets
 mod Adding
-mod Splitting
 mod Opcodes
 mod Walking
 mod Landing
+mod Fitting
 mod Numbers
 pub mod Calls

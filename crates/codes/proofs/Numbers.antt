@@ -1,16 +1,19 @@
--- The number of questions 16 and 17 of one code: from what the walk leaves, and back to the answers. Assumes nothing.
+-- The number of questions 16, 17 and 24 of one code: from what the walk leaves, and back to the answers. Assumes nothing.
 use Prim.Native.Nat.{ℕ, _+_, _-_}
 use native.Mathlib.Omega.{arith}
 use mathlib.Core.Path.{_≡_, refl, sym, ap, _∙_}
 use mathlib.Core.Bool.{Bool, true, false, not}
 use mathlib.Core.List.{List, [], _∷_}
 use mathlib.Core.Option.{Option, none, some}
+use lib.ListN.{length}
 use borrow.Author.Tests.{not-true, not-false}
 use Rattle.rules.specs.Bytes.{Bytes, pick, someAnd, listOf, flat}
-use Rattle.rules.specs.Code.{u1At, split, mayEnd, lastMayEnd, codeSplits, codeBranches, callAt, callsOf}
+use Rattle.rules.specs.Code.{u1At, split, mayEnd, lastMayEnd, codeSplits, codeBranches, codeHandlers, callAt, callsOf}
 use Rattle.bits.specs.Bits.{WithinIs}
-use Rattle.codes.specs.Marks.{lastOf, lastIn, empty, Passed, Walk, noCalls, codeNumber}
+use Rattle.places.specs.Parts.{handlersIn}
+use Rattle.codes.specs.Marks.{lastOf, lastIn, empty, Passed, Walk, AllFitIs, noCalls, codeNumber}
 use Rattle.codes.proofs.Landing.{lands-outside, lands-inside}
+use Rattle.codes.proofs.Fitting.{handlers-are}
 
 -- the opcode that comes last
 ends-none : (code : Bytes) (starts : List ℕ) → lastOf starts ≡ 0 → lastMayEnd code starts ≡ false
@@ -24,8 +27,8 @@ ends-last code (at ∷ []) h = let q : at ≡ at + 1 - 1 = omega arith in ap (λ
 ends-last code (at ∷ next ∷ starts) h = ends-last code (next ∷ starts) h
 
 -- from what the walk leaves to the number
-module _ (code : Bytes) (last : ℕ) (inside calls : Bool) (starts targets : Bytes) (w : Walk code last inside calls starts targets) where
-  pub number-none : last ≡ 0 → codeNumber code ≡ 16
+module _ (code hs : Bytes) (last : ℕ) (inside calls : Bool) (starts targets : Bytes) (w : Walk code last inside calls starts targets) where
+  pub number-none : last ≡ 0 → codeNumber code (handlersIn hs) ≡ 16
   unfolding codeSplits
   number-none z = rw (go (split code) (sym (w .answered) ∙ z))
     where
@@ -49,7 +52,7 @@ module _ (code : Bytes) (last : ℕ) (inside calls : Bool) (starts targets : Byt
                   (λ (k : ℕ). mayEnd (u1At code (k - 1))) (sym e),
             )
 
-    pub number-ends : mayEnd (u1At code (last - 1)) ≡ false → codeNumber code ≡ 16
+    pub number-ends : mayEnd (u1At code (last - 1)) ≡ false → codeNumber code (handlersIn hs) ≡ 16
     number-ends e = rw (splits .2 ∙ e)
 
     module _ (e : mayEnd (u1At code (last - 1)) ≡ true) where
@@ -59,23 +62,30 @@ module _ (code : Bytes) (last : ℕ) (inside calls : Bool) (starts targets : Byt
       passed : Passed code inside calls starts targets (splits .0)
       passed = w .passed (splits .0) (splits .1)
 
-      pub number-outside : inside ≡ false → codeNumber code ≡ 17
+      pub number-outside : inside ≡ false → codeNumber code (handlersIn hs) ≡ 17
       number-outside i = rw (yes-16, lands-outside code inside calls starts targets (splits .0) (splits .1) passed i)
 
       module _ (i : inside ≡ true) (r : Bool) (v : WithinIs targets starts r) where
         lands : codeBranches code ≡ r
         lands = lands-inside code inside calls starts targets (splits .0) (splits .1) passed i r v
 
-        pub number-missed : r ≡ false → codeNumber code ≡ 17
+        pub number-missed : r ≡ false → codeNumber code (handlersIn hs) ≡ 17
         number-missed q = rw (yes-16, lands ∙ q)
 
-        calls-are : noCalls code ≡ not calls
-        unfolding noCalls callsOf
-        calls-are = ap (λ (o : Option (List ℕ)). empty (listOf o (flat (callAt code)))) (splits .1) ∙ sym (passed .called)
+        module _ (q : r ≡ true) (f : Bool) (a : AllFitIs (length code) starts hs f) where
+          fit : codeHandlers code (handlersIn hs) ≡ f
+          fit = handlers-are code (splits .0) (handlersIn hs) (splits .1) ∙ sym (a code (splits .0) refl (passed .marked) (passed .below))
 
-        pub number-lands : r ≡ true → (b : Bool) → calls ≡ b → codeNumber code ≡ pick b 18 0
-        number-lands q b c = rw (yes-16, lands ∙ q, calls-are ∙ ap not c) (by b)
-          where
-            by : (b : Bool) → _≡_ {A = ℕ} (pick (not b) 0 18) (pick b 18 0)
-            by true = refl
-            by false = refl
+          pub number-misfits : f ≡ false → codeNumber code (handlersIn hs) ≡ 24
+          number-misfits g = rw (yes-16, lands ∙ q, fit ∙ g)
+
+          calls-are : noCalls code ≡ not calls
+          unfolding noCalls callsOf
+          calls-are = ap (λ (o : Option (List ℕ)). empty (listOf o (flat (callAt code)))) (splits .1) ∙ sym (passed .called)
+
+          pub number-lands : f ≡ true → (b : Bool) → calls ≡ b → codeNumber code (handlersIn hs) ≡ pick b 18 0
+          number-lands g b c = rw (yes-16, lands ∙ q, fit ∙ g, calls-are ∙ ap not c) (by b)
+            where
+              by : (b : Bool) → _≡_ {A = ℕ} (pick (not b) 0 18) (pick b 18 0)
+              by true = refl
+              by false = refl

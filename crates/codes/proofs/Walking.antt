@@ -15,7 +15,7 @@ use Rattle.bits.specs.Bits.{bitAt, withBit}
 use Rattle.instructions.specs.Table.{Says, nonzero}
 use Rattle.codes.specs.Marks.{Marks, Adds, lastOf, lastIn, empty, Passed, Walk}
 use Rattle.instructions.proofs.Sizes.{nonzero-is, nonzero-none}
-use Rattle.codes.proofs.Splitting.{behind, split-end, split-none, split-more}
+use Rattle.rules.proofs.Splitting.{behind, split-end, split-none, split-more}
 use Rattle.codes.proofs.Adding.{any-join, adds-nil, adds-join, adds-is}
 use Rattle.codes.proofs.Targets.{no-targets}
 use Rattle.codes.proofs.Opcodes.{form-quiet, form-calls}

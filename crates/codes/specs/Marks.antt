@@ -7,8 +7,11 @@
 -- Adds n old new r zs    == r says whether these integers are all offsets below n; where they are, new has their bits beside those of old
 -- lastOf starts          == one more than the last of these offsets, 0 where there is none
 -- Walk                   == what the walk over a code leaves
--- codeNumber code        == the number of the first no of questions 16 and 17 of one code; 18 where both are yes and it has a call, so that
---                           18 and 19 are to be asked of it; else 0
+-- OfStarts n set q       == q of whatever code of n bytes and of whatever offsets in it, if these are the bits of the set
+-- BeginsIs, FitsIs, AllFitIs == the answer to whether an instruction starts at k, the handler at a place fits, all handlers in bytes fit,
+--                           where the set tells the starts
+-- codeNumber code hs     == the number of the first no of questions 16, 17 and 24 of one code and its handlers; 18 where all are yes and it
+--                           has a call, so that 18 and 19 are to be asked of it; else 0
 use Prim.Native.Nat.{ℕ, _+_, _≤_}
 use mathlib.Core.Path.{_≡_}
 use mathlib.Core.Bool.{Bool, true, false, _||_, not}
@@ -18,9 +21,10 @@ use lib.Dec.{ltb, eqb}
 use lib.IntN.{ℤ, pos, negsuc}
 use lib.ListN.{length}
 use Rattle.rules.specs.Bytes.{Bytes, any, all, listOf, flat}
-use Rattle.rules.specs.Code.{Switch, targetsEach, targetsAt, split, codeSplits, codeBranches, callAt, callsOf, switchEntries}
+use Rattle.rules.specs.Code.{Switch, targetsEach, targetsAt, split, codeSplits, codeBranches, Handler, handlerFits, codeHandlers, callAt, callsOf, switchEntries}
 use Rattle.rules.specs.Operations.{firstNo}
 use Rattle.bits.specs.Bits.{bitAt}
+use Rattle.places.specs.Parts.{handlerAt, handlersIn}
 
 -- where the entries of the switch at an offset go, its default aside
 abbrev pub entryTargets : Switch → Bytes → ℕ → List ℤ
@@ -57,10 +61,26 @@ abbrev pub empty : {A : Type 0} → List A → Bool
 empty [] = true
 empty (x ∷ xs) = false
 
+-- these offsets lie in a code of n bytes
+abbrev pub Below : ℕ → List ℕ → Type 0
+Below n ks = (k : ℕ) → any (eqb k) ks ≡ true → ltb k n ≡ true
+
+abbrev pub OfStarts : ℕ → Bytes → (Bytes → List ℕ → Type 0) → Type 0
+OfStarts n set q = (code : Bytes) (ks : List ℕ) → length code ≡ n → Marks set ks → Below n ks → q code ks
+
+abbrev pub BeginsIs : ℕ → Bytes → ℕ → Bool → Type 0
+BeginsIs n set k r = OfStarts n set λ code ks. r ≡ any (eqb k) ks
+
+abbrev pub FitsIs : ℕ → Bytes → Bytes → ℕ → Bool → Type 0
+FitsIs n set hs at r = OfStarts n set λ code ks. r ≡ handlerFits code ks (handlerAt hs at)
+
+abbrev pub AllFitIs : ℕ → Bytes → Bytes → Bool → Type 0
+AllFitIs n set hs r = OfStarts n set λ code ks. r ≡ all (handlerFits code ks) (handlersIn hs)
+
 -- of the instructions at these offsets: where they start, whether their branches stay inside, and where they go; whether one is a call
 pub record Passed (code : Bytes) (inside calls : Bool) (starts targets : Bytes) (ks : List ℕ) : Type 0 where
   pub marked : Marks starts ks
-  pub below : (k : ℕ) → any (eqb k) ks ≡ true → ltb k (length code) ≡ true
+  pub below : Below (length code) ks
   pub landed : Adds (length code) (λ k. false) targets inside (flat (targetsAt code) ks)
   pub called : not calls ≡ empty (flat (callAt code) ks)
 
@@ -73,5 +93,5 @@ pub record Walk (code : Bytes) (last : ℕ) (inside calls : Bool) (starts target
 unfoldable pub noCalls : Bytes → Bool
 noCalls code = empty (callsOf code)
 
-abbrev pub codeNumber : Bytes → ℕ
-codeNumber code = firstNo ((16, codeSplits code) ∷ (17, codeBranches code) ∷ (18, noCalls code) ∷ [])
+abbrev pub codeNumber : Bytes → List Handler → ℕ
+codeNumber code hs = firstNo ((16, codeSplits code) ∷ (17, codeBranches code) ∷ (24, codeHandlers code hs) ∷ (18, noCalls code) ∷ [])

@@ -1,8 +1,10 @@
-// Codes: questions 16 and 17 of one code in one walk, and its calls in order.
+// Codes: questions 16, 17 and 24 of one code in one walk, and its calls in order.
 mod branches;
+mod handlers;
 
 use branches::mark_targets;
 use fields::u2_at;
+use handlers::all_fit;
 use instructions::entry_at;
 use instructions::instruction_length;
 use instructions::may_end;
@@ -12,6 +14,7 @@ ghost use Prim.Native.Nat.{ℕ, _*_, _/_, _+_, _<_, _≤_};
 ghost use lib.ListN.{length};
 ghost use Rattle.bits.specs.Bits.{bitAt};
 ghost use Rattle.rules.specs.Code.{callAt};
+ghost use Rattle.places.specs.Parts.{handlersIn};
 ghost use Rattle.instructions.specs.Table.{TableIs, Whole};
 ghost use Rattle.codes.specs.Marks.{Walk, codeNumber};
 ghost use Rattle.codes.specs.Calls.{SplitsFrom, callsHere, IndexFits, Follows};
@@ -90,10 +93,16 @@ fn walk(table: &[u8; 256], code: &[u8], starts: &mut [u8], targets: &mut [u8]) -
     }
 }
 
-// Questions 16 and 17 of a code, with a bit of both sets for each of its bytes and none left over but those of the last byte.
-fn check_marked(table: &[u8; 256], code: &[u8], starts: &mut [u8], targets: &mut [u8]) -> u8
+// Questions 16, 17 and 24 of a code, with a bit of both sets for each of its bytes and none left over but those of the last byte.
+fn check_marked(
+    table: &[u8; 256],
+    code: &[u8],
+    handlers: &[u8],
+    starts: &mut [u8],
+    targets: &mut [u8],
+) -> u8
     requires { ⌜ TableIs (now table) × (length (now code) ≤ 8 * length (now starts)) × (length (now starts) ≡ length (now targets)) ⌝ }
-    ensures { λ r. ⌜ r ≡ codeNumber (now (code .entry)) ⌝ }
+    ensures { λ r. ⌜ r ≡ codeNumber (now (code .entry)) (handlersIn (now (handlers .entry))) ⌝ }
 {
     bits::clear(starts);
     bits::clear(targets);
@@ -110,20 +119,30 @@ fn check_marked(table: &[u8; 256], code: &[u8], starts: &mut [u8], targets: &mut
     if !bits::is_within(targets, starts) {
         return 17;
     }
+    if !all_fit(code.len(), starts, handlers) {
+        return 24;
+    }
     if found.calls {
         return 18;
     }
     0
 }
 
-// Questions 16 and 17 of a code: the number of the first no; 18 where both are yes and it has a call, of which 18 and 19 are to be asked;
-// else 0. The two sets are lent, and whatever they hold before is of no account: as many bits of them as the code has bytes are used.
-pub fn check_code(table: &[u8; 256], code: &[u8], starts: &mut [u8], targets: &mut [u8]) -> u8
+// Questions 16, 17 and 24 of a code and its handlers: the number of the first no; 18 where all are yes and it has a call, of which 18 and
+// 19 are to be asked; else 0. The two sets are lent, and whatever they hold before is of no account: as many bits of them as the code has
+// bytes are used.
+pub fn check_code(
+    table: &[u8; 256],
+    code: &[u8],
+    handlers: &[u8],
+    starts: &mut [u8],
+    targets: &mut [u8],
+) -> u8
     requires { ⌜ TableIs (now table) × (length (now code) ≤ 8 * length (now starts)) × (length (now code) ≤ 8 * length (now targets)) ⌝ }
-    ensures { λ r. ⌜ r ≡ codeNumber (now (code .entry)) ⌝ }
+    ensures { λ r. ⌜ r ≡ codeNumber (now (code .entry)) (handlersIn (now (handlers .entry))) ⌝ }
 {
     let n = (code.len() + 7) / 8;
-    check_marked(table, code, &mut starts[..n], &mut targets[..n])
+    check_marked(table, code, handlers, &mut starts[..n], &mut targets[..n])
 }
 
 // The call at an offset where an instruction is whole.

@@ -7,7 +7,7 @@ use mathlib.Core.Option.{some, Option·some-injective}
 use lib.Dec.{eqb}
 use lib.ListN.{length, getD}
 use Rattle.rules.specs.Bytes.{Bytes, Aid, at, u1, many}
-use Rattle.rules.specs.Package.{Limits, ClassNumber, Class, Package, classNumber, class, readFile}
+use Rattle.rules.specs.Package.{Limits, Format, formatOf, ClassNumber, Class, Package, classNumber, class, readFile}
 use Rattle.places.specs.Reads.{Reads}
 use Rattle.places.proofs.Steady.{steady-u1, steady-number}
 use Rattle.places.proofs.Inverse.{reads-u1, reads-counted}
@@ -31,10 +31,10 @@ pub record RecordBy (g : Bytes) (a : ℕ) (k : Class) : Type 0 where
   pub count : getD g (a + 1) 0 ≡ length (k .parents)
   pub parent : (i : ℕ) → i < getD g (a + 1) 0 → ParentBy g a k i
 
-class-by : (l : Limits) (ds : List Aid) (g : Bytes) (a : ℕ) (k : Class) (j : ℕ) → Reads (class l ds) g a k j → RecordBy g a k
-class-by l ds g a k j p =
-    let t = class-part l ds g a k j p in
-    let c = reads-counted (l .parents) u1 classNumber steady-u1 g (a + 1) (k .parents) (t .middle) (t .parents) in
+class-by : (form : Format) (ds : List Aid) (g : Bytes) (a : ℕ) (k : Class) (j : ℕ) → Reads (class form ds) g a k j → RecordBy g a k
+class-by form ds g a k j p =
+    let t = class-part form ds g a k j p in
+    let c = reads-counted (form .limits .parents) u1 classNumber steady-u1 g (a + 1) (k .parents) (t .middle) (t .parents) in
     let u = reads-u1 g (a + 1) (c .number) (c .place) (c .count) in
     let m = many-length classNumber steady-number (c .number) g (c .place) (k .parents) (t .middle) (c .list) in
     record {
@@ -65,4 +65,4 @@ pub record-by : (l : Limits) (g : Bytes) (p : Package) (n a : ℕ) (k : Class) �
 record-by l g p n a k e h q =
     let z = from-front g n a h l p e in
     let w : z .one ≡ k = Option·some-injective _ _ (sym (z .is) ∙ q) in
-    subst (RecordBy g a) w (class-by l (p .domains) g a (z .one) (z .end) (z .reads))
+    subst (RecordBy g a) w (class-by (formatOf l g) (p .domains) g a (z .one) (z .end) (z .reads))

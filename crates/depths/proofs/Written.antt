@@ -11,7 +11,7 @@ use lib.Dec.{eqb}
 use lib.ListN.{length, getD, List·getD-eq-default}
 use borrow.Author.Tests.{eq-eqb, ne-eqb}
 use Rattle.rules.specs.Bytes.{Bytes, Aid, pick, at, u1, many}
-use Rattle.rules.specs.Package.{Limits, mostMethods, Class, Package, classNumber, method, class, readFile}
+use Rattle.rules.specs.Package.{Limits, Format, formatOf, mostMethods, Class, Package, classNumber, method, class, readFile}
 use Rattle.rules.proofs.Tests.{none-some}
 use Rattle.bits.specs.Bits.{withField}
 use Rattle.places.specs.Reads.{Reads}
@@ -25,25 +25,26 @@ use Rattle.named.proofs.Rows.{stands-one, from-start, from-next, from-end}
 use Rattle.depths.specs.Depths.{keptField, DepthsFit, FileKeptTo, FileKept, depthField}
 
 -- a class takes a byte or more, and five with a parent
-class-five : (l : Limits) (ds : List Aid) (g : Bytes) (i : ℕ) (k : Class) (j : ℕ) → Reads (class l ds) g i k j → i + 3 + 2 * getD g (i + 1) 0 ≤ j
-class-five l ds g i k j p =
-    let t = class-part l ds g i k j p in
-    let c = reads-counted (l .parents) u1 classNumber steady-u1 g (i + 1) (k .parents) (t .middle) (t .parents) in
+class-five : (form : Format) (ds : List Aid) (g : Bytes) (i : ℕ) (k : Class) (j : ℕ) → Reads (class form ds) g i k j → i + 3 + 2 * getD g (i + 1) 0 ≤ j
+class-five form ds g i k j p =
+    let t = class-part form ds g i k j p in
+    let c = reads-counted (form .limits .parents) u1 classNumber steady-u1 g (i + 1) (k .parents) (t .middle) (t .parents) in
     let u = reads-u1 g (i + 1) (c .number) (c .place) (c .count) in
     let w = many-wide classNumber steady-number 2 g (λ i a j q. (number-part g i a j q) .next) (c .number) (c .place) (k .parents) (t .middle) (c .list) in
-    let m = reads-counted mostMethods u1 (method l ds) steady-u1 g (t .middle) (k .methods) j (t .methods) in
+    let m = reads-counted mostMethods u1 (method form ds) steady-u1 g (t .middle) (k .methods) j (t .methods) in
     let v = reads-u1 g (t .middle) (m .number) (m .place) (m .count) in
-    let z = reads-forward (many (m .number) (method l ds)) (steady-many (m .number) (method l ds) (steady-method l ds)) g (m .place) (k .methods) j (m .list) in
+    let z = reads-forward (many (m .number) (method form ds)) (steady-many (m .number) (method form ds) (steady-method form ds)) g (m .place)
+    (k .methods) j (m .list) in
     omega (arith, u .next, u .byte, w, v .next, z)
 
 pub after-five : (g : Bytes) (i j : ℕ) → ClassThere g i → AfterClass g i j → i + 3 + 2 * getD g (i + 1) 0 ≤ j
 after-five g i j t a =
-    let h = class-five (t .0) (t .1) g i (t .2 .0) (t .2 .1) (t .2 .2) in
+    let h = class-five (formatOf (t .0) g) (t .1) g i (t .2 .0) (t .2 .1) (t .2 .2) in
     omega (arith, h, a (t .0) (t .1) (t .2 .0) (t .2 .1) (t .2 .2))
 
 -- its first three bytes are inside
 pub three-inside : (g : Bytes) (i : ℕ) → ClassThere g i → i + 2 < length g
-three-inside g i t = omega (arith, class-five (t .0) (t .1) g i (t .2 .0) (t .2 .1) (t .2 .2), t .2 .2 .to)
+three-inside g i t = omega (arith, class-five (formatOf (t .0) g) (t .1) g i (t .2 .0) (t .2 .1) (t .2 .2), t .2 .2 .to)
 
 -- what is written, by its cases
 module _ (t : List ℕ) (place parents depth j : ℕ) where

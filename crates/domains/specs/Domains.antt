@@ -5,7 +5,7 @@
 -- DomainsIs s end table  == the domains of the entries that end at place end have been entered, and nothing else
 -- domainAccepted pre e   == 3 and 4 of a domain, 3 and 5 of a package's domain, over the entries pre
 -- domainsAccepted pre es == of each entry, over pre and the earlier ones
--- restAccepted l n pre e == what else is asked of an entry over pre: 21 of a domain, 10 to 21 of a package
+-- restAccepted l n pre e == what else is asked of an entry over pre: 21 of a domain, 10 to 17, 24 and 18 to 21 of a package
 -- restsAccepted l n pre es == of each entry, over pre and the earlier ones
 -- EntrySays s at e r     == domainAccepted, over whatever entries end at place at
 -- PackageSays s at d r   == of a package with the domain d

@@ -1,2 +1,3 @@
 -- What the functions over fields ensure.
 pub mod Words
+pub mod Editions

@@ -4,6 +4,8 @@ ghost use Prim.Native.Nat.{_+_, _*_, _<_, _≤_};
 ghost use lib.ListN.{length};
 ghost use Rattle.rules.specs.Bytes.{same};
 ghost use Rattle.rules.specs.Code.{u2At, u4At};
+ghost use Rattle.rules.specs.Package.{editionOf};
+ghost use Rattle.fields.specs.Editions.{editionIf};
 ghost use Rattle.fields.specs.Words.{eightAt};
 
 // A byte as a number.
@@ -110,4 +112,25 @@ pub fn same_bytes(a: &[u8], b: &[u8]) -> bool
         return same_short(a, b);
     }
     same_long(a, b)
+}
+
+// Is a package file of five bytes or more of the second edition, the one with handlers?
+pub fn says_second(f: &[u8]) -> bool
+    requires { ⌜ 4 < length (now f) ⌝ }
+    ensures { λ r. ⌜ editionOf (now (f .entry)) ≡ editionIf r ⌝ }
+{
+    if f[4] != 2 {
+        return false;
+    }
+    f[3] == 0
+}
+
+// Is any file?
+pub fn is_second(f: &[u8]) -> bool
+    ensures { λ r. ⌜ editionOf (now (f .entry)) ≡ editionIf r ⌝ }
+{
+    if f.len() < 5 {
+        return false;
+    }
+    says_second(f)
 }

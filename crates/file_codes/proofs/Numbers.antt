@@ -1,4 +1,4 @@
--- What the number of a file's codes says of questions 16 to 19. Assumes nothing.
+-- What the number of a file's codes says of questions 16 to 19 and 24. Assumes nothing.
 use Prim.Native.Nat.{ℕ, suc}
 use native.Mathlib.Omega.{arith}
 use mathlib.Core.Path.{_≡_, refl, sym, _∙_, ap, subst}
@@ -9,45 +9,48 @@ use Rattle.rules.specs.Bytes.{pick, all, allFrom}
 use Rattle.rules.specs.Code.{Call, callsOf}
 use Rattle.rules.specs.Package.{Method, Class, Package}
 use Rattle.rules.specs.Classes.{Installed}
-use Rattle.rules.specs.Questions.{q16-splits, q17-targets, q18-calls, q19-allowed}
+use Rattle.rules.specs.Questions.{q16-splits, q17-targets, q24-handlers, q18-calls, q19-allowed}
 use Rattle.rules.specs.Operations.{Question, firstNo}
 use Rattle.codes.specs.Marks.{empty, noCalls}
 use Rattle.file_codes.specs.Codes.{quiet, fileNumber}
 
--- the number by the three answers
-abbrev numberOf : Bool → Bool → Bool → ℕ
-numberOf a b c = pick a (pick b (pick c 0 18) 17) 16
+-- the number by the four answers
+abbrev numberOf : Bool → Bool → Bool → Bool → ℕ
+numberOf a b h c = pick a (pick b (pick h (pick c 0 18) 24) 17) 16
 
 module _ (p : Package) where
-  -- 0: 16 and 17 are yes, and there are no calls
-  pub number-0 : fileNumber p ≡ 0 → (q16-splits p ≡ true) × (q17-targets p ≡ true) × (quiet p ≡ true)
-  number-0 e = go (q16-splits p) (q17-targets p) (quiet p) e
+  -- 0: 16, 17 and 24 are yes, and there are no calls
+  pub number-0 : fileNumber p ≡ 0 → (q16-splits p ≡ true) × (q17-targets p ≡ true) × (q24-handlers p ≡ true) × (quiet p ≡ true)
+  number-0 e = go (q16-splits p) (q17-targets p) (q24-handlers p) (quiet p) e
     where
-      go : (a b c : Bool) → numberOf a b c ≡ 0 → (a ≡ true) × (b ≡ true) × (c ≡ true)
-      go false b c e = absurd (omega arith)
-      go true false c e = absurd (omega arith)
-      go true true false e = absurd (omega arith)
-      go true true true e = (refl, refl, refl)
+      go : (a b h c : Bool) → numberOf a b h c ≡ 0 → (a ≡ true) × (b ≡ true) × (h ≡ true) × (c ≡ true)
+      go false b h c e = absurd (omega arith)
+      go true false h c e = absurd (omega arith)
+      go true true false c e = absurd (omega arith)
+      go true true true false e = absurd (omega arith)
+      go true true true true e = (refl, refl, refl, refl)
 
-  -- 18: 16 and 17 are yes
-  pub number-18 : fileNumber p ≡ 18 → (q16-splits p ≡ true) × (q17-targets p ≡ true)
-  number-18 e = go (q16-splits p) (q17-targets p) (quiet p) e
+  -- 18: 16, 17 and 24 are yes
+  pub number-18 : fileNumber p ≡ 18 → (q16-splits p ≡ true) × (q17-targets p ≡ true) × (q24-handlers p ≡ true)
+  number-18 e = go (q16-splits p) (q17-targets p) (q24-handlers p) (quiet p) e
     where
-      go : (a b c : Bool) → numberOf a b c ≡ 18 → (a ≡ true) × (b ≡ true)
-      go false b c e = absurd (omega arith)
-      go true false c e = absurd (omega arith)
-      go true true c e = (refl, refl)
+      go : (a b h c : Bool) → numberOf a b h c ≡ 18 → (a ≡ true) × (b ≡ true) × (h ≡ true)
+      go false b h c e = absurd (omega arith)
+      go true false h c e = absurd (omega arith)
+      go true true false c e = absurd (omega arith)
+      go true true true c e = (refl, refl, refl)
 
-  -- another number is that of the first no, whatever is asked behind 16 and 17
-  pub number-no : (qs : List Question) → (fileNumber p ≡ 0 → ⊥) → (fileNumber p ≡ 18 → ⊥) → firstNo ((16, q16-splits p) ∷ (17, q17-targets p) ∷ qs) ≡
-      fileNumber p
-  number-no qs z e = go (q16-splits p) (q17-targets p) (quiet p) z e
+  -- another number is that of the first no, whatever is asked behind 16, 17 and 24
+  pub number-no : (qs : List Question) → (fileNumber p ≡ 0 → ⊥) → (fileNumber p ≡ 18 → ⊥) →
+      firstNo ((16, q16-splits p) ∷ (17, q17-targets p) ∷ (24, q24-handlers p) ∷ qs) ≡ fileNumber p
+  number-no qs z e = go (q16-splits p) (q17-targets p) (q24-handlers p) (quiet p) z e
     where
-      go : (a b c : Bool) → (numberOf a b c ≡ 0 → ⊥) → (numberOf a b c ≡ 18 → ⊥) → pick a (pick b (firstNo qs) 17) 16 ≡ numberOf a b c
-      go false b c z e = refl
-      go true false c z e = refl
-      go true true false z e = absurd (e refl)
-      go true true true z e = absurd (z refl)
+      go : (a b h c : Bool) → (numberOf a b h c ≡ 0 → ⊥) → (numberOf a b h c ≡ 18 → ⊥) → pick a (pick b (pick h (firstNo qs) 24) 17) 16 ≡ numberOf a b h c
+      go false b h c z e = refl
+      go true false h c z e = refl
+      go true true false c z e = refl
+      go true true true false z e = absurd (e refl)
+      go true true true true z e = absurd (z refl)
 
 clash : {A : Type 0} → false ≡ true → A
 clash e = absurd (subst T (sym e) tt)

@@ -1,8 +1,39 @@
-// The codes of a file: questions 16 and 17 of each, and whether there is a call of which 18 and 19 are to be asked.
+// The codes of a file: questions 16, 17 and 24 of each, and whether there is a call of which 18 and 19 are to be asked.
+use fields::is_second;
+use fields::u2_at;
 use fields::wide;
 use refusals::first_no;
+ghost use mathlib.Core.Path.{_≡_};
+ghost use Prim.Native.Nat.{_+_, _*_, _<_, _≤_};
+ghost use lib.ListN.{length, take, drop, getD};
 ghost use Rattle.instructions.specs.Table.{TableIs};
-ghost use Rattle.file_codes.specs.Codes.{MethodHere, ClassHere, FileHere, MethodNumberIs, ClassNumberIs, FileNumberIs};
+ghost use Rattle.files.specs.Say.{MethodThere};
+ghost use Rattle.file_codes.specs.Codes.{HandlersAre, MethodHere, ClassHere, FileHere, MethodNumberIs, ClassNumberIs, FileNumberIs};
+
+// What follows a handler count at a place, as a part of the file: six bytes each.
+fn counted_handlers<'a>(f: &'a [u8], at: usize) -> &'a [u8]
+    requires { ⌜ (at < length (now f)) × (at + 1 + 6 * getD (now f) at 0 ≤ length (now f)) ⌝ }
+    ensures { λ r. ⌜ now r ≡ take (6 * getD (now (f .entry)) at 0) (drop (at + 1) (now (f .entry))) ⌝ }
+{
+    let n = 6 * wide(f[at]);
+    &f[at + 1..at + 1 + n]
+}
+
+// The handlers of the method at a place, as a part of the file; empty where there are none.
+fn handlers_of<'a>(f: &'a [u8], at: usize) -> &'a [u8]
+    requires { ⌜ MethodThere (now f) at ⌝ }
+    ensures { λ r. ⌜ HandlersAre (now (f .entry)) at (now r) ⌝ }
+{
+    if !is_second(f) {
+        return &f[at..at];
+    }
+    let b = wide(f[at]);
+    if b / 64 % 2 != 1 {
+        return &f[at..at];
+    }
+    let c = files::after_policy(f, at + 3);
+    counted_handlers(f, c + 2 + u2_at(f, c))
+}
 
 // Of the code of the method at a place: the number of the first no; 18 where there is none and a call; else 0.
 fn method_number(
@@ -19,7 +50,13 @@ fn method_number(
     if !files::is_implemented(f, at) {
         return 0;
     }
-    codes::check_code(table, files::code_of(f, at), starts, targets)
+    codes::check_code(
+        table,
+        files::code_of(f, at),
+        handlers_of(f, at),
+        starts,
+        targets,
+    )
 }
 
 // Of the codes of the class at a place: each question of every code before the next.

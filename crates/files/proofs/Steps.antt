@@ -11,14 +11,13 @@ use lib.ListN.{length, take, drop, getD}
 use borrow.Author.Tests.{eq-eqb, ne-eqb}
 use Rattle.rules.specs.Bytes.{Bytes, Aid, at, u1, u2, many, aid, counted}
 use Rattle.rules.specs.Code.{u2At}
-use Rattle.rules.specs.Package.{Limits, mostReferences, mostMethods, mostClasses, ClassNumber, Reference, Item, Method, classNumber, reference, item, codeIf, bit, method, class}
+use Rattle.rules.specs.Package.{Limits, formatOf, mostReferences, mostMethods, mostClasses, ClassNumber, Reference, Item, Policy, Method, classNumber, reference, item, policy, method, class}
 use Rattle.places.specs.Reads.{Reads, Ends, EndsAt}
-use Rattle.places.specs.Parts.{CodePart}
 use Rattle.places.proofs.Inverse.{reads-counted, reads-u1, reads-u2}
 use Rattle.places.proofs.Steady.{steady-u1, steady-u2, steady-number, steady-reference, steady-item}
-use Rattle.places.proofs.Parts.{moved, aid-part, number-part, reference-part, item-part, policy-part, code-none, code-part, method-part, class-part}
+use Rattle.places.proofs.Parts.{moved, aid-part, number-part, reference-part, item-part, policy-part, method-part, class-part}
 use Rattle.places.proofs.Track.{many-wide, many-nth, many-length, placed-at, counted-inside}
-use Rattle.files.specs.Say.{Aids, References, AfterReferences, ReferenceNth, PolicyThere, AfterPolicy, MethodThere, AfterMethod, PolicyAt, NameIs, VisibleIs, ImplementedIs, StaticIs, InstanceIs, CodeIs, Methods, AfterMethods, ClassThere, AfterClass, ParentsAt, MethodsAt, InterfaceIs, Classes}
+use Rattle.files.specs.Say.{Aids, References, AfterReferences, ReferenceNth, PolicyThere, AfterPolicy, MethodThere, AfterMethod, PolicyAt, NameIs, VisibleIs, ImplementedIs, StaticIs, InstanceIs, Methods, AfterMethods, ClassThere, AfterClass, ParentsAt, MethodsAt, InterfaceIs, Classes}
 use Rattle.files.specs.declared.Referenced.the-variants.{Nothing}
 
 -- AIDs
@@ -89,6 +88,13 @@ module _ {s : Bytes} {i : ℕ} where
 indexes : (ds : List Aid) (s : Bytes) (n i : ℕ) (xs : List Item) (j : ℕ) → Reads (many n (item ds)) s i xs j → i + n ≡ j
 indexes ds s n i xs j p = let w = many-wide (item ds) (steady-item ds) 1 s (λ i a j p. (item-part ds s i a j p) .next) n i xs j p in omega arith
 
+-- a policy takes a byte or more
+pub policy-long : (ds : List Aid) (s : Bytes) (i : ℕ) (q : Policy) (j : ℕ) → Reads (policy ds) s i q j → i + 1 ≤ j
+policy-long ds s i q j p = elim (policy-part ds s i q j p) [
+  | inl x ↦ omega (arith, x .next)
+  | inr x ↦ omega (arith, indexes ds s (getD s i 0) (i + 1) (x .listed) j (x .list))
+]
+
 module _ {s : Bytes} {i : ℕ} where
   pub policy-in : PolicyThere s i → i < length s
   policy-in e = elim (policy-part (e .0) s i (e .1 .0) (e .1 .1) (e .1 .2)) [ inl x ↦ x .inside | inr x ↦ x .inside ]
@@ -105,26 +111,26 @@ module _ {s : Bytes} {i : ℕ} where
 -- methods
 module _ {s : Bytes} {i : ℕ} where
   pub method-in : MethodThere s i → i + 3 ≤ length s
-  method-in e = (method-part (e .0) (e .1) s i (e .2 .0) (e .2 .1) (e .2 .2)) .inside
+  method-in e = (method-part (formatOf (e .0) s) (e .1) s i (e .2 .0) (e .2 .1) (e .2 .2)) .inside
 
   pub method-policy : MethodThere s i → PolicyThere s (i + 3)
-  method-policy e = let m = method-part (e .0) (e .1) s i (e .2 .0) (e .2 .1) (e .2 .2) in (e .1, (e .2 .0 .policy, m .middle, m .policy))
+  method-policy e = let m = method-part (formatOf (e .0) s) (e .1) s i (e .2 .0) (e .2 .1) (e .2 .2) in (e .1, (e .2 .0 .policy, m .middle, m .policy))
 
   pub policy-at : PolicyAt s i (i + 3)
-  policy-at l ds m j p = let t = method-part l ds s i m j p in (t .middle, t .policy)
+  policy-at l ds m j p = let t = method-part (formatOf l s) ds s i m j p in (t .middle, t .policy)
 
   pub method-name : NameIs s i (u2At s (i + 1))
-  method-name l ds m j p = (method-part l ds s i m j p) .name
+  method-name l ds m j p = (method-part (formatOf l s) ds s i m j p) .name
 
   module _ {n : ℕ} (h : n ≡ getD s i 0) where
     pub method-visible : VisibleIs s i (eqb (n / 128 % 2) 1)
-    method-visible l ds m j p = rw h ((method-part l ds s i m j p) .visible)
+    method-visible l ds m j p = rw h ((method-part (formatOf l s) ds s i m j p) .visible)
 
     pub method-implemented : ImplementedIs s i (eqb (n / 64 % 2) 1)
-    method-implemented l ds m j p = rw h ((method-part l ds s i m j p) .implemented)
+    method-implemented l ds m j p = rw h ((method-part (formatOf l s) ds s i m j p) .implemented)
 
     pub method-static : StaticIs s i (eqb (n / 32 % 2) 1)
-    method-static l ds m j p = rw h ((method-part l ds s i m j p) .static)
+    method-static l ds m j p = rw h ((method-part (formatOf l s) ds s i m j p) .static)
 
   -- a non-static method of a name
   pub instance-other : {n r : ℕ} → NameIs s i r → (r ≡ n → ⊥) → InstanceIs s i n false
@@ -134,42 +140,6 @@ module _ {s : Bytes} {i : ℕ} where
   instance-this {n} {r} {b} h q g l ds m j p =
       let t : eqb (m .name) n ≡ true = eq-eqb (m .name) n (sym (h l ds m j p) ∙ q) in
       let f : b ≡ m .static = g l ds m j p in rw (t, f)
-
--- the code of a method: b is its bitfield, its policy ends at d
-module _ {s : Bytes} {i b d : ℕ} (w : b ≡ getD s i 0) (e : AfterPolicy s (i + 3) d) where
-  module _ (h : b / 64 % 2 ≡ 1 → ⊥) where
-    bare : (l : Limits) (ds : List Aid) (m : Method) (j : ℕ) → Reads (method l ds) s i m j → ([] ≡ m .code) × (d ≡ j)
-    bare l ds m j p =
-        let t = method-part l ds s i m j p in
-        let f : m .implemented ≡ false = sym (t .implemented) ∙ ap (bit 0x40) (sym w) ∙ ne-eqb (b / 64 % 2) 1 h in
-        let c = code-none l s (t .middle) (m .code) j (subst (λ (b : Bool). Reads (codeIf l b) s (t .middle) (m .code) j) f (t .code)) in
-        (c .0, e ds (m .policy) (t .middle) (t .policy) ∙ c .1)
-
-    pub bare-next : AfterMethod s i d
-    bare-next l ds m j p = (bare l ds m j p) .1
-
-    pub bare-in : MethodThere s i → d ≤ length s
-    bare-in x = let k = bare (x .0) (x .1) (x .2 .0) (x .2 .1) (x .2 .2) in omega (arith, k .1, x .2 .2 .to)
-
-    pub bare-code : CodeIs s i (take (d - d) (drop d s))
-    bare-code l ds m j p = let k : d - d ≡ 0 = omega arith in rw k ((bare l ds m j p) .0)
-
-  module _ (h : b / 64 % 2 ≡ 1) where
-    code-at : (l : Limits) (ds : List Aid) (m : Method) (j : ℕ) → Reads (method l ds) s i m j → CodePart l s d (m .code) j
-    code-at l ds m j p =
-        let t = method-part l ds s i m j p in
-        let f : m .implemented ≡ true = sym (t .implemented) ∙ ap (bit 0x40) (sym w) ∙ eq-eqb (b / 64 % 2) 1 h in
-        let n : d ≡ t .middle = e ds (m .policy) (t .middle) (t .policy) in
-        rw n (code-part l s (t .middle) (m .code) j (subst (λ (b : Bool). Reads (codeIf l b) s (t .middle) (m .code) j) f (t .code)))
-
-    pub code-in : MethodThere s i → (d + 1 < length s) × (d + 2 + u2At s d ≤ length s)
-    code-in x = let k = code-at (x .0) (x .1) (x .2 .0) (x .2 .1) (x .2 .2) in (k .inside, omega (arith, k .next, k .to))
-
-    pub code-next : AfterMethod s i (d + 2 + u2At s d)
-    code-next l ds m j p = (code-at l ds m j p) .next
-
-    pub code-is : {n : ℕ} → n ≡ u2At s d → CodeIs s i (take (d + 2 + n - (d + 2)) (drop (d + 2) s))
-    code-is {n} q l ds m j p = let k : d + 2 + n - (d + 2) ≡ u2At s d = omega arith in rw k ((code-at l ds m j p) .bytes)
 
 -- classes
 parents-to : (l : Limits) (s : Bytes) (i : ℕ) (xs : List ClassNumber) (j : ℕ) → Reads (counted (l .parents) u1 classNumber) s i xs j → (i < length s) ×
@@ -182,28 +152,28 @@ parents-to l s i xs j p =
 
 module _ {s : Bytes} {i : ℕ} where
   pub methods-in : Methods s i → i < length s
-  methods-in e = counted-inside (method (e .0) (e .1)) s mostMethods i (e .2 .0) (e .2 .1) (e .2 .2)
+  methods-in e = counted-inside (method (formatOf (e .0) s) (e .1)) s mostMethods i (e .2 .0) (e .2 .1) (e .2 .2)
 
   pub classes-in : Classes s i → i < length s
-  classes-in e = counted-inside (class (e .0) (e .1)) s mostClasses i (e .2 .0) (e .2 .1) (e .2 .2)
+  classes-in e = counted-inside (class (formatOf (e .0) s) (e .1)) s mostClasses i (e .2 .0) (e .2 .1) (e .2 .2)
 
   pub class-in : ClassThere s i → (i + 1 < length s) × (i + 2 + 2 * getD s (i + 1) 0 ≤ length s)
   class-in e =
-      let k = class-part (e .0) (e .1) s i (e .2 .0) (e .2 .1) (e .2 .2) in
+      let k = class-part (formatOf (e .0) s) (e .1) s i (e .2 .0) (e .2 .1) (e .2 .2) in
       let q = parents-to (e .0) s (i + 1) (e .2 .0 .parents) (k .middle) (k .parents) in
       (q .0, omega (arith, q .1, k .parents .to))
 
   pub class-parents : ParentsAt s i (i + 1)
-  class-parents l ds k j p = let t = class-part l ds s i k j p in (t .middle, t .parents)
+  class-parents l ds k j p = let t = class-part (formatOf l s) ds s i k j p in (t .middle, t .parents)
 
   pub class-methods : MethodsAt s i (i + 2 + 2 * getD s (i + 1) 0)
   class-methods l ds k j p =
-      let t = class-part l ds s i k j p in
+      let t = class-part (formatOf l s) ds s i k j p in
       let q = parents-to l s (i + 1) (k .parents) (t .middle) (t .parents) in
       moved (t .methods) (omega (arith, q .1)) refl refl
 
   pub class-interface : {n : ℕ} → n ≡ getD s i 0 → InterfaceIs s i (eqb n 1)
-  class-interface h l ds k j p = rw h ((class-part l ds s i k j p) .interface)
+  class-interface h l ds k j p = rw h ((class-part (formatOf l s) ds s i k j p) .interface)
 
   pub methods-there : {d : ℕ} → MethodsAt s i d → ClassThere s i → Methods s d
   methods-there h e = (e .0, e .1, (e .2 .0 .methods, e .2 .1, h (e .0) (e .1) (e .2 .0) (e .2 .1) (e .2 .2)))

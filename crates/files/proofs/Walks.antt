@@ -4,7 +4,7 @@ use mathlib.Core.Path.{_≡_, refl, sym}
 use mathlib.Core.Option.{some}
 use lib.ListN.{length}
 use Rattle.rules.specs.Bytes.{Bytes, aid, u1, u2, counted}
-use Rattle.rules.specs.Package.{Limits, mostDomains, mostImports, mostReferences, mostClasses, Package, reference, class, readFile}
+use Rattle.rules.specs.Package.{Limits, formatOf, mostDomains, mostImports, mostReferences, mostClasses, Package, reference, class, readFile}
 use Rattle.places.specs.Reads.{Reads, Ends, EndsAt}
 use Rattle.places.proofs.Parts.{moved, file-parts}
 use Rattle.files.specs.Say.{Aids, AfterAids, AidBytes, References, AfterReferences, Classes, ClassNth, Readable, OwnAid, DomainsAt, ImportsAt, ReferencesAt, ClassesAt, ClassPlaced}
@@ -31,8 +31,8 @@ module _ {f : Bytes} {i : ℕ} where
       (p .references) j
   references-read h l p e = let x = h l p e in (x .0 .classesAt, moved (x .0 .references) (x .1) refl refl)
 
-  pub classes-read : ClassesAt f i → (l : Limits) (p : Package) → readFile l f ≡ some p → Reads (counted mostClasses u1 (class l (p .domains))) f i
-      (p .classes) (length f)
+  pub classes-read : ClassesAt f i → (l : Limits) (p : Package) → readFile l f ≡ some p →
+      Reads (counted mostClasses u1 (class (formatOf l f) (p .domains))) f i (p .classes) (length f)
   classes-read h l p e = let x = h l p e in moved (x .0 .classes) (x .1) refl refl
 
   -- each list stands there

@@ -15,7 +15,7 @@ use mathlib.Core.Bool.{Bool, _&&_, not}
 use mathlib.Core.Option.{Option, none, some}
 use lib.Dec.{eqb}
 use Rattle.rules.specs.Bytes.{Bytes, Aid, same, at, u1, u2, aid, counted}
-use Rattle.rules.specs.Package.{Limits, mostReferences, mostClasses, mostMethods, Reference, Method, Class, Package, classNumber, reference, policy, method, class, readFile}
+use Rattle.rules.specs.Package.{Limits, formatOf, mostReferences, mostClasses, mostMethods, Reference, Method, Class, Package, classNumber, reference, policy, method, class, readFile}
 use Rattle.rules.specs.Classes.{declared, declaredInstance}
 use Rattle.places.specs.Reads.{Reads, Ends, EndsAt, Placed}
 use Rattle.places.specs.Parts.{FilePart}
@@ -71,14 +71,14 @@ AfterPolicy s i e = (ds : List Aid) → EndsAt (policy ds) s i e
 
 -- methods
 abbrev pub MethodThere : Bytes → ℕ → Type 0
-MethodThere s i = (l : Limits) × (ds : List Aid) × Ends (method l ds) s i
+MethodThere s i = (l : Limits) × (ds : List Aid) × Ends (method (formatOf l s) ds) s i
 
 abbrev pub AfterMethod : Bytes → ℕ → ℕ → Type 0
-AfterMethod s i e = (l : Limits) (ds : List Aid) → EndsAt (method l ds) s i e
+AfterMethod s i e = (l : Limits) (ds : List Aid) → EndsAt (method (formatOf l s) ds) s i e
 
 -- a fact of whatever method stands at a place
 abbrev pub OfMethod : Bytes → ℕ → (Limits → List Aid → Method → Type 0) → Type 0
-OfMethod s i q = (l : Limits) (ds : List Aid) (m : Method) (j : ℕ) → Reads (method l ds) s i m j → q l ds m
+OfMethod s i q = (l : Limits) (ds : List Aid) (m : Method) (j : ℕ) → Reads (method (formatOf l s) ds) s i m j → q l ds m
 
 abbrev pub PolicyAt : Bytes → ℕ → ℕ → Type 0
 PolicyAt s i e = OfMethod s i λ l ds m. (j : ℕ) × Reads (policy ds) s e (m .policy) j
@@ -102,43 +102,43 @@ abbrev pub CodeIs : Bytes → ℕ → Bytes → Type 0
 CodeIs s i r = OfMethod s i λ l ds m. r ≡ m .code
 
 abbrev pub Methods : Bytes → ℕ → Type 0
-Methods s i = (l : Limits) × (ds : List Aid) × Ends (counted mostMethods u1 (method l ds)) s i
+Methods s i = (l : Limits) × (ds : List Aid) × Ends (counted mostMethods u1 (method (formatOf l s) ds)) s i
 
 abbrev pub AfterMethods : Bytes → ℕ → ℕ → Type 0
-AfterMethods s i e = (l : Limits) (ds : List Aid) → EndsAt (counted mostMethods u1 (method l ds)) s i e
+AfterMethods s i e = (l : Limits) (ds : List Aid) → EndsAt (counted mostMethods u1 (method (formatOf l s) ds)) s i e
 
 -- classes
 abbrev pub ClassThere : Bytes → ℕ → Type 0
-ClassThere s i = (l : Limits) × (ds : List Aid) × Ends (class l ds) s i
+ClassThere s i = (l : Limits) × (ds : List Aid) × Ends (class (formatOf l s) ds) s i
 
 abbrev pub AfterClass : Bytes → ℕ → ℕ → Type 0
-AfterClass s i e = (l : Limits) (ds : List Aid) → EndsAt (class l ds) s i e
+AfterClass s i e = (l : Limits) (ds : List Aid) → EndsAt (class (formatOf l s) ds) s i e
 
 -- a fact of whatever class stands at a place, and of where it ends
 abbrev pub OfClass : Bytes → ℕ → (Limits → List Aid → Class → ℕ → Type 0) → Type 0
-OfClass s i q = (l : Limits) (ds : List Aid) (c : Class) (j : ℕ) → Reads (class l ds) s i c j → q l ds c j
+OfClass s i q = (l : Limits) (ds : List Aid) (c : Class) (j : ℕ) → Reads (class (formatOf l s) ds) s i c j → q l ds c j
 
 abbrev pub ParentsAt : Bytes → ℕ → ℕ → Type 0
 ParentsAt s i e = OfClass s i λ l ds k j. (n : ℕ) × Reads (counted (l .parents) u1 classNumber) s e (k .parents) n
 
 abbrev pub MethodsAt : Bytes → ℕ → ℕ → Type 0
-MethodsAt s i e = OfClass s i λ l ds k j. Reads (counted mostMethods u1 (method l ds)) s e (k .methods) j
+MethodsAt s i e = OfClass s i λ l ds k j. Reads (counted mostMethods u1 (method (formatOf l s) ds)) s e (k .methods) j
 
 abbrev pub InterfaceIs : Bytes → ℕ → Bool → Type 0
 InterfaceIs s i r = OfClass s i λ l ds k j. r ≡ k .interface
 
 abbrev pub DeclaredPlaced : Bytes → ℕ → ℕ → Spot → Type 0
-DeclaredPlaced s i n r = OfClass s i λ l ds k j. Placed (method l ds) s (declared k n) (spot r)
+DeclaredPlaced s i n r = OfClass s i λ l ds k j. Placed (method (formatOf l s) ds) s (declared k n) (spot r)
 
 abbrev pub InstancePlaced : Bytes → ℕ → ℕ → Spot → Type 0
-InstancePlaced s i n r = OfClass s i λ l ds k j. Placed (method l ds) s (declaredInstance k n) (spot r)
+InstancePlaced s i n r = OfClass s i λ l ds k j. Placed (method (formatOf l s) ds) s (declaredInstance k n) (spot r)
 
 abbrev pub Classes : Bytes → ℕ → Type 0
-Classes s i = (l : Limits) × (ds : List Aid) × Ends (counted mostClasses u1 (class l ds)) s i
+Classes s i = (l : Limits) × (ds : List Aid) × Ends (counted mostClasses u1 (class (formatOf l s) ds)) s i
 
 abbrev pub ClassNth : Bytes → ℕ → ℕ → Spot → Type 0
-ClassNth s i k r = (l : Limits) (ds : List Aid) (cs : List Class) (j : ℕ) → Reads (counted mostClasses u1 (class l ds)) s i cs j → Placed (class l ds) s
-    (at cs k) (spot r)
+ClassNth s i k r = (l : Limits) (ds : List Aid) (cs : List Class) (j : ℕ) → Reads (counted mostClasses u1 (class (formatOf l s) ds)) s i cs j →
+    Placed (class (formatOf l s) ds) s (at cs k) (spot r)
 
 -- a file
 abbrev pub Readable : Bytes → Type 0
@@ -166,4 +166,4 @@ ClassesAt f e = OfFile f λ l p t. t .classesAt ≡ e
 
 -- the record of its class k
 abbrev pub ClassPlaced : Bytes → ℕ → Spot → Type 0
-ClassPlaced f k r = (l : Limits) (p : Package) → readFile l f ≡ some p → Placed (class l (p .domains)) f (at (p .classes) k) (spot r)
+ClassPlaced f k r = (l : Limits) (p : Package) → readFile l f ≡ some p → Placed (class (formatOf l f) (p .domains)) f (at (p .classes) k) (spot r)

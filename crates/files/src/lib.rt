@@ -1,5 +1,6 @@
 // One package file, walked by places. Each function takes the file as a slice and a place in it.
 use fields::same_bytes;
+use fields::says_second;
 use fields::u2_at;
 use fields::wide;
 ghost use mathlib.Core.Path.{_≡_};
@@ -119,7 +120,11 @@ pub fn after_method(s: &[u8], at: usize) -> usize
     if b / 64 % 2 != 1 {
         return c;
     }
-    c + 2 + u2_at(s, c)
+    let e = c + 2 + u2_at(s, c);
+    if says_second(s) {
+        return e + 1 + 6 * wide(s[e]);
+    }
+    e
 }
 
 // The policy of the method at a place.

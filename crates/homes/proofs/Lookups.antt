@@ -24,7 +24,7 @@ use Rattle.store.specs.Entries.{part, FilesStand}
 use Rattle.store.specs.Answers.{FileSays, FileAt}
 use Rattle.store.specs.declared.FileSpot.{FileSpot}
 use Rattle.store.specs.declared.FileSpot.the-variants as FileSpots
-use Rattle.homes.specs.Homes.{fileOf, HomeThere, FoundIs, HomeSays, ByAid, ImportPlaced, NumberedIs, ClassPlaced}
+use Rattle.homes.specs.Homes.{fileOf, formatAt, HomeThere, FoundIs, HomeSays, ByAid, ImportPlaced, NumberedIs, ClassPlaced}
 use Rattle.homes.specs.declared.HomeFound.{HomeFound}
 use Rattle.homes.specs.declared.HomeFound.the-variants.{At, Nothing}
 use Rattle.homes.specs.declared.Home.{Home}
@@ -49,7 +49,7 @@ module _ (f s : Bytes) (h : Home) where
     -- a class's record in it
     pub class-placed : (n : ℕ) (r : Spot) → say.ClassPlaced g n r → ClassPlaced f s h n r
     class-placed n r p end es self i x t =
-        subst (λ (b : Bytes). Placed (class (storeLimits s) (x .pack .domains)) b (at (x .pack .classes) n) (spot r)) e
+        subst (λ (b : Bytes). Placed (class (formatAt s b) (x .pack .domains)) b (at (x .pack .classes) n) (spot r)) e
         (p (storeLimits s) (x .pack) (ap (readFile (storeLimits s)) e ∙ home-reads f s end es self (i .setting) h x t))
 
 -- the bytes from a place to the end

@@ -5,6 +5,7 @@
 -- Imports               == a setting in which question 13 was answered yes; Parents == and each parent exists, an own one with a smaller number
 -- ownHome end, homeOf s p == the home of the file being judged; of the package whose entry stands at place p
 -- fileOf f s h          == the file at home h
+-- formatAt s g          == what a file g is read by in the store s
 -- HomeIs f s end es self h x == the file of the installed package x, or of self, is the one at home h
 -- aidAt s i             == the AID that stands at place i of the store, its length before it
 -- DomainAt s d self     == the domain of the package being judged stands at place d
@@ -19,7 +20,7 @@ use mathlib.Core.Option.{Option, none, some}
 use lib.Dec.{T, eqb}
 use lib.ListN.{take, drop, getD}
 use Rattle.rules.specs.Bytes.{Bytes, Aid, pick, all, allFrom, at, aid}
-use Rattle.rules.specs.Package.{Limits, storeLimits, Package, class, readFile}
+use Rattle.rules.specs.Package.{Limits, Format, formatOf, storeLimits, Package, class, readFile}
 use Rattle.rules.specs.Store.{Entry, loaded, openingLength}
 use Rattle.rules.specs.Classes.{Installed, installed, byAid, packageNumbered}
 use Rattle.rules.specs.Questions.{q13-imports, parentExists}
@@ -71,6 +72,9 @@ homeOf s p = record { from = fileFrom s p; to = entryTo s p; before = p }
 -- the file at a home
 abbrev pub fileOf : Bytes → Bytes → Home → Bytes
 fileOf f s h = pick (eqb (h .from) 0) f (part s (h .from) (h .to))
+
+abbrev pub formatAt : Bytes → Bytes → Format
+formatAt s g = formatOf (storeLimits s) g
 
 -- an entry's file lies at a home
 pub record Stored (s : Bytes) (es : List Entry) (h : Home) (x : Installed) : Type 0 where
@@ -132,9 +136,11 @@ ImportPlaced g k r = (l : Limits) (p : Package) → readFile l g ≡ some p → 
 
 -- the place of the record of class n in the file at home h
 abbrev pub ClassPlaced : Bytes → Bytes → Home → ℕ → Spot → Type 0
-ClassPlaced f s h n r = OfHome f s h λ end es self x. Placed (class (storeLimits s) (x .pack .domains)) (fileOf f s h) (at (x .pack .classes) n) (spot r)
+ClassPlaced f s h n r = OfHome f s h λ end es self x. Placed (class (formatAt s (fileOf f s h)) (x .pack .domains)) (fileOf f s h)
+    (at (x .pack .classes) n) (spot r)
 
 -- the record of class n, as a part of the file at home h; no bytes where it has no such class
 abbrev pub RecordIs : Bytes → Bytes → Home → ℕ → Bytes → Type 0
-RecordIs f s h n r = OfHome f s h λ end es self x. (c : Spot) × Placed (class (storeLimits s) (x .pack .domains)) (fileOf f s h) (at (x .pack .classes) n)
+RecordIs f s h n r = OfHome f s h λ end es self x. (c : Spot) × Placed (class (formatAt s (fileOf f s h)) (x .pack .domains)) (fileOf f s h)
+    (at (x .pack .classes) n)
     (spot c) × (r ≡ recordFrom (fileOf f s h) c)

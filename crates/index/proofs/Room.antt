@@ -6,7 +6,7 @@ use mathlib.Core.List.{List}
 use mathlib.Core.Option.{some}
 use lib.ListN.{length, length-append}
 use Rattle.rules.specs.Bytes.{Bytes, Aid, aid}
-use Rattle.rules.specs.Package.{Limits, mostDomains, mostImports, mostReferences, mostClasses, Package, reference, class, readFile}
+use Rattle.rules.specs.Package.{Limits, formatOf, mostDomains, mostImports, mostReferences, mostClasses, Package, reference, class, readFile}
 use Rattle.rules.specs.Store.{loaded}
 use Rattle.places.proofs.Steady.{steady-aid, steady-reference, steady-class}
 use Rattle.places.proofs.Inverse.{counted-one, counted-two}
@@ -22,7 +22,8 @@ file-least l f p r =
     let d = counted-one mostDomains aid steady-aid f (t .domainsAt) (p .domains) (t .importsAt) (t .domains) in
     let i = counted-one mostImports aid steady-aid f (t .importsAt) (p .imports) (t .referencesAt) (t .imports) in
     let e = counted-two mostReferences reference steady-reference f (t .referencesAt) (p .references) (t .classesAt) (t .references) in
-    let c = counted-one mostClasses (class l (p .domains)) (steady-class l (p .domains)) f (t .classesAt) (p .classes) (length f) (t .classes) in
+    let c = counted-one mostClasses (class (formatOf l f) (p .domains)) (steady-class (formatOf l f) (p .domains)) f (t .classesAt) (p .classes)
+    (length f) (t .classes) in
     omega (arith, a .next, a .low)
 
 -- kind, body length and the length of the domain's AID, the domain's AID, the file

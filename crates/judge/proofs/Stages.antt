@@ -10,7 +10,7 @@ use Rattle.rules.specs.Bytes.{Bytes, Aid, pick, aid}
 use Rattle.rules.specs.Package.{Limits, standard, storeLimits, Package, readFile}
 use Rattle.rules.specs.Store.{Entry, loaded}
 use Rattle.rules.specs.Classes.{Installed, installed}
-use Rattle.rules.specs.Questions.{q15-names, q16-splits, q17-targets, q18-calls, q19-allowed, q20-running, q21-fits}
+use Rattle.rules.specs.Questions.{q15-names, q16-splits, q17-targets, q24-handlers, q18-calls, q19-allowed, q20-running, q21-fits}
 use Rattle.rules.specs.Operations.{Question, firstNo, packageQuestions}
 use Rattle.rules.proofs.Asked.{parents-yes}
 use Rattle.rules.proofs.Limits.{store-limits}
@@ -121,43 +121,45 @@ module _ (s : Bytes) (end : ℕ) (d : Aid) (f : Bytes) where
     of-file : (es : List Entry) (p : Package) → Asked14 s end d f es p → c ≡ fileNumber p
     of-file es p a = number (storeLimits s) p (a .read .reads)
 
-    -- 16 or 17
+    -- 16, 17 or 24
     number-16 : (c ≡ 0 → ⊥) → (c ≡ 18 → ⊥) → NumberFrom 15 s end d f c
     unfolding packageQuestions
     number-16 z y es p a =
         let e = of-file es p a in
         behind-15 es p a c (e ∙ sym (codes.number-no p (from 18 (asks s es d f p)) (λ x. z (e ∙ x)) (λ x. y (e ∙ x))))
 
-    -- 16 and 17 answered yes
-    behind-codes : (es : List Entry) (p : Package) → Asked14 s end d f es p → q16-splits p ≡ true → q17-targets p ≡ true → (r : ℕ) →
-        r ≡ firstNo (from 18 (asks s es d f p)) → r ≡ firstNo (from 15 (asks s es d f p))
+    -- 16, 17 and 24 answered yes
+    behind-codes : (es : List Entry) (p : Package) → Asked14 s end d f es p → q16-splits p ≡ true → q17-targets p ≡ true → q24-handlers p ≡ true →
+        (r : ℕ) → r ≡ firstNo (from 18 (asks s es d f p)) → r ≡ firstNo (from 15 (asks s es d f p))
     unfolding packageQuestions
-    behind-codes es p a x y r h =
-        behind-15 es p a r (number-yes 16 (q16-splits p) (from 17 (asks s es d f p)) r x (number-yes 17 (q17-targets p) (from 18 (asks s es d f p)) r y h))
+    behind-codes es p a x y z r h =
+        let from-24 = number-yes 24 (q24-handlers p) (from 18 (asks s es d f p)) r z h in
+        let from-17 = number-yes 17 (q17-targets p) (from 24 (asks s es d f p)) r y from-24 in
+        behind-15 es p a r (number-yes 16 (q16-splits p) (from 17 (asks s es d f p)) r x from-17)
 
-    -- neither: 18 and 19 are to be asked
-    behind-17 : c ≡ 18 → (r : ℕ) → NumberFrom 18 s end d f r → NumberFrom 15 s end d f r
-    behind-17 e r n es p a =
+    -- none of them: 18 and 19 are to be asked
+    behind-24 : c ≡ 18 → (r : ℕ) → NumberFrom 18 s end d f r → NumberFrom 15 s end d f r
+    behind-24 e r n es p a =
         let x = codes.number-18 p (sym (of-file es p a) ∙ e) in
-        behind-codes es p a (x .0) (x .1) r (n es p a)
+        behind-codes es p a (x .0) (x .1) (x .2) r (n es p a)
 
-    -- neither, and there are no calls: 18 and 19 are answered yes
+    -- none, and there are no calls: 18 and 19 are answered yes
     without-calls : c ≡ 0 → (r : ℕ) → NumberFrom 20 s end d f r → NumberFrom 15 s end d f r
     unfolding packageQuestions
     without-calls e r n es p a =
         let x = codes.number-0 p (sym (of-file es p a) ∙ e) in
         let is = installed (storeLimits s) es in
-        let from-19 = number-yes 19 (q19-allowed is (selfOf p)) (from 20 (asks s es d f p)) r (codes.quiet-19 is (selfOf p) (x .2)) (n es p a) in
-        let from-18 = number-yes 18 (q18-calls is (selfOf p)) (from 19 (asks s es d f p)) r (codes.quiet-18 is (selfOf p) (x .2)) from-19 in
-        behind-codes es p a (x .0) (x .1) r from-18
+        let from-19 = number-yes 19 (q19-allowed is (selfOf p)) (from 20 (asks s es d f p)) r (codes.quiet-19 is (selfOf p) (x .3)) (n es p a) in
+        let from-18 = number-yes 18 (q18-calls is (selfOf p)) (from 19 (asks s es d f p)) r (codes.quiet-18 is (selfOf p) (x .3)) from-19 in
+        behind-codes es p a (x .0) (x .1) (x .2) r from-18
 
-    -- 16 or 17, or no calls
+    -- 16, 17 or 24, or no calls
     pub codes-before : (c ≡ 18 → ⊥) → NumberBefore 15 20 s end d f c
     codes-before y = ((λ z. number-16 z y), without-calls)
 
     -- 18 and 19 behind them
     pub calls-behind : c ≡ 18 → (r : ℕ) → NumberBefore 18 20 s end d f r → NumberBefore 15 20 s end d f r
-    calls-behind e r b = ((λ z. behind-17 e r (b .0 z)), (λ z n from-20. behind-17 e n (b .1 z n from-20)))
+    calls-behind e r b = ((λ z. behind-24 e r (b .0 z)), (λ z n from-20. behind-24 e n (b .1 z n from-20)))
 
     -- every code splits
     pub codes-split : Asked14Some s end d f → c ≡ 18 → CodesSplit f

@@ -77,7 +77,7 @@ fn calls_number<'a>(
     calls::calls_ok(file, s, end, domain, &table, homes) as u32
 }
 
-// 16 and 17 of a file: the number of the first no; 18 where there is none and the file has calls, 0 where it has none.
+// 16, 17 and 24 of a file: the number of the first no; 18 where there is none and the file has calls, 0 where it has none.
 fn codes_number(s: &[u8], file: &[u8]) -> u8
     requires { ⌜ ReadSome (now s) (now file) ⌝ }
     ensures { λ r. ⌜ FileNumberIs (now (file .entry)) r ⌝ }
@@ -88,7 +88,7 @@ fn codes_number(s: &[u8], file: &[u8]) -> u8
     file_codes::codes_ok(file, &table, &mut starts, &mut targets)
 }
 
-// 15 to 19 of a file that passed 14: the number of the first no, or 0.
+// 15 to 17, 24, 18 and 19 of a file that passed 14: the number of the first no, or 0.
 fn inside_number<'a>(
     s: &'a [u8],
     end: usize,
@@ -226,7 +226,7 @@ fn file_answer<'a>(
     }
 }
 
-// Load: 3, 5, 10 to 21. In a domain's entry the AID stands behind the low byte of its length, two bytes behind the entry's start.
+// Load: 3, 5, 10 to 17, 24, 18 to 21. In a domain's entry the AID stands behind the low byte of its length, two bytes behind the entry's start.
 pub fn load_answer<'a>(
     s: &'a [u8],
     end: usize,

@@ -11,7 +11,7 @@ use lib.Seq.{getD-set-same, getD-set-other}
 use borrow.Author.Tests.{eqb-true, eqb-false}
 use Rattle.rules.specs.Bytes.{Bytes, at, u1, u2, aid, many, counted}
 use Rattle.rules.specs.Code.{u2At}
-use Rattle.rules.specs.Package.{Limits, mostDomains, mostImports, mostReferences, mostClasses, Class, Package, reference, class, readFile}
+use Rattle.rules.specs.Package.{Limits, formatOf, mostDomains, mostImports, mostReferences, mostClasses, Class, Package, reference, class, readFile}
 use Rattle.places.specs.Reads.{Reads, Placed}
 use Rattle.places.proofs.Steady.{steady-u1, steady-class}
 use Rattle.places.specs.Parts.{FilePart}
@@ -41,20 +41,26 @@ at-left (x ∷ xs) (suc c) y ys e = let z = at-left xs c y ys e in let q : suc c
 pub classes-few : (l : Limits) (g : Bytes) (p : Package) → readFile l g ≡ some p → length (p .classes) ≤ mostClasses
 classes-few l g p e =
     let t = file-parts l g p e in
-    let c = reads-counted mostClasses u1 (class l (p .domains)) steady-u1 g (t .classesAt) (p .classes) (length g) (t .classes) in
-    omega (arith, c .small, many-length (class l (p .domains)) (steady-class l (p .domains)) (c .number) g (c .place) (p .classes) (length g) (c .list))
+    let c = reads-counted mostClasses u1 (class (formatOf l g) (p .domains)) steady-u1 g (t .classesAt) (p .classes) (length g) (t .classes) in
+    omega (
+      arith,
+      c .small,
+      many-length (class (formatOf l g) (p .domains)) (steady-class (formatOf l g) (p .domains)) (c .number) g (c .place)
+          (p .classes) (length g) (c .list),
+    )
 
 -- its first class stands behind their count
 pub from-start : (g : Bytes) (i : ℕ) → ClassesAt g i → ClassesFrom g 0 (i + 1)
 from-start g i h = record { stands = first h; left = left }
   where
-    left : (l : Limits) (p : Package) → readFile l g ≡ some p → Reads (many (length (p .classes) - 0) (class l (p .domains))) g (i + 1) (p .classes) (length g)
+    left : (l : Limits) (p : Package) → readFile l g ≡ some p →
+        Reads (many (length (p .classes) - 0) (class (formatOf l g) (p .domains))) g (i + 1) (p .classes) (length g)
     left l p e =
-        let c = reads-counted mostClasses u1 (class l (p .domains)) steady-u1 g i (p .classes) (length g) (classes-read h l p e) in
+        let c = reads-counted mostClasses u1 (class (formatOf l g) (p .domains)) steady-u1 g i (p .classes) (length g) (classes-read h l p e) in
         let u = reads-u1 g i (c .number) (c .place) (c .count) in
         let n : length (p .classes) - 0 ≡ c .number = omega (
           arith,
-          many-length (class l (p .domains)) (steady-class l (p .domains)) (c .number) g
+          many-length (class (formatOf l g) (p .domains)) (steady-class (formatOf l g) (p .domains)) (c .number) g
               (c .place) (p .classes) (length g) (c .list),
         ) in
         rw (n, u .next) (c .list)
@@ -64,17 +70,19 @@ pub record Front (g : Bytes) (c i : ℕ) (l : Limits) (p : Package) : Type 0 whe
   pub one : Class
   pub end : ℕ
   pub is : at (p .classes) c ≡ some one
-  pub reads : Reads (class l (p .domains)) g i one end
-  pub rest : Reads (many (length (p .classes) - (c + 1)) (class l (p .domains))) g end (drop (c + 1) (p .classes)) (length g)
+  pub reads : Reads (class (formatOf l g) (p .domains)) g i one end
+  pub rest : Reads (many (length (p .classes) - (c + 1)) (class (formatOf l g) (p .domains))) g end (drop (c + 1) (p .classes)) (length g)
 
 module _ (g : Bytes) (c i : ℕ) where
   pub from-front : ClassFrom g c i → (l : Limits) (p : Package) → readFile l g ≡ some p → Front g c i l p
   from-front h l p e = go (length (p .classes) - c) refl (h .rest .left l p e)
     where
-      go : (n : ℕ) → n ≡ length (p .classes) - c → Reads (many n (class l (p .domains))) g i (drop c (p .classes)) (length g) → Front g c i l p
-      go zero q r = let z = reads-done (class l (p .domains)) 0 g i (drop c (p .classes)) (length g) (omega arith) r in absurd (omega (arith, z .1, h .inside))
+      go : (n : ℕ) → n ≡ length (p .classes) - c → Reads (many n (class (formatOf l g) (p .domains))) g i (drop c (p .classes)) (length g) → Front g c i l p
+      go zero q r = let z = reads-done (class (formatOf l g) (p .domains)) 0 g i (drop c (p .classes)) (length g) (omega arith) r in absurd
+          (omega (arith, z .1, h .inside))
       go (suc n) q r =
-          let z = reads-left (class l (p .domains)) (steady-class l (p .domains)) (suc n) g i (drop c (p .classes)) (length g) (omega arith) r in
+          let z = reads-left (class (formatOf l g) (p .domains)) (steady-class (formatOf l g) (p .domains)) (suc n) g i (drop c (p .classes))
+          (length g) (omega arith) r in
           let y = at-left (p .classes) c (z .one) (z .others) (z .are) in
           let m : suc n - 1 ≡ length (p .classes) - (c + 1) = omega (arith, q) in
           record { one = z .one; end = z .place; is = y .0; reads = z .reads; rest = rw (← m, ← y .1) (z .rest) }
@@ -89,7 +97,7 @@ module _ (g : Bytes) (c i : ℕ) where
   pub from-next : (d : ℕ) → Readable g → ClassFrom g c i → AfterClass g i d → ClassesFrom g (c + 1) d
   from-next d r h a = record { stands = next (h .rest .stands) (from-there h r) a; left = left }
     where
-      left : (l : Limits) (p : Package) → readFile l g ≡ some p → Reads (many (length (p .classes) - (c + 1)) (class l (p .domains))) g d
+      left : (l : Limits) (p : Package) → readFile l g ≡ some p → Reads (many (length (p .classes) - (c + 1)) (class (formatOf l g) (p .domains))) g d
           (drop (c + 1) (p .classes)) (length g)
       left l p e = let z = from-front h l p e in let q = a l (p .domains) (z .one) (z .end) (z .reads) in rw q (z .rest)
 
@@ -97,12 +105,13 @@ module _ (g : Bytes) (c i : ℕ) where
   pub from-end : ClassesFrom g c i → length g ≤ i → (k : ℕ) → c ≤ k → ClassPlaced g k Nothing
   from-end h le k ck l p e = go (length (p .classes) - c) refl (h .left l p e)
     where
-      go : (n : ℕ) → n ≡ length (p .classes) - c → Reads (many n (class l (p .domains))) g i (drop c (p .classes)) (length g) → Placed
-          (class l (p .domains)) g (at (p .classes) k) none
+      go : (n : ℕ) → n ≡ length (p .classes) - c → Reads (many n (class (formatOf l g) (p .domains))) g i (drop c (p .classes)) (length g) → Placed
+          (class (formatOf l g) (p .domains)) g (at (p .classes) k) none
       go zero q r = put-none (at-none (p .classes) k (omega (arith, q)))
       go (suc n) q r =
-          let z = reads-left (class l (p .domains)) (steady-class l (p .domains)) (suc n) g i (drop c (p .classes)) (length g) (omega arith) r in
-          let t = class-part l (p .domains) g i (z .one) (z .place) (z .reads) in
+          let z = reads-left (class (formatOf l g) (p .domains)) (steady-class (formatOf l g) (p .domains)) (suc n) g i (drop c (p .classes))
+          (length g) (omega arith) r in
+          let t = class-part (formatOf l g) (p .domains) g i (z .one) (z .place) (z .reads) in
           absurd (omega (arith, le, t .inside))
 
 -- behind the greatest count
@@ -115,7 +124,8 @@ file-size g r = let t = file-parts (r .0) g (r .1) (r .2) in (omega (arith, t .n
 
 -- the classes' count is inside
 pub classes-inside : (g : Bytes) (i : ℕ) → Readable g → ClassesAt g i → i < length g
-classes-inside g i r h = counted-inside (class (r .0) (r .1 .domains)) g mostClasses i (r .1 .classes) (length g) (classes-read h (r .0) (r .1) (r .2))
+classes-inside g i r h = counted-inside (class (formatOf (r .0) g) (r .1 .domains)) g mostClasses i (r .1 .classes) (length g)
+    (classes-read h (r .0) (r .1) (r .2))
 
 -- a place before the file's end
 pub from-inside : (g : Bytes) (c i size : ℕ) → Readable g → size ≡ u2At g 5 → i < size → ClassesFrom g c i → ClassFrom g c i

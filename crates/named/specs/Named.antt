@@ -17,7 +17,7 @@ use mathlib.Core.List.{List}
 use mathlib.Core.Option.{some}
 use lib.ListN.{length, drop, getD}
 use Rattle.rules.specs.Bytes.{Bytes, many}
-use Rattle.rules.specs.Package.{Limits, mostImports, mostClasses, Package, class, readFile}
+use Rattle.rules.specs.Package.{Limits, formatOf, mostImports, mostClasses, Package, class, readFile}
 use Rattle.rules.specs.Store.{Entry}
 use Rattle.rules.specs.Classes.{Installed}
 use Rattle.places.specs.Reads.{Reads}
@@ -53,7 +53,8 @@ pub data Stands (g : Bytes) : ℕ → ℕ → Type 0 where
 -- the classes from number c on, read from a place to the end of the file
 pub record ClassesFrom (g : Bytes) (c i : ℕ) : Type 0 where
   pub stands : Stands g c i
-  pub left : (l : Limits) (p : Package) → readFile l g ≡ some p → Reads (many (length (p .classes) - c) (class l (p .domains))) g i (drop c (p .classes))
+  pub left : (l : Limits) (p : Package) → readFile l g ≡ some p →
+      Reads (many (length (p .classes) - c) (class (formatOf l g) (p .domains))) g i (drop c (p .classes))
       (length g)
 
 -- class c is there

@@ -7,7 +7,7 @@ use mathlib.Core.List.{List, [], _∷_}
 use lib.Dec.{eqb}
 use lib.ListN.{length, getD, set, length-set}
 use Rattle.rules.specs.Bytes.{Bytes, Aid, all, u1, counted}
-use Rattle.rules.specs.Package.{Limits, mostMethods, Method, method}
+use Rattle.rules.specs.Package.{Limits, formatOf, mostMethods, Method, method}
 use Rattle.rules.specs.Questions.{namesDiffer, q15-names}
 use Rattle.places.specs.Reads.{Reads}
 use Rattle.places.proofs.Steady.{steady-u1, steady-method}
@@ -92,7 +92,7 @@ pub record NameLoop (b : Bool) (s : Bytes) (i count n c top : ℕ) (names : List
 pub names-start : (b : Bool) (s : Bytes) (i count : ℕ) (names : List ℕ) → Methods s i → count ≡ getD s i 0 → mostMethods ≤ length names →
     NameLoop b s i count 0 (i + 1) 0 names
 names-start b s i count names e h g = record {
-  few = few (reads-counted mostMethods u1 (method (e .0) (e .1)) steady-u1 s i (e .2 .0) (e .2 .1) (e .2 .2));
+  few = few (reads-counted mostMethods u1 (method (formatOf (e .0) s) (e .1)) steady-u1 s i (e .2 .0) (e .2 .1) (e .2 .2));
   size = g;
   below = (omega arith, λ i k. absurd (omega arith));
   walk = λ l ds xs j p. let y = methods-start {f = methodsOk b} h l ds xs j p in (y .0, rw left (y .1), y .2 ∙ on-start b names (y .0));
@@ -101,17 +101,19 @@ names-start b s i count names e h g = record {
     left : count - 0 ≡ count
     left = omega arith
 
-    few : Counted mostMethods u1 (method (e .0) (e .1)) s i (e .2 .0) (e .2 .1) → count ≤ mostMethods
+    few : Counted mostMethods u1 (method (formatOf (e .0) s) (e .1)) s i (e .2 .0) (e .2 .1) → count ≤ mostMethods
     few k = let u = reads-u1 s i (k .number) (k .place) (k .count) in omega (arith, k .small, u .byte, h)
 
 module _ (b : Bool) (s : Bytes) (i count n c top : ℕ) (names : List ℕ) (t : NameLoop b s i count n c top names) where
   pub names-here : n < count → Methods s i → MethodThere s c
   names-here h e = methods-here {left = count - n} (t .walk) (omega arith) e
 
-  abbrev front : n < count → (l : Limits) (ds : List Aid) (ms : List Method) (j : ℕ) → Reads (counted mostMethods u1 (method l ds)) s i ms j →
-      Front (method l ds) (steady-method l ds) s (counted mostMethods u1 (method l ds)) i (methodsOk b) (goesOn b names n) (count - n) c (t .walk l ds) ms j
+  abbrev front : n < count → (l : Limits) (ds : List Aid) (ms : List Method) (j : ℕ) → Reads (counted mostMethods u1 (method (formatOf l s) ds)) s i ms j →
+      Front (method (formatOf l s) ds) (steady-method (formatOf l s) ds) s (counted mostMethods u1 (method (formatOf l s) ds)) i (methodsOk b)
+      (goesOn b names n) (count - n) c (t .walk l ds) ms j
   front h l ds =
-      track-front (method l ds) (steady-method l ds) s (counted mostMethods u1 (method l ds)) i (methodsOk b) (goesOn b names n) (count - n) c (t .walk l ds)
+      track-front (method (formatOf l s) ds) (steady-method (formatOf l s) ds) s (counted mostMethods u1 (method (formatOf l s) ds)) i (methodsOk b)
+      (goesOn b names n) (count - n) c (t .walk l ds)
       (omega arith)
 
   pub names-form : n < count → FormIs s c b false → OkAt b s i false
@@ -151,7 +153,8 @@ module _ (b : Bool) (s : Bytes) (i count n c top : ℕ) (names : List ℕ) (t : 
   pub names-none : count ≤ n → OkAt b s i true
   names-none h l ds ms j p =
       let z =
-      track-done (method l ds) (steady-method l ds) s (counted mostMethods u1 (method l ds)) i (methodsOk b) (goesOn b names n) (count - n) c
+      track-done (method (formatOf l s) ds) (steady-method (formatOf l s) ds) s (counted mostMethods u1 (method (formatOf l s) ds)) i (methodsOk b)
+      (goesOn b names n) (count - n) c
       (t .walk l ds) (omega arith) ms j p
       in
       sym (z .1)

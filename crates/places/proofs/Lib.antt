@@ -6,3 +6,4 @@ pub mod Parts
 pub mod Track
 pub mod Search
 pub mod Places
+pub mod Handlers

@@ -11,14 +11,14 @@ use lib.Dec.{T, leb, ltb, eqb, leb→le, ltb→lt, eqb→eq}
 use lib.ListN.{length, drop, getD, drop-of-length-le}
 use borrow.Author.Tests.{eq-eqb}
 use Rattle.rules.specs.Bytes.{Bytes, Aid, pick, within, aidLength, Reader, _>>=_, ret, when, u1, u2, span, many, aid, counted, atEnd, exactly}
-use Rattle.rules.specs.Code.{u2At}
-use Rattle.rules.specs.Package.{Limits, mostDomains, mostImports, mostReferences, mostClasses, mostMethods, mostAllowed, Item, listed, ownDomain, Policy, every, only, ClassNumber, Reference, Method, Class, Package, classNumber, reference, ownIndex, item, items, policy, codeIf, bit, spareZero, methodOf, method, classOf, class, contents, sized, readFile}
+use Rattle.rules.specs.Code.{u2At, Handler}
+use Rattle.rules.specs.Package.{Limits, Format, formatOf, mostDomains, mostImports, mostReferences, mostClasses, mostMethods, mostAllowed, Item, listed, ownDomain, Policy, every, only, ClassNumber, Reference, Method, Class, Package, classNumber, reference, ownIndex, item, items, policy, codeIf, handlersIf, bit, spareZero, methodOf, method, classOf, class, contents, sized, readFile}
 use Rattle.rules.proofs.Tails.{packageOf, classesOf, referencesOf, importsOf, domainsOf}
 use Rattle.rules.proofs.Tests.{none-some, and-then-is, and-l, and-r, of-true}
 use Rattle.places.specs.Reads.{Reads}
 use Rattle.places.specs.Parts.{AidPart, ClassNumberPart, ReferencePart, itemAt, IsIndex, ItemPart, PolicyPart, CodePart, MethodPart, ClassPart, FilePart}
 use Rattle.places.proofs.Inverse.{reads-ret, reads-bind, reads-when, One, reads-u1, Two, reads-u2, Span, reads-span}
-use Rattle.places.proofs.Steady.{steady-u1, steady-many, steady-u2, steady-aid, steady-counted, steady-number, steady-reference, steady-item, steady-policy, steady-code, steady-method, steady-class}
+use Rattle.places.proofs.Steady.{steady-u1, steady-many, steady-u2, steady-aid, steady-counted, steady-number, steady-reference, steady-item, steady-policy, steady-code, steady-handlers, steady-method, steady-class}
 
 -- from another place or with another value that are the same
 pub moved : {A : Type 0} {r : Reader A} {s : Bytes} {i i′ : ℕ} {a a′ : A} {j j′ : ℕ} → Reads r s i a j → i ≡ i′ → a ≡ a′ → j ≡ j′ → Reads r s i′ a′ j′
@@ -137,23 +137,29 @@ code-part l s i c j p =
         let e = u .value in
         record { inside = u .inside; least = rw e a; most = rw e b; bytes = rw (e, u .next) (v .bytes); next = rw e (omega (arith, u .next, v .next)); to = t }
 
-pub method-part : (l : Limits) (ds : List Aid) (s : Bytes) (i : ℕ) (m : Method) (j : ℕ) → Reads (method l ds) s i m j → MethodPart l ds s i m j
+pub method-part : (t : Format) (ds : List Aid) (s : Bytes) (i : ℕ) (m : Method) (j : ℕ) → Reads (method t ds) s i m j → MethodPart t ds s i m j
 unfolding method
-method-part l ds s i m j p =
-    let body : ℕ → Reader Method = λ b. u2 >>= λ n. policy ds >>= λ p. codeIf l (bit 0x40 b) >>= λ c. ret (methodOf b n p c) in
+method-part t ds s i m j p =
+    let codes : ℕ → Reader Bytes = λ b. codeIf (t .limits) (bit 0x40 b) in
+    let guards : ℕ → Reader (List Handler) = λ b. handlersIf (t .edition) (bit 0x40 b) in
+    let whole : ℕ → ℕ → Policy → Reader Method = λ b n q. codes b >>= λ c. guards b >>= λ hs. ret (methodOf b n q c hs) in
+    let body : ℕ → Reader Method = λ b. u2 >>= λ n. policy ds >>= λ q. whole b n q in
     let x = reads-bind u1 (λ b. when (spareZero b) (body b)) steady-u1 s i m j p in
     let b = x .0 in
-    let t = reads-when (spareZero b) (body b) s (x .1) m j (x .3) in
-    let y = reads-bind u2 (λ n. policy ds >>= λ p. codeIf l (bit 0x40 b) >>= λ c. ret (methodOf b n p c)) steady-u2 s (x .1) m j (t .1) in
-    let z = reads-bind (policy ds) (λ p. codeIf l (bit 0x40 b) >>= λ c. ret (methodOf b (y .0) p c)) (steady-policy ds) s (y .1) m j (y .3) in
-    let w = reads-bind (codeIf l (bit 0x40 b)) (λ c. ret (methodOf b (y .0) (z .0) c)) (steady-code l (bit 0x40 b)) s (z .1) m j (z .3) in
-    let v = reads-ret (methodOf b (y .0) (z .0) (w .0)) s (w .1) m j (w .3) in
-    go b (x .1) (reads-u1 s i b (x .1) (x .2)) (y .0) (y .1) (reads-u2 s (x .1) (y .0) (y .1) (y .2)) (z .0) (z .1) (z .2) (w .0) (w .1) (w .2) (v .0) (v .1)
+    let y = reads-bind u2 (λ n. policy ds >>= λ q. whole b n q) steady-u2 s (x .1) m j ((reads-when (spareZero b) (body b) s (x .1) m j (x .3)) .1) in
+    let z = reads-bind (policy ds) (λ q. whole b (y .0) q) (steady-policy ds) s (y .1) m j (y .3) in
+    let made : Bytes → List Handler → Method = λ c hs. methodOf b (y .0) (z .0) c hs in
+    let w = reads-bind (codes b) (λ c. guards b >>= λ hs. ret (made c hs)) (steady-code (t .limits) (bit 0x40 b)) s (z .1) m j (z .3) in
+    let g = reads-bind (guards b) (λ hs. ret (made (w .0) hs)) (steady-handlers (t .edition) (bit 0x40 b)) s (w .1) m j (w .3) in
+    let v = reads-ret (made (w .0) (g .0)) s (g .1) m j (g .3) in
+    let bytes = reads-u1 s i b (x .1) (x .2) in
+    let name = reads-u2 s (x .1) (y .0) (y .1) (y .2) in
+    go b (x .1) bytes (y .0) (y .1) name (z .0) (z .1) (z .2) (w .0) (w .1) (w .2) (g .0) (moved (g .2) refl refl (v .1)) (v .0)
   where
-    go : (b x : ℕ) → One s i b x → (n y : ℕ) → Two s x n y → (q : Policy) (z : ℕ) → Reads (policy ds) s y q z → (c : Bytes) (w : ℕ) → Reads
-        (codeIf l (bit 0x40 b)) s z c w →
-        methodOf b n q c ≡ m → w ≡ j → MethodPart l ds s i m j
-    go b x u n y v q z r c w t e g =
+    go : (b x : ℕ) → One s i b x → (n y : ℕ) → Two s x n y → (q : Policy) (z : ℕ) → Reads (policy ds) s y q z →
+        (c : Bytes) (w : ℕ) → Reads (codeIf (t .limits) (bit 0x40 b)) s z c w →
+        (hs : List Handler) → Reads (handlersIf (t .edition) (bit 0x40 b)) s w hs j → methodOf b n q c hs ≡ m → MethodPart t ds s i m j
+    go b x u n y v q z r c w code hs guards e =
         let h = u .byte in record {
           inside = omega (arith, u .next, v .inside, v .next);
           visible = rw h (ap (λ (k : Method). k .visible) e);
@@ -162,31 +168,34 @@ method-part l ds s i m j p =
           name = ap (u2At s) (u .next) ∙ v .value ∙ ap (λ (k : Method). k .name) e;
           middle = z;
           policy = moved r (omega (arith, u .next, v .next)) (ap (λ (k : Method). k .policy) e) refl;
-          code = subst (λ (k : Method). Reads (codeIf l (k .implemented)) s z (k .code) j) e (moved t refl refl g);
+          behind = w;
+          code = subst (λ (k : Method). Reads (codeIf (t .limits) (k .implemented)) s z (k .code) w) e code;
+          handlers = subst (λ (k : Method). Reads (handlersIf (t .edition) (k .implemented)) s w (k .handlers) j) e guards;
         }
 
-pub class-part : (l : Limits) (ds : List Aid) (s : Bytes) (i : ℕ) (k : Class) (j : ℕ) → Reads (class l ds) s i k j → ClassPart l ds s i k j
+pub class-part : (t : Format) (ds : List Aid) (s : Bytes) (i : ℕ) (k : Class) (j : ℕ) → Reads (class t ds) s i k j → ClassPart t ds s i k j
 unfolding class
-class-part l ds s i k j p =
-    let parents : Reader (List ClassNumber) = counted (l .parents) u1 classNumber in
-    let methods : Reader (List Method) = counted mostMethods u1 (method l ds) in
+class-part t ds s i k j p =
+    let most = t .limits .parents in
+    let parents : Reader (List ClassNumber) = counted most u1 classNumber in
+    let methods : Reader (List Method) = counted mostMethods u1 (method t ds) in
     let x = reads-bind u1 (λ k. when (leb k 1) (parents >>= λ ps. methods >>= λ ms. ret (classOf k ps ms))) steady-u1 s i k j p in
     let b = x .0 in
-    let t = reads-when (leb b 1) (parents >>= λ ps. methods >>= λ ms. ret (classOf b ps ms)) s (x .1) k j (x .3) in
-    let y = reads-bind parents (λ ps. methods >>= λ ms. ret (classOf b ps ms)) (steady-counted (l .parents) u1 classNumber steady-u1 steady-number) s
-    (x .1) k j (t .1) in
-    let z = reads-bind methods (λ ms. ret (classOf b (y .0) ms)) (steady-counted mostMethods u1 (method l ds) steady-u1 (steady-method l ds)) s (y .1) k j
+    let h = reads-when (leb b 1) (parents >>= λ ps. methods >>= λ ms. ret (classOf b ps ms)) s (x .1) k j (x .3) in
+    let y = reads-bind parents (λ ps. methods >>= λ ms. ret (classOf b ps ms)) (steady-counted most u1 classNumber steady-u1 steady-number) s
+    (x .1) k j (h .1) in
+    let z = reads-bind methods (λ ms. ret (classOf b (y .0) ms)) (steady-counted mostMethods u1 (method t ds) steady-u1 (steady-method t ds)) s (y .1) k j
     (y .3) in
     let v = reads-ret (classOf b (y .0) (z .0)) s (z .1) k j (z .3) in
-    go b (x .1) (reads-u1 s i b (x .1) (x .2)) (t .0) (y .0) (y .1) (y .2) (z .0) (z .1) (z .2) (v .0) (v .1)
+    go b (x .1) (reads-u1 s i b (x .1) (x .2)) (h .0) (y .0) (y .1) (y .2) (z .0) (z .1) (z .2) (v .0) (v .1)
   where
-    go : (b x : ℕ) → One s i b x → T (leb b 1) → (ps : List ClassNumber) (y : ℕ) → Reads (counted (l .parents) u1 classNumber) s x ps y →
-        (ms : List Method) (z : ℕ) → Reads (counted mostMethods u1 (method l ds)) s y ms z →
-        classOf b ps ms ≡ k → z ≡ j → ClassPart l ds s i k j
-    go b x u t ps y q ms z r e g =
+    go : (b x : ℕ) → One s i b x → T (leb b 1) → (ps : List ClassNumber) (y : ℕ) → Reads (counted (t .limits .parents) u1 classNumber) s x ps y →
+        (ms : List Method) (z : ℕ) → Reads (counted mostMethods u1 (method t ds)) s y ms z →
+        classOf b ps ms ≡ k → z ≡ j → ClassPart t ds s i k j
+    go b x u small ps y q ms z r e g =
         let h = u .byte in record {
           inside = u .inside;
-          kind = rw h (leb→le b 1 t);
+          kind = rw h (leb→le b 1 small);
           interface = rw h (ap (λ (c : Class). c .interface) e);
           middle = y;
           parents = moved q (sym (u .next)) (ap (λ (c : Class). c .parents) e) refl;
@@ -209,26 +218,27 @@ reads-exactly {A} r s i a h e =
         let w : x .1 ≡ drop (length s) s = z ∙ sym (drop-of-length-le s {i = length s} (omega arith)) in
         record { is = q ∙ ap₂ (λ (u : A) (v : Bytes). some (u, v)) y w; from = h; to = omega arith }
 
-contents-part : (l : Limits) (f : Bytes) (p : Package) → u2At f 5 ≡ length f → Reads (contents l) f 7 p (length f) → FilePart l f p
+contents-part : (l : Limits) (f : Bytes) (p : Package) → u2At f 5 ≡ length f → Reads (contents (formatOf l f)) f 7 p (length f) → FilePart l f p
 unfolding contents domainsOf importsOf referencesOf classesOf
 contents-part l f p size r =
     let n = length f in
+    let t = formatOf l f in
     let aids : ℕ → Reader (List Aid) = λ most. counted most u1 aid in
-    let a = reads-bind aid (λ a. domainsOf l a) steady-aid f 7 p n r in
-    let d = reads-bind (aids mostDomains) (λ ds. importsOf l (a .0) ds) (steady-counted mostDomains u1 aid steady-u1 steady-aid) f (a .1) p n (a .3) in
-    let i = reads-bind (aids mostImports) (λ is. referencesOf l (a .0) (d .0) is) (steady-counted mostImports u1 aid steady-u1 steady-aid) f (d .1) p n
+    let a = reads-bind aid (λ a. domainsOf t a) steady-aid f 7 p n r in
+    let d = reads-bind (aids mostDomains) (λ ds. importsOf t (a .0) ds) (steady-counted mostDomains u1 aid steady-u1 steady-aid) f (a .1) p n (a .3) in
+    let i = reads-bind (aids mostImports) (λ is. referencesOf t (a .0) (d .0) is) (steady-counted mostImports u1 aid steady-u1 steady-aid) f (d .1) p n
     (d .3) in
-    let e = reads-bind (counted mostReferences u2 reference) (λ rs. classesOf l (a .0) (d .0) (i .0) rs)
+    let e = reads-bind (counted mostReferences u2 reference) (λ rs. classesOf t (a .0) (d .0) (i .0) rs)
     (steady-counted mostReferences u2 reference steady-u2 steady-reference) f (i .1) p n (i .3) in
-    let c = reads-bind (counted mostClasses u1 (class l (d .0))) (λ cs. ret (packageOf (a .0) (d .0) (i .0) (e .0) cs))
-    (steady-counted mostClasses u1 (class l (d .0)) steady-u1 (steady-class l (d .0))) f (e .1) p n (e .3) in
+    let c = reads-bind (counted mostClasses u1 (class t (d .0))) (λ cs. ret (packageOf (a .0) (d .0) (i .0) (e .0) cs))
+    (steady-counted mostClasses u1 (class t (d .0)) steady-u1 (steady-class t (d .0))) f (e .1) p n (e .3) in
     let z = reads-ret (packageOf (a .0) (d .0) (i .0) (e .0) (c .0)) f (c .1) p n (c .3) in
     go (a .0) (a .1) (a .2) (d .0) (d .1) (d .2) (i .0) (i .1) (i .2) (e .0) (e .1) (e .2) (c .0) (c .1) (c .2) (z .0) (z .1)
   where
     go : (a : Aid) (x : ℕ) → Reads aid f 7 a x → (ds : List Aid) (y : ℕ) → Reads (counted mostDomains u1 aid) f x ds y → (is : List Aid) (z : ℕ) → Reads
         (counted mostImports u1 aid) f y is z →
         (rs : List Reference) (v : ℕ) → Reads (counted mostReferences u2 reference) f z rs v → (cs : List Class) (w : ℕ) → Reads
-        (counted mostClasses u1 (class l ds)) f v cs w →
+        (counted mostClasses u1 (class (formatOf l f) ds)) f v cs w →
         packageOf a ds is rs cs ≡ p → w ≡ length f → FilePart l f p
     go a x q ds y d is z i rs v e cs w c g h = subst (λ (q : Package). FilePart l f q) g (record {
       size = size;
@@ -251,9 +261,9 @@ file-parts l f p e = elim (decLe 5 (length f)) [
       let d : drop 5 f ≡ [] = drop-of-length-le f {i = 5} (omega arith) in
       absurd (none-some (rw d at e))
   | yes h ↦
-      let r = reads-exactly (sized l (length f)) f 5 p h e in
-      let x = reads-bind u2 (λ size. when (eqb size (length f)) (contents l)) steady-u2 f 5 p (length f) r in
-      let y = reads-when (eqb (x .0) (length f)) (contents l) f (x .1) p (length f) (x .3) in
+      let r = reads-exactly (sized (formatOf l f) (length f)) f 5 p h e in
+      let x = reads-bind u2 (λ size. when (eqb size (length f)) (contents (formatOf l f))) steady-u2 f 5 p (length f) r in
+      let y = reads-when (eqb (x .0) (length f)) (contents (formatOf l f)) f (x .1) p (length f) (x .3) in
       let u = reads-u2 f 5 (x .0) (x .1) (x .2) in
       contents-part l f p (u .value ∙ eqb→eq (x .0) (length f) (y .0)) (moved (y .1) (sym (u .next)) refl refl)
 ]

@@ -10,8 +10,8 @@ use lib.Dec.{leb, ltb, eqb, leb→le}
 use lib.ListN.{length, take, drop, getD, length-drop, drop-of-length-le}
 use lib.Seq.{drop-drop, drop-cons}
 use Rattle.rules.specs.Bytes.{Bytes, Aid, pick, all, _andThen_, within, aidLength, Reader, _>>=_, ret, when, u1, u2, span, many, aid, counted}
-use Rattle.rules.specs.Code.{u2At}
-use Rattle.rules.specs.Package.{Limits, mostAllowed, mostMethods, listed, ownDomain, every, only, ClassNumber, Method, classNumber, reference, ownIndex, item, items, policy, codeIf, bit, spareZero, methodOf, method, classOf, class}
+use Rattle.rules.specs.Code.{u2At, Handler}
+use Rattle.rules.specs.Package.{Limits, Edition, edition1, edition2, Format, mostAllowed, mostMethods, mostHandlers, listed, ownDomain, Policy, every, only, ClassNumber, Method, classNumber, reference, ownIndex, item, items, policy, codeIf, handler, handlersIf, bit, spareZero, methodOf, method, classOf, class}
 use Rattle.rules.proofs.Tests.{none-some, and-then-is}
 use Rattle.rules.proofs.Lists.{andThen-cong, pick-some}
 
@@ -161,22 +161,37 @@ unfolding codeIf
 steady-code l false = steady-ret []
 steady-code l true = steady-bind u2 _ steady-u2 (λ n. steady-when (within 1 (l .code) n) (span n) (steady-span n))
 
-pub steady-method : (l : Limits) (ds : List Aid) → Steady (method l ds)
-unfolding method
-steady-method l ds =
-    let body : ℕ → Reader Method = λ b. u2 >>= λ n. policy ds >>= λ p. codeIf l (bit 0x40 b) >>= λ c. ret (methodOf b n p c) in
-    steady-bind u1 (λ b. when (spareZero b) (body b)) steady-u1 (λ b. steady-when (spareZero b) (body b)
-    (steady-bind u2 (λ n. policy ds >>= λ p. codeIf l (bit 0x40 b) >>= λ c. ret (methodOf b n p c)) steady-u2 (λ n.
-    steady-bind (policy ds) (λ p. codeIf l (bit 0x40 b) >>= λ c. ret (methodOf b n p c)) (steady-policy ds) (λ p.
-    steady-bind (codeIf l (bit 0x40 b)) (λ c. ret (methodOf b n p c)) (steady-code l (bit 0x40 b)) (λ c. steady-ret (methodOf b n p c))))))
+pub steady-handler : Steady handler
+unfolding handler
+steady-handler = steady-bind u2 _ steady-u2 (λ s. steady-bind u2 _ steady-u2 (λ e. steady-bind u2 _ steady-u2 (λ t. steady-ret _)))
 
-pub steady-class : (l : Limits) (ds : List Aid) → Steady (class l ds)
+pub steady-handlers : (e : Edition) (b : Bool) → Steady (handlersIf e b)
+unfolding handlersIf
+steady-handlers e false = steady-ret []
+steady-handlers edition1 true = steady-ret []
+steady-handlers edition2 true = steady-counted mostHandlers u1 handler steady-u1 steady-handler
+
+pub steady-method : (t : Format) (ds : List Aid) → Steady (method t ds)
+unfolding method
+steady-method t ds =
+    let codes : ℕ → Reader Bytes = λ b. codeIf (t .limits) (bit 0x40 b) in
+    let guards : ℕ → Reader (List Handler) = λ b. handlersIf (t .edition) (bit 0x40 b) in
+    let whole : ℕ → ℕ → Policy → Reader Method = λ b n p. codes b >>= λ c. guards b >>= λ hs. ret (methodOf b n p c hs) in
+    let body : ℕ → Reader Method = λ b. u2 >>= λ n. policy ds >>= λ p. whole b n p in
+    steady-bind u1 (λ b. when (spareZero b) (body b)) steady-u1 (λ b. steady-when (spareZero b) (body b)
+    (steady-bind u2 (λ n. policy ds >>= λ p. whole b n p) steady-u2 (λ n.
+    steady-bind (policy ds) (λ p. whole b n p) (steady-policy ds) (λ p.
+    steady-bind (codes b) (λ c. guards b >>= λ hs. ret (methodOf b n p c hs)) (steady-code (t .limits) (bit 0x40 b)) (λ c.
+    steady-bind (guards b) (λ hs. ret (methodOf b n p c hs)) (steady-handlers (t .edition) (bit 0x40 b)) (λ hs. steady-ret (methodOf b n p c hs)))))))
+
+pub steady-class : (t : Format) (ds : List Aid) → Steady (class t ds)
 unfolding class
-steady-class l ds =
-    let parents : Reader (List ClassNumber) = counted (l .parents) u1 classNumber in
-    let methods : Reader (List Method) = counted mostMethods u1 (method l ds) in
+steady-class t ds =
+    let most = t .limits .parents in
+    let parents : Reader (List ClassNumber) = counted most u1 classNumber in
+    let methods : Reader (List Method) = counted mostMethods u1 (method t ds) in
     steady-bind u1 (λ k. when (leb k 1) (parents >>= λ ps. methods >>= λ ms. ret (classOf k ps ms))) steady-u1 (λ k.
     steady-when (leb k 1) (parents >>= λ ps. methods >>= λ ms. ret (classOf k ps ms))
-    (steady-bind parents (λ ps. methods >>= λ ms. ret (classOf k ps ms)) (steady-counted (l .parents) u1 classNumber steady-u1 steady-number) (λ ps.
-    steady-bind methods (λ ms. ret (classOf k ps ms)) (steady-counted mostMethods u1 (method l ds) steady-u1 (steady-method l ds))
+    (steady-bind parents (λ ps. methods >>= λ ms. ret (classOf k ps ms)) (steady-counted most u1 classNumber steady-u1 steady-number) (λ ps.
+    steady-bind methods (λ ms. ret (classOf k ps ms)) (steady-counted mostMethods u1 (method t ds) steady-u1 (steady-method t ds))
     (λ ms. steady-ret (classOf k ps ms)))))

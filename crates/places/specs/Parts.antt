@@ -4,17 +4,18 @@
 -- itemAt ds i         == the item that index i stands for; IsIndex ds i == it is FE, or below the domain count
 -- PolicyPart          == FF alone, or a count and that many items
 -- CodePart            == a code length and the code
+-- handlersAt n s i    == n handlers at a place, by their bytes; handlersIn bs == those that bytes are; HandlersPart == a count and that many handlers
 -- MethodPart, ClassPart == a method or a class, with the places where its lists stand
 -- FilePart l f p      == a file and the package that it reads as, with the places where the package's lists stand
-use Prim.Native.Nat.{ℕ, _+_, _≤_, _<_}
+use Prim.Native.Nat.{ℕ, zero, suc, _+_, _*_, _/_, _≤_, _<_}
 use mathlib.Core.Path.{_≡_}
-use mathlib.Core.List.{List, []}
+use mathlib.Core.List.{List, [], _∷_}
 use mathlib.Core.Logic.{_⊎_}
 use lib.Dec.{eqb}
 use lib.ListN.{length, take, drop, getD}
 use Rattle.rules.specs.Bytes.{Bytes, Aid, pick, leastAid, mostAid, u1, u2, many, aid, counted}
-use Rattle.rules.specs.Code.{u2At}
-use Rattle.rules.specs.Package.{Limits, mostDomains, mostImports, mostReferences, mostClasses, mostMethods, mostAllowed, Item, listed, ownDomain, Policy, every, only, ClassNumber, Reference, Method, Class, Package, classNumber, reference, ownIndex, item, policy, codeIf, bit, method, class}
+use Rattle.rules.specs.Code.{u2At, Handler}
+use Rattle.rules.specs.Package.{Limits, Format, formatOf, mostDomains, mostImports, mostReferences, mostClasses, mostMethods, mostAllowed, mostHandlers, Item, listed, ownDomain, Policy, every, only, ClassNumber, Reference, Method, Class, Package, classNumber, reference, ownIndex, item, policy, codeIf, handlersIf, bit, method, class}
 use Rattle.places.specs.Reads.{Reads}
 
 -- an AID with its length
@@ -82,8 +83,29 @@ pub record CodePart (l : Limits) (s : Bytes) (i : ℕ) (c : Bytes) (j : ℕ) : T
   pub next : i + 2 + u2At s i ≡ j
   pub to : j ≤ length s
 
--- the policy stands at i + 3, the code, if there is one, at `middle`
-pub record MethodPart (l : Limits) (ds : List Aid) (s : Bytes) (i : ℕ) (m : Method) (j : ℕ) : Type 0 where
+-- the handler whose three fields stand at a place
+abbrev pub handlerAt : Bytes → ℕ → Handler
+handlerAt s i = record { start = u2At s i; end = u2At s (i + 2); target = u2At s (i + 4) }
+
+-- so many of them, one behind the other
+unfoldable pub handlersAt : ℕ → Bytes → ℕ → List Handler
+handlersAt zero s i = []
+handlersAt (suc n) s i = handlerAt s i ∷ handlersAt n s (i + 6)
+
+-- the handlers that bytes are, six each
+abbrev pub handlersIn : Bytes → List Handler
+handlersIn bs = handlersAt (length bs / 6) bs 0
+
+-- a count and that many handlers
+pub record HandlersPart (s : Bytes) (i : ℕ) (hs : List Handler) (j : ℕ) : Type 0 where
+  pub inside : i < length s
+  pub few : getD s i 0 ≤ mostHandlers
+  pub are : handlersAt (getD s i 0) s (i + 1) ≡ hs
+  pub next : i + 1 + 6 * getD s i 0 ≡ j
+  pub to : j ≤ length s
+
+-- the policy stands at i + 3, the code, if there is one, at `middle`, its handlers, if there are, at `behind`
+pub record MethodPart (t : Format) (ds : List Aid) (s : Bytes) (i : ℕ) (m : Method) (j : ℕ) : Type 0 where
   pub inside : i + 3 ≤ length s
   pub visible : bit 0x80 (getD s i 0) ≡ m .visible
   pub implemented : bit 0x40 (getD s i 0) ≡ m .implemented
@@ -91,16 +113,18 @@ pub record MethodPart (l : Limits) (ds : List Aid) (s : Bytes) (i : ℕ) (m : Me
   pub name : u2At s (i + 1) ≡ m .name
   pub middle : ℕ
   pub policy : Reads (policy ds) s (i + 3) (m .policy) middle
-  pub code : Reads (codeIf l (m .implemented)) s middle (m .code) j
+  pub behind : ℕ
+  pub code : Reads (codeIf (t .limits) (m .implemented)) s middle (m .code) behind
+  pub handlers : Reads (handlersIf (t .edition) (m .implemented)) s behind (m .handlers) j
 
 -- the parents stand at i + 1, the methods at `middle`
-pub record ClassPart (l : Limits) (ds : List Aid) (s : Bytes) (i : ℕ) (k : Class) (j : ℕ) : Type 0 where
+pub record ClassPart (t : Format) (ds : List Aid) (s : Bytes) (i : ℕ) (k : Class) (j : ℕ) : Type 0 where
   pub inside : i < length s
   pub kind : getD s i 0 ≤ 1
   pub interface : eqb (getD s i 0) 1 ≡ k .interface
   pub middle : ℕ
-  pub parents : Reads (counted (l .parents) u1 classNumber) s (i + 1) (k .parents) middle
-  pub methods : Reads (counted mostMethods u1 (method l ds)) s middle (k .methods) j
+  pub parents : Reads (counted (t .limits .parents) u1 classNumber) s (i + 1) (k .parents) middle
+  pub methods : Reads (counted mostMethods u1 (method t ds)) s middle (k .methods) j
 
 -- a file and the package that it reads as: where the package's lists stand
 pub record FilePart (l : Limits) (f : Bytes) (p : Package) : Type 0 where
@@ -113,4 +137,4 @@ pub record FilePart (l : Limits) (f : Bytes) (p : Package) : Type 0 where
   pub domains : Reads (counted mostDomains u1 aid) f domainsAt (p .domains) importsAt
   pub imports : Reads (counted mostImports u1 aid) f importsAt (p .imports) referencesAt
   pub references : Reads (counted mostReferences u2 reference) f referencesAt (p .references) classesAt
-  pub classes : Reads (counted mostClasses u1 (class l (p .domains))) f classesAt (p .classes) (length f)
+  pub classes : Reads (counted mostClasses u1 (class (formatOf l f) (p .domains))) f classesAt (p .classes) (length f)

@@ -1,5 +1,6 @@
 -- What the package reader answers, said by the definitions. Assumes nothing.
 --
+-- StopsFor n r s i o   == the place o is told of the reader r of every list of n domains
 -- numberOf r           == the number of an answer: 10, 11, or 0 where the file is a package
 -- Stand q f i          == the lists of a file whose AID stands at place i stand at the places q
 -- ContentsRead l f i r == the answer for what follows the size, from place i on
@@ -7,10 +8,11 @@
 -- PackageRead l f r    == the answer for a file: its number, and the places of the lists of the package
 use Prim.Native.Nat.{ℕ}
 use mathlib.Core.Path.{_≡_}
-use mathlib.Core.List.{[], _∷_}
+use mathlib.Core.List.{List, [], _∷_}
 use mathlib.Core.Option.{Option, none, some}
-use Rattle.rules.specs.Bytes.{Bytes, aid, u1, u2, counted}
-use Rattle.rules.specs.Package.{Limits, Package, mostDomains, mostImports, mostReferences, reference, contents, readFile}
+use lib.ListN.{length}
+use Rattle.rules.specs.Bytes.{Bytes, Aid, Reader, aid, u1, u2, counted}
+use Rattle.rules.specs.Package.{Limits, formatOf, Package, mostDomains, mostImports, mostReferences, reference, contents, readFile}
 use Rattle.rules.specs.Questions.{q10-marked, q11-reads}
 use Rattle.rules.specs.Operations.{firstNo}
 use Rattle.places.specs.Parts.{FilePart}
@@ -21,6 +23,10 @@ use Rattle.reader.specs.declared.Contents.{Contents}
 use Rattle.reader.specs.declared.Contents.the-variants as contentsAre
 use Rattle.reader.specs.declared.Read.{Read}
 use Rattle.reader.specs.declared.Read.the-variants as read
+
+-- the code knows how many domains a file lists, and not which
+abbrev pub StopsFor : {A : Type 0} → ℕ → (List Aid → Reader A) → Bytes → ℕ → Option ℕ → Type 0
+StopsFor n r s i o = (ds : List Aid) → length ds ≡ n → Stops (r ds) s i o
 
 abbrev pub numberOf : Read → ℕ
 numberOf read.Unmarked = 10
@@ -40,7 +46,7 @@ contentsSaid (contentsAre.Are q c) = some (c .at .0)
 contentsSaid contentsAre.Bad = none
 
 pub record ContentsRead (l : Limits) (f : Bytes) (i : ℕ) (r : Contents) : Type 0 where
-  pub stops : Stops (contents l) f i (contentsSaid r)
+  pub stops : Stops (contents (formatOf l f)) f i (contentsSaid r)
   pub stand : (q : Places) (c : Cursor) → r ≡ contentsAre.Are q c → Stand q f i
 
 -- the lists of a package stand at these places

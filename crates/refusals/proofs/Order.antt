@@ -34,17 +34,21 @@ module _ (n : ℕ) where
   unfolding rank
   rank-17 e = rw e refl
 
-  pub rank-18 : n ≡ 18 → rank n ≡ 2
+  pub rank-24 : n ≡ 24 → rank n ≡ 2
+  unfolding rank
+  rank-24 e = rw e refl
+
+  pub rank-18 : n ≡ 18 → rank n ≡ 3
   unfolding rank
   rank-18 e = rw e refl
 
-  pub rank-19 : n ≡ 19 → rank n ≡ 3
+  pub rank-19 : n ≡ 19 → rank n ≡ 4
   unfolding rank
   rank-19 e = rw e refl
 
-  pub rank-else : (n ≡ 16 → ⊥) → (n ≡ 17 → ⊥) → (n ≡ 18 → ⊥) → (n ≡ 19 → ⊥) → rank n ≡ 4
+  pub rank-else : (n ≡ 16 → ⊥) → (n ≡ 17 → ⊥) → (n ≡ 24 → ⊥) → (n ≡ 18 → ⊥) → (n ≡ 19 → ⊥) → rank n ≡ 5
   unfolding rank
-  rank-else a b d e = rw (ne-eqb n 16 a, ne-eqb n 17 b, ne-eqb n 18 d, ne-eqb n 19 e)
+  rank-else a b d e f = rw (ne-eqb n 16 a, ne-eqb n 17 b, ne-eqb n 24 d, ne-eqb n 18 e, ne-eqb n 19 f)
 
 -- no refusal stands last
 pub rank-most : (n : ℕ) → rank n ≤ rank 0

@@ -17,7 +17,7 @@ use Rattle.rules.specs.Operations.{Question, firstNo}
 
 -- a further question is a row here, at its place in a load's list, and one in `rank` of the code
 abbrev pub asked : List ℕ
-asked = 16 ∷ 17 ∷ 18 ∷ 19 ∷ []
+asked = 16 ∷ 17 ∷ 24 ∷ 18 ∷ 19 ∷ []
 
 -- how many numbers of a list stand before n
 abbrev pub rankIn : List ℕ → ℕ → ℕ

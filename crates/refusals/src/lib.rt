@@ -12,13 +12,16 @@ fn rank(n: u8) -> u8
     if n == 17 {
         return 1;
     }
-    if n == 18 {
+    if n == 24 {
         return 2;
     }
-    if n == 19 {
+    if n == 18 {
         return 3;
     }
-    4
+    if n == 19 {
+        return 4;
+    }
+    5
 }
 
 // Of two answers the one that stands first in the list; 0 is no refusal.

@@ -130,6 +130,7 @@ module _ (is js : List Installed) (R : Installed → Type 0)
       q15 = i .q15;
       q16 = i .q16;
       q17 = i .q17;
+      q24 = i .q24;
       q18 = subst T q18-agree (i .q18);
       q19 = subst T q19-agree (i .q19);
       q20 = subst T q20-agree (i .q20);

@@ -1,10 +1,11 @@
--- The laws about the definitions. Demand1, Demand2 and Demand3 are the claims of document 01, Request5 and Request2 those of document 02;
--- Exact says what single definitions are exactly; Witness and WitnessOwn show that demand 3 is not empty.
+-- The laws about the definitions. Demand1, Demand2 and Demand3 are the claims of document 01, Request5, Request2 and Request7 those of document
+-- 02; Exact says what single definitions are exactly; Witness, WitnessOwn and WitnessHandlers show that demand 3 is not empty.
 pub mod Demand1
 pub mod Demand2
 pub mod Demand3
 pub mod Request5
 pub mod Request2
+pub mod Request7
 pub mod Exact
 pub mod Claims
 pub mod Answers
@@ -12,6 +13,7 @@ pub mod LaidOut
 pub mod Witness
 pub mod Located
 pub mod WitnessOwn
+pub mod WitnessHandlers
 pub mod Whole
 pub mod Paths
 pub mod Ledger
@@ -36,6 +38,11 @@ pub mod Back
 pub mod Bounds
 pub mod Lengths
 pub mod Signed
+pub mod Splitting
+pub mod Cuts
+pub mod Editions
+pub mod Handlers
+pub mod HandlerCalls
 pub mod Lists
 pub mod Tests
 pub mod Limits

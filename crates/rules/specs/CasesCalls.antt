@@ -10,7 +10,7 @@ use mathlib.Core.List.{List, [], _∷_}
 use lib.ListN.{take}
 use Rattle.rules.specs.Bytes.{Bytes, Aid, pick, someAnd}
 use Rattle.rules.specs.Code.{signed, numbersFrom, lengthOf, lengthAs, instructionLength, splitFrom, split, callAt, callsOf}
-use Rattle.rules.specs.Package.{standard, classNumber, reference, item, items, policy, codeIf, method, class, contents, sized, readFile}
+use Rattle.rules.specs.Package.{standard, classNumber, reference, item, items, policy, codeIf, handler, handlersIf, method, class, contents, sized, editionOf, readFile}
 use Rattle.rules.specs.Store.{Entry, domain, loaded}
 use Rattle.rules.specs.Classes.{Installed, installed}
 use Rattle.rules.specs.Questions.{methodQueried}
@@ -58,8 +58,8 @@ abbrev callName : CallRow → String
 callName (calls name k m o b) = name
 
 unfoldable pub failingCalls : List CallRow → List String
-unfolding signed numbersFrom lengthOf lengthAs instructionLength splitFrom split callAt callsOf
-    standard classNumber reference item items policy codeIf method class contents sized readFile methodQueried called callsB
+unfolding signed numbersFrom lengthOf lengthAs instructionLength splitFrom split callAt callsOf standard classNumber reference item items policy
+    codeIf handler handlersIf method class contents sized editionOf readFile methodQueried called callsB
 failingCalls [] = []
 failingCalls (r ∷ rs) = pick (callHolds r) (failingCalls rs) (callName r ∷ failingCalls rs)
 

@@ -20,7 +20,7 @@ orders =
     ∷ steps "3 before 7, removal and query" domainsOnly (remove (hex "A0000000") answers 3 ∷ query D1 (hex "A0000000") 0 0 says 3 yes false ∷ [])
     ∷ steps "7 before 9" domainsOnly (query D1 P1 0 0 says 7 yes false ∷ [])
     ∷ steps "5 before 10" (write 64 []) (load D1 [] answers 5 ∷ [])
-    ∷ alone "10 before 11" "42504B 0002 0000" 10
+    ∷ alone "10 before 11" "42504B 0003 0000" 10
     ∷ alone "11 before 12, which is not asked then" "42504B 0001 0011  05A000000101  00  00  0000  00" 11
     ∷ beside "12 before 13" "42504B 0001 0018  05A000000101  00  01 05A000000102  0000  00" 12
     ∷ alone "13 before 14" "42504B 0001 001D  05A000000101  00  01 05A000000102  0000  01  00 01 0000 00" 13

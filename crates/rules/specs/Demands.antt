@@ -1,5 +1,5 @@
--- What demands 1 and 2 speak of: the numbers of each operation in document 01's order, and its questions. Assumes nothing.
--- refusalsOf o                   == the numbers that document 01 lists for an operation, in its order; withDone ns == these and 0
+-- What demands 1 and 2 speak of: the numbers of each operation in the documents' order, and its questions. Assumes nothing.
+-- refusalsOf o                   == the numbers that the documents list for an operation, in their order; withDone ns == these and 0
 -- freshRefusals, queryRefusals   == those of fresh and of a query
 -- asked, askedFresh, askedQuery  == all questions of an operation, of fresh or of a query on a buffer, in order
 use Prim.Native.Nat.{ℕ}
@@ -15,11 +15,11 @@ use Rattle.rules.specs.Classes.{installed, allows}
 use Rattle.rules.specs.Questions.{q1-size, methodQueried}
 use Rattle.rules.specs.Operations.{Question, queryQuestions, sound, entries, Operation, create, delete, load, remove, questions}
 
--- Create: 1 to 4, 21. Delete: 1 to 3, 5, 6. Load: 1 to 3, 5, 10 to 21. Remove: 1 to 3, 7, 8
+-- Create: 1 to 4, 21. Delete: 1 to 3, 5, 6. Load: 1 to 3, 5, 10 to 17, 24, 18 to 21. Remove: 1 to 3, 7, 8
 abbrev pub refusalsOf : Operation → List ℕ
 refusalsOf (create a) = 1 ∷ 2 ∷ 3 ∷ 4 ∷ 21 ∷ []
 refusalsOf (delete a) = 1 ∷ 2 ∷ 3 ∷ 5 ∷ 6 ∷ []
-refusalsOf (load d f) = 1 ∷ 2 ∷ 3 ∷ 5 ∷ 10 ∷ 11 ∷ 12 ∷ 13 ∷ 14 ∷ 15 ∷ 16 ∷ 17 ∷ 18 ∷ 19 ∷ 20 ∷ 21 ∷ []
+refusalsOf (load d f) = 1 ∷ 2 ∷ 3 ∷ 5 ∷ 10 ∷ 11 ∷ 12 ∷ 13 ∷ 14 ∷ 15 ∷ 16 ∷ 17 ∷ 24 ∷ 18 ∷ 19 ∷ 20 ∷ 21 ∷ []
 refusalsOf (remove a) = 1 ∷ 2 ∷ 3 ∷ 7 ∷ 8 ∷ []
 
 -- Fresh: 1. Query: 1 to 3, 7, 9

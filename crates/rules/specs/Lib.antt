@@ -1,4 +1,4 @@
--- Document 01 and requests 5 and 2 of document 02 as definitions, in document 01's order.
+-- Document 01 and requests 5, 2 and 7 of document 02 as definitions, in document 01's order.
 pub mod Bytes
 pub mod Code
 pub mod Table
@@ -15,6 +15,7 @@ pub mod Running
 pub mod Unbounded
 pub mod Allowing
 pub mod Called
+pub mod Splitting
 pub mod CasesForm
 pub mod CasesFiles
 pub mod CasesNumbers
@@ -25,5 +26,6 @@ pub mod CasesOrder
 pub mod CasesReadings
 pub mod CasesDepths
 pub mod CasesOwn
+pub mod CasesHandlers
 pub mod Cases
 pub mod CasesCalls

@@ -20,7 +20,7 @@ use Rattle.files.specs.Say as say
 use Rattle.files.proofs.Walks.{domains-read}
 use Rattle.policies.specs.Say.{PolicyOver, AdmitsAllOf}
 use Rattle.policies.specs.declared.RightsPlace.{RightsPlace}
-use Rattle.homes.specs.Homes.{Imports, fileOf, aidAt, DomainAt, domainPlace}
+use Rattle.homes.specs.Homes.{Imports, fileOf, formatAt, aidAt, DomainAt, domainPlace}
 use Rattle.homes.specs.declared.Home.{Home}
 use Rattle.homes.proofs.Homes.{home-reads, home-bounds}
 use Rattle.homes.proofs.Domains.{domain-there, domain-is}
@@ -34,8 +34,8 @@ use Rattle.chains.specs.declared.RunsFound.the-variants.{At, Nothing}
 -- a method in its file g
 module _ (f s : Bytes) (h : Home) (i : ℕ) (g : Bytes) (z : g ≡ fileOf f s h) (end : ℕ) (es : List Entry) (self : Installed) (o : MethodAt) (m : MethodIn f
     s end es self h i o) where
-  file-method : Reads (method (storeLimits s) (o .class .home .pack .domains)) g i (o .method) (m .ends)
-  file-method = subst (λ (b : Bytes). Reads (method (storeLimits s) (o .class .home .pack .domains)) b i (o .method) (m .ends)) (sym z) (m .reads)
+  file-method : Reads (method (formatAt s g) (o .class .home .pack .domains)) g i (o .method) (m .ends)
+  file-method = subst (λ (b : Bytes). Reads (method (formatAt s b) (o .class .home .pack .domains)) b i (o .method) (m .ends)) (sym z) (m .reads)
 
   pub method-there : say.MethodThere g i
   method-there = (storeLimits s, o .class .home .pack .domains, (o .method, m .ends, file-method))

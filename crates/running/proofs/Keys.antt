@@ -8,7 +8,7 @@ use mathlib.Core.List.{List, _∷_, _++_}
 use mathlib.Core.Option.{some}
 use lib.ListN.{length, length-append}
 use Rattle.rules.specs.Bytes.{Bytes, Aid, Reader, at, u1, u2, many, aid}
-use Rattle.rules.specs.Package.{Limits, storeLimits, mostDomains, mostImports, mostReferences, mostClasses, mostMethods, Class, Package, classNumber, reference, method, class, readFile}
+use Rattle.rules.specs.Package.{Limits, Format, formatOf, storeLimits, mostDomains, mostImports, mostReferences, mostClasses, mostMethods, Class, Package, classNumber, reference, method, class, readFile}
 use Rattle.rules.specs.Store.{Entry, loaded, openingLength}
 use Rattle.rules.specs.Classes.{Installed}
 use Rattle.rules.proofs.Lists.{at-below}
@@ -38,11 +38,11 @@ many-grows r steady s q (suc n) i xs j p =
     omega arith
 
 -- a class takes three bytes or more: its kind, the count of its parents, that of its methods
-class-forward : (l : Limits) (ds : List Aid) (s : Bytes) (i : ℕ) (k : Class) (j : ℕ) → Reads (class l ds) s i k j → i + 3 ≤ j
-class-forward l ds s i k j p =
-    let t = class-part l ds s i k j p in
-    let a = counted-one (l .parents) classNumber steady-number s (i + 1) (k .parents) (t .middle) (t .parents) in
-    let b = counted-one mostMethods (method l ds) (steady-method l ds) s (t .middle) (k .methods) j (t .methods) in
+class-forward : (form : Format) (ds : List Aid) (s : Bytes) (i : ℕ) (k : Class) (j : ℕ) → Reads (class form ds) s i k j → i + 3 ≤ j
+class-forward form ds s i k j p =
+    let t = class-part form ds s i k j p in
+    let a = counted-one (form .limits .parents) classNumber steady-number s (i + 1) (k .parents) (t .middle) (t .parents) in
+    let b = counted-one mostMethods (method form ds) (steady-method form ds) s (t .middle) (k .methods) j (t .methods) in
     omega arith
 
 module _ (l : Limits) (f : Bytes) (p : Package) (r : readFile l f ≡ some p) where
@@ -57,10 +57,12 @@ module _ (l : Limits) (f : Bytes) (p : Package) (r : readFile l f ≡ some p) wh
       let two = reads-u2 f (t .referencesAt) (e .number) (e .place) (e .count) in
       let rest = reads-forward (many (e .number) reference) (steady-many (e .number) reference steady-reference) f (e .place) (p .references)
       (t .classesAt) (e .list) in
-      let c = reads-counted mostClasses u1 (class l (p .domains)) steady-u1 f (t .classesAt) (p .classes) (length f) (t .classes) in
+      let c = reads-counted mostClasses u1 (class (formatOf l f) (p .domains)) steady-u1 f (t .classesAt) (p .classes) (length f) (t .classes) in
       let one = reads-u1 f (t .classesAt) (c .number) (c .place) (c .count) in
-      let m = many-length (class l (p .domains)) (steady-class l (p .domains)) (c .number) f (c .place) (p .classes) (length f) (c .list) in
-      let g = many-grows (class l (p .domains)) (steady-class l (p .domains)) f (class-forward l (p .domains) f) (c .number) (c .place) (p .classes)
+      let m = many-length (class (formatOf l f) (p .domains)) (steady-class (formatOf l f) (p .domains)) (c .number) f (c .place) (p .classes)
+      (length f) (c .list) in
+      let g = many-grows (class (formatOf l f) (p .domains)) (steady-class (formatOf l f) (p .domains)) f (class-forward (formatOf l f) (p .domains) f)
+      (c .number) (c .place) (p .classes)
       (length f) (c .list) in
       (omega (arith, a .next, a .low, two .next, one .next, m), omega (arith, m, c .small))
 

@@ -16,7 +16,7 @@ use Rattle.places.proofs.Track.{track-start, track-ends, counted-inside}
 use Rattle.places.proofs.Search.{each-hit, each-miss, each-none}
 use Rattle.files.specs.Say.{AfterMethod}
 use Rattle.files.specs.Say as say
-use Rattle.homes.specs.Homes.{fileOf, HomeIs, DomainAt}
+use Rattle.homes.specs.Homes.{fileOf, formatAt, HomeIs, DomainAt}
 use Rattle.homes.specs.declared.Home.{Home}
 use Rattle.homes.proofs.Homes.{home-bounds}
 use Rattle.classes.specs.Say.{ClassThere, MethodsIn}
@@ -29,7 +29,8 @@ passesIn s es self b c m = methodPasses (storeLimits s) (installed (storeLimits 
 -- of the methods of class n, listed at `start`, `left` are still to be read at place c, and all pass where all of these do
 abbrev pub MethodsLeft : Bytes → Bytes → ℕ → ℕ → ℕ → Home → ℕ → ℕ → ℕ → ℕ → Type 0
 MethodsLeft f s end d b h n start left c = OfWalk f s end d b h n λ es self x k.
-    Tracks (method (storeLimits s) (x .pack .domains)) (fileOf f s h) (counted mostMethods u1 (method (storeLimits s) (x .pack .domains))) start
+    Tracks (method (formatAt s (fileOf f s h)) (x .pack .domains)) (fileOf f s h)
+    (counted mostMethods u1 (method (formatAt s (fileOf f s h)) (x .pack .domains))) start
     (all (passesIn s es self b (record { home = x; number = n }))) (all (passesIn s es self b (record { home = x; number = n }))) left c
 
 -- so it is of each class whose methods are listed there
@@ -48,20 +49,21 @@ module _ (f s : Bytes) (end d b : ℕ) (h : Home) (n : ℕ) where
   module _ (start : ℕ) (q : MethodsIn f s h n start) where
     methods-of : (es : List Entry) (self : Installed) → RunningIn f s end d b es self → (x : Installed) → HomeIs f s end es self h x → (k : Class) →
         at (x .pack .classes) n ≡ some k →
-        (j : ℕ) × Reads (counted mostMethods u1 (method (storeLimits s) (x .pack .domains))) (fileOf f s h) start (k .methods) j
+        (j : ℕ) × Reads (counted mostMethods u1 (method (formatAt s (fileOf f s h)) (x .pack .domains))) (fileOf f s h) start (k .methods) j
     methods-of es self r x o k e = q end es self (r .running .judged) x o k e
 
     -- the count is inside the file
     pub methods-inside : (g : Bytes) → g ≡ fileOf f s h → WalkThere f s end d b h n → start < length g
     methods-inside g z t =
         let y = methods-of (t .entries) (t .self) (t .asked) (t .pack) (t .home) (t .class) (t .is) in
-        subst (λ (v : Bytes). start < length v) (sym z) (counted-inside (method (storeLimits s) (t .pack .pack .domains)) (fileOf f s h) mostMethods start
+        subst (λ (v : Bytes). start < length v) (sym z) (counted-inside (method (formatAt s (fileOf f s h)) (t .pack .pack .domains))
+        (fileOf f s h) mostMethods start
         (t .class .methods) (y .0) (y .1))
 
     pub methods-start : (g : Bytes) (m : ℕ) → g ≡ fileOf f s h → m ≡ getD g start 0 → MethodsLeft f s end d b h n start m (start + 1)
     methods-start g m z y es self r x o k e =
         let e′ : m ≡ getD (fileOf f s h) start 0 = y ∙ ap (λ (v : Bytes). getD v start 0) z in
-        rw e′ (track-start (method (storeLimits s) (x .pack .domains)) (fileOf f s h) (all (passesIn s es self b (record { home = x; number = n })))
+        rw e′ (track-start (method (formatAt s (fileOf f s h)) (x .pack .domains)) (fileOf f s h) (all (passesIn s es self b (record { home = x; number = n })))
         mostMethods start)
 
     module _ (left c : ℕ) (inv : MethodsLeft f s end d b h n start left c) where
@@ -70,8 +72,9 @@ module _ (f s : Bytes) (end d b : ℕ) (h : Home) (n : ℕ) where
         pub method-here : WalkThere f s end d b h n → (m : MethodThere f s end b h c) × DomainAt s d (m .1)
         method-here t =
             let y = methods-of (t .entries) (t .self) (t .asked) (t .pack) (t .home) (t .class) (t .is) in
-            let m = track-ends (method (storeLimits s) (t .pack .pack .domains)) (steady-method (storeLimits s) (t .pack .pack .domains)) (fileOf f s h)
-            (counted mostMethods u1 (method (storeLimits s) (t .pack .pack .domains))) start
+            let m = track-ends (method (formatAt s (fileOf f s h)) (t .pack .pack .domains))
+            (steady-method (formatAt s (fileOf f s h)) (t .pack .pack .domains)) (fileOf f s h)
+            (counted mostMethods u1 (method (formatAt s (fileOf f s h)) (t .pack .pack .domains))) start
             _ _ left c (inv (t .entries) (t .self) (t .asked) (t .pack) (t .home) (t .class) (t .is)) more (t .class .methods, y .0, y .1) in
             let o : MethodAt = record { class = record { home = t .pack; number = n }; method = m .0 } in
             ((t .entries, t .self, t .asked .running, o, record { home = t .home; ends = m .1; reads = m .2 }), t .asked .loads)
@@ -86,7 +89,7 @@ module _ (f s : Bytes) (end d b : ℕ) (h : Home) (n : ℕ) where
               (
                 m .3 .method,
                 m .4 .ends,
-                subst (λ (v : Bytes). Reads (method (storeLimits s) ds) v c (m .3 .method) (m .4 .ends)) (sym z)
+                subst (λ (v : Bytes). Reads (method (formatAt s v) ds) v c (m .3 .method) (m .4 .ends)) (sym z)
                     (m .4 .reads),
               ),
             )
@@ -94,8 +97,9 @@ module _ (f s : Bytes) (end d b : ℕ) (h : Home) (n : ℕ) where
         pub methods-hit : MethodPasses f s end d b h c false → MethodsPass f s end d b h n false
         methods-hit q es self r x o k e =
             let y = methods-of es self r x o k e in
-            let w = each-hit (method (storeLimits s) (x .pack .domains)) (steady-method (storeLimits s) (x .pack .domains)) (fileOf f s h) (counted
-            mostMethods u1 (method (storeLimits s) (x .pack .domains))) start left c
+            let w = each-hit (method (formatAt s (fileOf f s h)) (x .pack .domains)) (steady-method (formatAt s (fileOf f s h)) (x .pack .domains))
+            (fileOf f s h) (counted
+            mostMethods u1 (method (formatAt s (fileOf f s h)) (x .pack .domains))) start left c
             (passesIn s es self b (record { home = x; number = n })) (inv es self r x o k e) more
             (λ m a p. sym (q es self r (record { class = record { home = x; number = n }; method = m }) (record { home = o; ends = a; reads = p }))) (k
             .methods) (y .0) (y .1) in
@@ -104,16 +108,18 @@ module _ (f s : Bytes) (end d b : ℕ) (h : Home) (n : ℕ) where
         pub methods-miss : (g : Bytes) (j : ℕ) → g ≡ fileOf f s h → MethodPasses f s end d b h c true → AfterMethod g c j →
             MethodsLeft f s end d b h n start (left - 1) j
         methods-miss g j z q a es self r x o k e =
-            each-miss (method (storeLimits s) (x .pack .domains)) (steady-method (storeLimits s) (x .pack .domains)) (fileOf f s h) (counted mostMethods u1
-            (method (storeLimits s) (x .pack .domains))) start left c
+            each-miss (method (formatAt s (fileOf f s h)) (x .pack .domains)) (steady-method (formatAt s (fileOf f s h)) (x .pack .domains))
+            (fileOf f s h) (counted mostMethods u1
+            (method (formatAt s (fileOf f s h)) (x .pack .domains))) start left c
             (passesIn s es self b (record { home = x; number = n })) (inv es self r x o k e) j more
             (λ m i p. sym (q es self r (record { class = record { home = x; number = n }; method = m }) (record { home = o; ends = i; reads = p })))
-            (λ m i p. a (storeLimits s) (x .pack .domains) m i (subst (λ (v : Bytes). Reads (method (storeLimits s) (x .pack .domains)) v c m i) (sym z) p))
+            (λ m i p. a (storeLimits s) (x .pack .domains) m i (subst (λ (v : Bytes). Reads (method (formatAt s v) (x .pack .domains)) v c m i) (sym z) p))
 
       pub methods-done : left ≤ 0 → MethodsPass f s end d b h n true
       methods-done z es self r x o k e =
           let y = methods-of es self r x o k e in
-          let w = each-none (method (storeLimits s) (x .pack .domains)) (steady-method (storeLimits s) (x .pack .domains)) (fileOf f s h) (counted
-          mostMethods u1 (method (storeLimits s) (x .pack .domains))) start left c
+          let w = each-none (method (formatAt s (fileOf f s h)) (x .pack .domains)) (steady-method (formatAt s (fileOf f s h)) (x .pack .domains))
+          (fileOf f s h) (counted
+          mostMethods u1 (method (formatAt s (fileOf f s h)) (x .pack .domains))) start left c
           (passesIn s es self b (record { home = x; number = n })) (inv es self r x o k e) z (k .methods) (y .0) (y .1) in
           sym (rw e w)

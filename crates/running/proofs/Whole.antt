@@ -8,7 +8,7 @@ use mathlib.Core.List.{List, [], _∷_, List·Memᴰ, List·Memᴰ·head, List·
 use mathlib.Core.Option.{Option, none, some}
 use lib.ListN.{length, drop, getD, drop-of-length-le}
 use Rattle.rules.specs.Bytes.{Bytes, all, allFrom, at, noneOr, u1}
-use Rattle.rules.specs.Package.{Limits, standard, storeLimits, mostClasses, Method, Class, Package, class, readFile}
+use Rattle.rules.specs.Package.{Limits, formatOf, standard, storeLimits, mostClasses, Method, Class, Package, class, readFile}
 use Rattle.rules.specs.Store.{Entry, openingLength}
 use Rattle.rules.specs.Classes.{Installed, installed, ClassAt, recordOf, ancestorsUpTo, isKind0, runsUpTo, allowsAllOf}
 use Rattle.rules.specs.Questions.{own, q20-running}
@@ -22,7 +22,7 @@ use Rattle.places.proofs.Inverse.{reads-counted, reads-u1}
 use Rattle.places.proofs.Track.{many-length, counted-inside}
 use Rattle.files.specs.Say.{Readable, ClassesAt}
 use Rattle.files.proofs.Walks.{classes-read}
-use Rattle.homes.specs.Homes.{ownHome, DomainAt}
+use Rattle.homes.specs.Homes.{formatAt, ownHome, DomainAt}
 use Rattle.homes.specs.Homes as homes
 use Rattle.homes.specs.Found.{Indexed}
 use Rattle.homes.proofs.Domains.{aid-inside}
@@ -213,7 +213,7 @@ module _ (f s : Bytes) (end d : ℕ) where
     pub classes-inside : JudgedThere f s end d → at-classes < length f
     classes-inside t =
         let p = t .1 .pack in
-        counted-inside (class (storeLimits s) (p .domains)) f mostClasses at-classes (p .classes) (length f) (classes-read q (storeLimits s) p (t .2
+        counted-inside (class (formatAt s f) (p .domains)) f mostClasses at-classes (p .classes) (length f) (classes-read q (storeLimits s) p (t .2
         .imported .setting .reads))
 
     pub own-start : (count : ℕ) → count ≡ getD f at-classes 0 → OwnLeft f s end d count 0
@@ -221,9 +221,10 @@ module _ (f s : Bytes) (end d : ℕ) where
       few = omega arith;
       left = λ es self j l. q20-by-class (storeLimits s) (installed (storeLimits s) es) self;
       count-is = λ l p r.
-          let c = reads-counted mostClasses u1 (class l (p .domains)) steady-u1 f at-classes (p .classes) (length f) (classes-read q l p r) in
+          let c = reads-counted mostClasses u1 (class (formatOf l f) (p .domains)) steady-u1 f at-classes (p .classes) (length f) (classes-read q l p r) in
           let w = reads-u1 f at-classes (c .number) (c .place) (c .count) in
-          z ∙ w .byte ∙ sym (many-length (class l (p .domains)) (steady-class l (p .domains)) (c .number) f (c .place) (p .classes) (length f) (c .list));
+          z ∙ w .byte ∙ sym (many-length (class (formatOf l f) (p .domains)) (steady-class (formatOf l f) (p .domains)) (c .number) f (c .place)
+          (p .classes) (length f) (c .list));
     }
 
   module _ (count b : ℕ) (inv : OwnLeft f s end d count b) where

@@ -4,7 +4,7 @@ use mathlib.Core.Path.{_≡_, sym, _∙_, ap, subst}
 use mathlib.Core.Bool.{Bool}
 use mathlib.Core.Option.{Option, some}
 use Rattle.rules.specs.Bytes.{Bytes, Aid, at, _andThen_}
-use Rattle.rules.specs.Package.{Class, Method, method, class}
+use Rattle.rules.specs.Package.{formatOf, Class, Method, method, class}
 use Rattle.rules.specs.Classes.{declared, meant, admits}
 use Rattle.places.specs.Reads.{Placed}
 use Rattle.places.proofs.Track.{placed-at, placed-none}
@@ -26,8 +26,8 @@ class-there g c o = (o .0, o .1 .domains, o .3)
 
 module _ (g : Bytes) (c n : ℕ) (r : Spot) (m : ℕ) (q : DeclaredPlaced g c n r) (z : r ≡ spots.At m) where
   -- the method there
-  placed : (o : ClassOf g c) → Placed (method (o .0) (o .1 .domains)) g (declared (o .3 .0) n) (some m)
-  placed o = subst (λ (x : Spot). Placed (method (o .0) (o .1 .domains)) g (declared (o .3 .0) n) (spot x)) z
+  placed : (o : ClassOf g c) → Placed (method (formatOf (o .0) g) (o .1 .domains)) g (declared (o .3 .0) n) (some m)
+  placed o = subst (λ (x : Spot). Placed (method (formatOf (o .0) g) (o .1 .domains)) g (declared (o .3 .0) n) (spot x)) z
       (q (o .0) (o .1 .domains) (o .3 .0) (o .3 .1) (o .3 .2))
 
   pub method-there : ClassOf g c → MethodThere g m
@@ -55,22 +55,22 @@ module _ (g : Bytes) (c n : ℕ) (r : Spot) (m : ℕ) (q : DeclaredPlaced g c n 
 -- a class that does not declare the name
 pub class-none : (g : Bytes) (u : Aid) (c n : ℕ) (r : Spot) (x : Aid) → DeclaredPlaced g c n r → r ≡ spots.Nothing → ClassAllows g u c n x Undeclared
 class-none g u c n r x q z l p e k j h =
-    let y = placed-none (subst (λ (v : Spot). Placed (method l (p .domains)) g (declared k n) (spot v)) z (q l (p .domains) k j h)) in
+    let y = placed-none (subst (λ (v : Spot). Placed (method (formatOf l g) (p .domains)) g (declared k n) (spot v)) z (q l (p .domains) k j h)) in
     sym (ap (λ (o : Option Method). o andThen λ m. some (admits (meant u (m .policy)) x)) y)
 
 -- a file's class by its number
 module _ (g : Bytes) (k n : ℕ) (r : Spot) (q : ClassPlaced g k r) where
   pub class-of : (c : ℕ) → r ≡ spots.At c → Readable g → ClassOf g c
   class-of c z o =
-      let y = placed-at (subst (λ (v : Spot). Placed (class (o .0) (o .1 .domains)) g (at (o .1 .classes) k) (spot v)) z (q (o .0) (o .1) (o .2))) in
+      let y = placed-at (subst (λ (v : Spot). Placed (class (formatOf (o .0) g) (o .1 .domains)) g (at (o .1 .classes) k) (spot v)) z (q (o .0) (o .1) (o .2))) in
       (o .0, o .1, o .2, (y .0, y .1, y .3))
 
   pub file-says : (u : Aid) (c : ℕ) (x : Aid) (v : Allowed) → r ≡ spots.At c → ClassAllows g u c n x v → FileAllows g u k n x v
   file-says u c x v z w l p e =
-      let y = placed-at (subst (λ (o : Spot). Placed (class l (p .domains)) g (at (p .classes) k) (spot o)) z (q l p e)) in
+      let y = placed-at (subst (λ (o : Spot). Placed (class (formatOf l g) (p .domains)) g (at (p .classes) k) (spot o)) z (q l p e)) in
       w l p e (y .0) (y .1) (y .3) ∙ sym (ap (λ (o : Option Class). o andThen λ i. declared i n andThen λ m. some (admits (meant u (m .policy)) x)) (y .2))
 
   pub file-none : (u x : Aid) → r ≡ spots.Nothing → FileAllows g u k n x Undeclared
   file-none u x z l p e =
-      let y = placed-none (subst (λ (o : Spot). Placed (class l (p .domains)) g (at (p .classes) k) (spot o)) z (q l p e)) in
+      let y = placed-none (subst (λ (o : Spot). Placed (class (formatOf l g) (p .domains)) g (at (p .classes) k) (spot o)) z (q l p e)) in
       sym (ap (λ (o : Option Class). o andThen λ i. declared i n andThen λ m. some (admits (meant u (m .policy)) x)) y)

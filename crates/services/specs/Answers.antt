@@ -14,7 +14,7 @@ use mathlib.Core.Bool.{Bool, true, false, _&&_, not}
 use mathlib.Core.List.{List}
 use mathlib.Core.Option.{Option, none, some}
 use Rattle.rules.specs.Bytes.{Bytes, Aid, any, at, someAnd, _andThen_, same}
-use Rattle.rules.specs.Package.{Limits, storeLimits, Class, Package, class, readFile}
+use Rattle.rules.specs.Package.{Limits, formatOf, storeLimits, Class, Package, class, readFile}
 use Rattle.rules.specs.Store.{Entry, domain, loaded, openingLength}
 use Rattle.rules.specs.Classes.{installed, declared, meant, admits}
 use Rattle.rules.specs.Questions.{q8-unused}
@@ -59,12 +59,12 @@ allowed No = some false
 
 -- a class of the package that a file reads as stands at place c
 abbrev pub ClassOf : Bytes → ℕ → Type 0
-ClassOf g c = (l : Limits) × (p : Package) × (readFile l g ≡ some p) × Ends (class l (p .domains)) g c
+ClassOf g c = (l : Limits) × (p : Package) × (readFile l g ≡ some p) × Ends (class (formatOf l g) (p .domains)) g c
 
 -- a class's method of a name allows the domain, of whatever class stands at place c of a file of domain e
 abbrev pub ClassAllows : Bytes → Aid → ℕ → ℕ → Aid → Allowed → Type 0
 ClassAllows g e c n d r = (l : Limits) (p : Package) → readFile l g ≡ some p → (k : Class) (j : ℕ) →
-    Reads (class l (p .domains)) g c k j → allowed r ≡ (declared k n andThen λ m. some (admits (meant e (m .policy)) d))
+    Reads (class (formatOf l g) (p .domains)) g c k j → allowed r ≡ (declared k n andThen λ m. some (admits (meant e (m .policy)) d))
 
 -- the method of a class and a name allows the domain
 abbrev pub FileAllows : Bytes → Aid → ℕ → ℕ → Aid → Allowed → Type 0

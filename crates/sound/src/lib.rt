@@ -194,7 +194,7 @@ pub fn open_store(s: &[u8]) -> Opened
     }
 }
 
-// A load: 1 to 3, 5, 10 to 21.
+// A load: 1 to 3, 5, 10 to 17, 24, 18 to 21.
 pub fn judge_load<'a>(s: &'a [u8], domain: &[u8], file: &'a [u8]) -> Loading
     ensures { λ r. ⌜ LoadingSays (now (s .entry)) (now (domain .entry)) (now (file .entry)) r ⌝ }
 {

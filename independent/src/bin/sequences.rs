@@ -1,24 +1,26 @@
 //! `sequences SEED COUNT`: runs generated sequences through the byte operations
 //! and the ledger side by side and prints how often each number was answered, how deep
-//! the accepted files were and how often FE decided.
+//! the accepted files were and how often FE and handlers decided.
 
 use independent::depths::DepthCounts;
 use independent::generate::sequences::sequence;
+use independent::handler_counts::HandlerCounts;
 use independent::ledger::{Call, Ledger};
 use independent::loader::{damage, shrink, Independent, Loader, Sequence, Step};
 use independent::own_domain::OwnCounts;
-use independent::questions::q2;
+use independent::questions::{q2, NUMBERS};
 use std::process::ExitCode;
 
 const OPERATIONS: [&str; 6] = ["fresh", "create", "delete", "load", "remove", "query"];
-const NUMBERS: usize = 22;
+const GREATEST: u8 = NUMBERS[NUMBERS.len() - 1];
 
 #[derive(Default)]
 struct Counts {
-    answers: [[u64; NUMBERS]; 6],
+    answers: [[u64; GREATEST as usize + 1]; 6],
     with_ledger: u64,
     depths: DepthCounts,
     own: OwnCounts,
+    handlers: HandlerCounts,
     yes: u64,
 }
 
@@ -90,6 +92,7 @@ fn count(counts: &mut Counts, call: &Call, answer: u32, store: &[u8]) {
     };
     counts.answers[row][(answer & 0xFF) as usize] += 1;
     counts.own.note(call, answer, store);
+    counts.handlers.note(call, answer, store);
     match call {
         Call::Load { .. } if answer & 0xFF == 0 => counts.depths.note(answer >> 8, store),
         Call::Query { .. } => counts.yes += u64::from(answer >> 8),
@@ -100,18 +103,19 @@ fn count(counts: &mut Counts, call: &Call, answer: u32, store: &[u8]) {
 fn print_table(counts: &Counts) {
     println!("{} sequences followed by the ledger", counts.with_ledger);
     print!("{:8}", "");
-    (0..NUMBERS).for_each(|number| print!("{number:>7}"));
+    NUMBERS.iter().for_each(|number| print!("{number:>7}"));
     println!();
     for (name, row) in OPERATIONS.iter().zip(&counts.answers) {
         print!("{name:8}");
-        row.iter().for_each(|answers| print!("{answers:>7}"));
+        let answers = NUMBERS.map(|number| row[usize::from(number)]);
+        answers.iter().for_each(|answers| print!("{answers:>7}"));
         println!();
     }
     let loads: u64 = counts.answers[3].iter().sum();
     let accepted = 100 * counts.answers[3][0] / loads.max(1);
     println!("{accepted}% of {loads} loads accepted: {}", counts.depths);
     println!("{} queries answered yes", counts.yes);
-    println!("{}", counts.own);
+    println!("{}\n{}", counts.own, counts.handlers);
 }
 
 /// A short sequence that shows the difference, in hex.

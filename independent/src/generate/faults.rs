@@ -1,11 +1,13 @@
-//! Files with planted faults, one for each question of a load from 10 to 20.
+//! Files with planted faults, one for each question of a load about the file.
 
 use super::call_faults::{plant_18, plant_19, plant_20};
+use super::handlers::{cut_off, plant_24, to_second, too_many};
 use super::model::{set_size, ClassModel, FileModel, MethodModel};
 use super::random::Random;
 use super::scene::Scene;
 use super::spoiled_codes::{unlanded_code, unsplit_code};
-use crate::package::{MAX_CLASSES, MAX_DOMAINS, MAX_IMPORTS, MAX_REFERENCES};
+use crate::package::{Version, HEAD, MARK, MAX_CLASSES, MAX_DOMAINS, MAX_IMPORTS, MAX_REFERENCES};
+use crate::questions::asked_place;
 
 /// Bits of a visible implemented method.
 pub const BODY: u8 = 0xC0;
@@ -39,6 +41,7 @@ pub fn plant(
         18 => plant_18(random, scene, model),
         19 => plant_19(random, scene, domain, model),
         20 => plant_20(random, scene, domain, model),
+        24 => plant_24(random, model),
         _ => return false,
     }
     true
@@ -56,16 +59,19 @@ pub fn faulty_file(
     // The latest question first: what a later fault adds may only mend one that
     // is asked about after it.
     let mut order = questions.to_vec();
-    order.sort_unstable();
+    order.sort_unstable_by_key(|&question| asked_place(question));
     for &question in order.iter().rev().filter(|&&q| q >= 12) {
         if !plant(random, scene, domain, &mut model, question) {
             return None;
         }
     }
-    let mut file = model.bytes();
-    if questions.contains(&11) {
-        spoil_layout(random, &mut file);
+    if model.version == Version::Second {
+        to_second(random, &mut model);
     }
+    let mut file = match questions.contains(&11) {
+        true => spoiled_layout(random, model),
+        false => model.bytes(),
+    };
     if questions.contains(&10) {
         spoil_mark(random, &mut file);
     }
@@ -74,30 +80,50 @@ pub fn faulty_file(
 
 /// Question 10: another mark or version, or a file too short to have them.
 fn spoil_mark(random: &mut Random, file: &mut Vec<u8>) {
-    if random.chance(30) {
-        file.truncate(random.below(5));
-    } else {
-        let place = random.below(5);
-        file[place] ^= 1 << random.below(8);
+    const VERSIONS: [[u8; 2]; 8] = [
+        [0, 0],
+        [0, 3],
+        [0, 0xFF],
+        [1, 0],
+        [1, 1],
+        [1, 2],
+        [2, 0],
+        [0x80, 2],
+    ];
+    match random.below(10) {
+        0..=1 => file.truncate(random.below(HEAD)),
+        2..=5 => {
+            let field: [u8; 2] = *random.pick(&VERSIONS);
+            file[MARK.len()..HEAD].copy_from_slice(&field);
+        }
+        _ => {
+            let place = random.below(HEAD);
+            file[place] ^= 1 << random.below(8);
+        }
     }
 }
 
-/// Question 11: the size says otherwise, or the file ends early or late.
-fn spoil_layout(random: &mut Random, file: &mut Vec<u8>) {
-    match random.below(6) {
+/// Question 11: the size says otherwise, the file ends early or late, or a code has too
+/// many handlers or only a part of them.
+fn spoiled_layout(random: &mut Random, model: FileModel) -> Vec<u8> {
+    let mut file = model.bytes();
+    match random.below(9) {
         0 => file[6] ^= 1 << random.below(8),
         1 => file[5] ^= 1 << random.below(8),
         2 => file.push(random.byte()),
         3 => {
             file.push(0);
-            set_size(file);
+            set_size(&mut file);
         }
         4 => {
             file.pop();
-            set_size(file);
+            set_size(&mut file);
         }
-        _ => file.truncate(random.between(5, file.len() - 1)),
+        5 => file.truncate(random.between(5, file.len() - 1)),
+        6 => return cut_off(random, model),
+        _ => return too_many(random, model),
     }
+    file
 }
 
 fn plant_12(random: &mut Random, scene: &Scene, model: &mut FileModel) -> bool {

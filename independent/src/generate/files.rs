@@ -1,29 +1,42 @@
 //! Any file for a load: accepted, faulty, damaged, at a limit, filling the store.
 
+use super::damage::file_damage;
 use super::faults::faulty_file;
+use super::handler_limits::handler_limits;
+use super::handlers::{longest_file, to_second};
 use super::limits::{chain, count_limits, ladder, method_limits, under_ladder};
 use super::model::{set_size, ClassModel, FileModel, MethodModel};
-use super::own_lists::{own_limits, policy_damage};
+use super::own_lists::own_limits;
 use super::random::Random;
 use super::scene::Scene;
 use super::valid::valid_file;
+use crate::package::{self, Version};
+use crate::questions::OF_A_FILE;
 
 pub fn any_file(random: &mut Random, scene: &Scene, domain: &[u8]) -> Vec<u8> {
     let aid = new_aid(random, scene);
     let model = valid_file(random, scene, domain, &aid);
-    let questions = [random.between(10, 20) as u8, random.between(10, 20) as u8];
+    let questions = two_questions(random);
     let faulty = match random.below(100) {
         0..=43 => None,
         44..=73 => faulty_file(random, scene, domain, &model, &questions[..1]),
         74..=81 => faulty_file(random, scene, domain, &model, &questions),
-        82..=84 => Some(damaged_file(random, model.bytes())),
-        85..=87 => Some(damaged_policy(random, model.bytes())),
+        82..=83 => Some(damaged_file(random, model.bytes())),
+        84..=87 => Some(changed_file(random, model.bytes())),
         88..=92 => Some(limit_file(random, scene, domain, &aid)),
         93..=94 => Some(any_bytes(random)),
         95..=96 => Some(hostile_file(random, scene, &aid)),
         _ => filling_file(random, scene, domain, &aid),
     };
     faulty.unwrap_or_else(|| model.bytes())
+}
+
+/// Two questions about a file; now and then 24 and one that is asked just before or after it.
+fn two_questions(random: &mut Random) -> [u8; 2] {
+    if random.chance(15) {
+        return [*random.pick(&[16, 17, 18, 19, 20]), 24];
+    }
+    [(); 2].map(|()| *random.pick(&OF_A_FILE))
 }
 
 /// An AID that is not installed.
@@ -57,9 +70,9 @@ pub fn damaged_file(random: &mut Random, mut file: Vec<u8>) -> Vec<u8> {
     file
 }
 
-/// A byte of a policy changed, if there is one.
-fn damaged_policy(random: &mut Random, mut file: Vec<u8>) -> Vec<u8> {
-    if let Some((place, byte)) = policy_damage(random, &file) {
+/// A byte of a policy or of a handler changed, if there is one.
+fn changed_file(random: &mut Random, mut file: Vec<u8>) -> Vec<u8> {
+    if let Some((place, byte)) = file_damage(random, &file) {
         file[place] = byte;
     }
     file
@@ -74,17 +87,26 @@ fn limit_file(random: &mut Random, scene: &Scene, domain: &[u8], aid: &[u8]) -> 
     } else {
         known
     };
-    let files = match random.below(4) {
-        0 => return chain(aid, random.below(2) as u8, random.between(7, 9) as u8).bytes(),
-        1 => method_limits(aid, listed),
+    let mut model = match random.below(6) {
+        0 => chain(aid, random.below(2) as u8, random.between(7, 9) as u8),
+        1 => random.pick(&method_limits(aid, listed)).model.clone(),
         2 => {
             let domain_count = *random.pick(&[0, 0, 1, 2, 32]);
-            let files = own_limits(aid, listed, domain_count);
+            let version = *random.pick(&Version::BOTH);
+            let files = own_limits(version, aid, listed, domain_count);
             return random.pick(&files).file.clone();
         }
-        _ => count_limits(aid, listed, import),
+        3 => return random.pick(&handler_limits(aid)).file.clone(),
+        4 => return longest_file(random, aid).bytes(),
+        _ => random
+            .pick(&count_limits(aid, listed, import))
+            .model
+            .clone(),
     };
-    random.pick(&files).model.bytes()
+    if random.chance(50) {
+        to_second(random, &mut model);
+    }
+    model.bytes()
 }
 
 /// Bytes without structure, often with the right mark.
@@ -92,7 +114,8 @@ fn any_bytes(random: &mut Random) -> Vec<u8> {
     let length = *random.pick(&[0, 1, 4, 5, 7, 8, 20, 100, 65_535, 65_536, 66_000]);
     let mut file = random.bytes(length);
     if random.chance(60) {
-        let mark = crate::package::MARK_AND_VERSION;
+        let version = random.pick(&Version::BOTH).field();
+        let mark = [&package::MARK[..], &version].concat();
         let common = mark.len().min(file.len());
         file[..common].copy_from_slice(&mark[..common]);
         set_size(&mut file);
@@ -104,10 +127,14 @@ fn hostile_file(random: &mut Random, scene: &Scene, aid: &[u8]) -> Vec<u8> {
     let ladders = scene.packages.iter().filter(|p| p.classes.len() == 32);
     let ladders: Vec<&[u8]> = ladders.map(|p| p.model.aid.as_slice()).collect();
     let methods = *random.pick(&[0, 0, 1, 4]);
-    match random.pick_any(&ladders) {
-        Some(under) if random.chance(60) => under_ladder(aid, under, random.chance(50)).bytes(),
-        _ => ladder(aid, methods, random.chance(50)).bytes(),
+    let mut model = match random.pick_any(&ladders) {
+        Some(under) if random.chance(60) => under_ladder(aid, under, random.chance(50)),
+        _ => ladder(aid, methods, random.chance(50)),
+    };
+    if random.chance(50) {
+        to_second(random, &mut model);
     }
+    model.bytes()
 }
 
 /// A file whose entry fills the store to the last byte, or is one byte too long.
@@ -115,30 +142,35 @@ fn filling_file(random: &mut Random, scene: &Scene, domain: &[u8], aid: &[u8]) -
     let entry = 3 + 1 + domain.len();
     let past = usize::from(random.chance(40));
     let size = (scene.free + past).checked_sub(entry)?;
-    Some(sized_file(aid, size)?.bytes())
+    let version = *random.pick(&Version::BOTH);
+    Some(sized_file(version, aid, size)?.bytes())
 }
 
-/// A file of exactly this many bytes, if there is one with a single class.
-pub fn sized_file(aid: &[u8], size: usize) -> Option<FileModel> {
-    const METHOD_HEAD: usize = 6;
-    const LARGEST: usize = METHOD_HEAD + 4096;
+/// A file of exactly this many bytes, if there is one with a single class and no handler.
+pub fn sized_file(version: Version, aid: &[u8], size: usize) -> Option<FileModel> {
+    let method_head = match version {
+        Version::First => 6,
+        Version::Second => 7,
+    };
+    let largest = method_head + 4096;
     let without_methods = 13 + aid.len() + 3;
     let mut left = size.checked_sub(without_methods)?;
     let mut methods = Vec::new();
     while left > 0 {
         // What follows a method is nothing, or enough for a further one.
-        let length = if left > LARGEST && left < LARGEST + METHOD_HEAD + 1 {
-            LARGEST - METHOD_HEAD - 1
+        let length = if left > largest && left < largest + method_head + 1 {
+            largest - method_head - 1
         } else {
-            left.min(LARGEST)
+            left.min(largest)
         };
-        let mut code = vec![0; length.checked_sub(METHOD_HEAD)?];
+        let mut code = vec![0; length.checked_sub(method_head)?];
         *code.last_mut()? = 0x7A;
         let name = methods.len() as u16;
         methods.push(MethodModel::new(0x40, name, None, &code));
         left -= length;
     }
     Some(FileModel {
+        version,
         aid: aid.to_vec(),
         classes: vec![ClassModel::new(0, &[], methods)],
         ..FileModel::default()

@@ -5,6 +5,7 @@ use super::model::{ClassModel, FileModel};
 use super::special::{after_fresh, load, FIRST, SECOND, THIRD};
 use crate::ledger::Call;
 use crate::loader::Sequence;
+use crate::package::Version;
 
 /// Package and class numbers of a class's parents.
 type Parents = Vec<(u8, u8)>;
@@ -27,14 +28,16 @@ pub fn lineages() -> Vec<Sequence> {
 }
 
 /// Two packages with classes of depth 1, 2 and 3; then a package for each of these
-/// lists of parents is loaded and removed.
+/// lists of parents, of either version by turns, is loaded and removed.
 fn lineage_sequence(kind: u8, lists: impl Iterator<Item = [Parents; 3]>) -> Sequence {
     let mut below = chain(SECOND, kind, 1);
+    below.version = Version::Second;
     below.imports = vec![FIRST.to_vec()];
     below.classes[0].parents = vec![(1, 1)];
     let mut calls = vec![load(&chain(FIRST, kind, 2)), load(&below)];
-    for parents in lists {
+    for (number, parents) in lists.enumerate() {
         let model = FileModel {
+            version: Version::BOTH[number % 2],
             aid: THIRD.to_vec(),
             imports: vec![FIRST.to_vec(), SECOND.to_vec()],
             classes: parents.map(|p| ClassModel::new(kind, &p, vec![])).to_vec(),

@@ -2,8 +2,12 @@
 
 pub mod call_faults;
 pub mod codes;
+pub mod damage;
 pub mod faults;
 pub mod files;
+pub mod handler_cases;
+pub mod handler_limits;
+pub mod handlers;
 pub mod limits;
 pub mod lineages;
 pub mod lines;

@@ -1,11 +1,13 @@
 //! A package file as a structure, and its bytes. Nothing is checked here, so that
 //! faulty files can be built too.
 
-use crate::package::{self, IMPLEMENTED, MARK_AND_VERSION, STATIC, VISIBLE};
+use crate::handlers::Handler;
+use crate::package::{self, Version, IMPLEMENTED, MARK, STATIC, VISIBLE};
 use crate::policy::{Policy, EVERY};
 
 #[derive(Clone, Debug, Default, PartialEq, Eq)]
 pub struct FileModel {
+    pub version: Version,
     pub aid: Vec<u8>,
     pub domains: Vec<Vec<u8>>,
     pub imports: Vec<Vec<u8>>,
@@ -28,6 +30,17 @@ pub struct MethodModel {
     pub allowed: Option<Vec<u8>>,
     /// Written when the bits say implemented.
     pub code: Vec<u8>,
+    /// Written after the code in version 2.
+    pub handlers: Vec<Handler>,
+}
+
+/// Places in a file.
+#[derive(Default)]
+struct Places {
+    /// Of each policy's allowed count.
+    policies: Vec<usize>,
+    /// Of each handler count.
+    handlers: Vec<usize>,
 }
 
 impl FileModel {
@@ -37,12 +50,18 @@ impl FileModel {
 
     /// The place of each policy's allowed count in the file.
     pub fn policy_places(&self) -> Vec<usize> {
-        self.written().1
+        self.written().1.policies
     }
 
-    fn written(&self) -> (Vec<u8>, Vec<usize>) {
-        let mut places = Vec::new();
-        let mut file = MARK_AND_VERSION.to_vec();
+    /// The place of each handler count in the file.
+    pub fn handler_places(&self) -> Vec<usize> {
+        self.written().1.handlers
+    }
+
+    fn written(&self) -> (Vec<u8>, Places) {
+        let mut places = Places::default();
+        let mut file = MARK.to_vec();
+        file.extend_from_slice(&self.version.field());
         file.extend_from_slice(&[0, 0]);
         put_aid(&mut file, &self.aid);
         for list in [&self.domains, &self.imports] {
@@ -56,7 +75,7 @@ impl FileModel {
         }
         file.push(self.classes.len() as u8);
         for class in &self.classes {
-            class.put(&mut file, &mut places);
+            class.put(self.version, &mut file, &mut places);
         }
         set_size(&mut file);
         (file, places)
@@ -68,6 +87,7 @@ impl FileModel {
         let owned = |list: &[&[u8]]| list.iter().map(|aid| aid.to_vec()).collect();
         let references = package.references.iter();
         Some(FileModel {
+            version: package.version,
             aid: package.aid.to_vec(),
             domains: owned(&package.domains),
             imports: owned(&package.imports),
@@ -86,15 +106,19 @@ impl ClassModel {
         }
     }
 
-    fn put(&self, file: &mut Vec<u8>, places: &mut Vec<usize>) {
+    fn put(&self, version: Version, file: &mut Vec<u8>, places: &mut Places) {
         file.extend_from_slice(&[self.kind, self.parents.len() as u8]);
         for &(package, class) in &self.parents {
             file.extend_from_slice(&[package, class]);
         }
         file.push(self.methods.len() as u8);
         for method in &self.methods {
-            places.push(file.len() + MethodModel::POLICY);
+            places.policies.push(file.len() + MethodModel::POLICY);
             method.put(file);
+            if version == Version::Second && method.bits & IMPLEMENTED != 0 {
+                places.handlers.push(file.len());
+                method.put_handlers(file);
+            }
         }
     }
 
@@ -117,7 +141,22 @@ impl MethodModel {
             name,
             allowed: allowed.map(<[u8]>::to_vec),
             code: code.to_vec(),
+            handlers: Vec::new(),
         }
+    }
+
+    /// The same with these handlers.
+    pub fn handled(self, handlers: &[Handler]) -> Self {
+        MethodModel {
+            handlers: handlers.to_vec(),
+            ..self
+        }
+    }
+
+    fn put_handlers(&self, file: &mut Vec<u8>) {
+        file.push(self.handlers.len() as u8);
+        let handlers = self.handlers.iter();
+        handlers.for_each(|handler| file.extend_from_slice(&handler.bytes()));
     }
 
     fn put(&self, file: &mut Vec<u8>) {
@@ -148,6 +187,7 @@ impl MethodModel {
                 Policy::Listed(indexes) => Some(indexes.to_vec()),
             },
             code: method.code.unwrap_or(&[]).to_vec(),
+            handlers: method.handlers.iter().collect(),
         }
     }
 }

@@ -2,8 +2,8 @@
 
 use super::model::{ClassModel, FileModel, MethodModel};
 use super::random::Random;
+use crate::package::Version;
 use crate::policy::{EVERY, MAX_ALLOWED, OWN};
-use crate::store::{self, Body};
 
 /// A file, the case and the number that a load with room for it answers.
 pub struct OwnLimit {
@@ -12,19 +12,26 @@ pub struct OwnLimit {
     pub file: Vec<u8>,
 }
 
-/// A method with this list, not implemented, in a file with so many domains.
-fn with_list(aid: &[u8], domain: &[u8], domain_count: usize, list: Option<&[u8]>) -> FileModel {
+/// A method with this list, not implemented, in a file with these domains.
+fn with_list(version: Version, aid: &[u8], domains: &[&[u8]], list: Option<&[u8]>) -> FileModel {
     let method = MethodModel::new(0, 1, list, &[]);
     FileModel {
+        version,
         aid: aid.to_vec(),
-        domains: vec![domain.to_vec(); domain_count],
+        domains: domains.iter().map(|aid| aid.to_vec()).collect(),
         classes: vec![ClassModel::new(0, &[], vec![method])],
         ..FileModel::default()
     }
 }
 
 /// Lists on both sides of each edge, in a file with so many domains.
-pub fn own_limits(aid: &[u8], domain: &[u8], domain_count: usize) -> Vec<OwnLimit> {
+pub fn own_limits(
+    version: Version,
+    aid: &[u8],
+    domain: &[u8],
+    domain_count: usize,
+) -> Vec<OwnLimit> {
+    let domains = vec![domain; domain_count];
     let past = domain_count as u8;
     let most = MAX_ALLOWED;
     let among = match past.checked_sub(1) {
@@ -48,10 +55,10 @@ pub fn own_limits(aid: &[u8], domain: &[u8], domain_count: usize) -> Vec<OwnLimi
     let build = |(name, number, list): (&'static str, u8, Vec<u8>)| OwnLimit {
         name,
         number,
-        file: with_list(aid, domain, domain_count, Some(&list)).bytes(),
+        file: with_list(version, aid, &domains, Some(&list)).bytes(),
     };
     let mut files: Vec<OwnLimit> = cases.into_iter().map(build).collect();
-    let open = with_list(aid, domain, domain_count, None);
+    let open = with_list(version, aid, &domains, None);
     let mut file = open.bytes();
     file[open.policy_places()[0]] = OWN;
     let (name, number) = ("count FE alone", 11);
@@ -74,17 +81,4 @@ pub fn policy_damage(random: &mut Random, file: &[u8]) -> Option<(usize, u8)> {
     }
     let index = place + 1 + random.below(usize::from(count));
     Some((index, *random.pick(&[0xFD, OWN, OWN, EVERY])))
-}
-
-/// The same for a package of a store that is laid out well.
-pub fn store_damage(random: &mut Random, bytes: &[u8]) -> Option<(usize, u8)> {
-    let entries = store::entries(bytes)?;
-    let packages = entries.iter().filter_map(|entry| match entry.body {
-        Body::Domain(_) => None,
-        Body::Package { file, .. } => Some((entry.bytes.end - file.len(), file)),
-    });
-    let packages: Vec<(usize, &[u8])> = packages.collect();
-    let &(start, file) = random.pick_any(&packages)?;
-    let (place, byte) = policy_damage(random, file)?;
-    Some((start + place, byte))
 }

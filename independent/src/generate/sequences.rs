@@ -1,7 +1,7 @@
 //! Call sequences over one buffer.
 
+use super::damage::store_damage;
 use super::files::any_file;
-use super::own_lists::store_damage;
 use super::random::Random;
 use super::scene::Scene;
 use super::stores::planted_store;
@@ -53,7 +53,7 @@ fn build(random: &mut Random, length: usize) -> Sequence {
 fn build_over_store(random: &mut Random) -> Sequence {
     let pools = pools(random);
     let question = *random.pick(&[0, 0, 0, 1, 2, 3, 4, 5, 10, 11, 12, 13, 14, 15, 16]);
-    let later = random.between(16, 20) as u8;
+    let later = *random.pick(&[16, 17, 24, 24, 18, 19, 20]);
     let question = *random.pick(&[question, question, later]);
     let store = planted_store(random, &pools, question);
     Run::new(random, store.bytes, store.scene).fill()
@@ -160,9 +160,9 @@ impl<'r> Run<'r> {
         self.steps.push(Step::Damage { place, bits });
     }
 
-    /// A place and bits to flip there: in a policy, or a bit of any byte.
+    /// A place and bits to flip there: in a policy or a handler, or a bit of any byte.
     fn new_damage(&mut self, used: usize) -> (usize, u8) {
-        if self.random.chance(25) {
+        if self.random.chance(40) {
             if let Some((place, byte)) = store_damage(self.random, &self.store) {
                 return (place, byte ^ self.store[place]);
             }

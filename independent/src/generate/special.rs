@@ -2,6 +2,7 @@
 //! limits, hostile files.
 
 use super::files::sized_file;
+use super::handler_cases::of_version;
 use super::limits::{chain, count_limits, ladder, method_limits, under_ladder};
 use super::model::{ClassModel, FileModel, MethodModel};
 use super::own_lists::own_limits;
@@ -10,6 +11,7 @@ use super::scene::Scene;
 use super::valid::valid_file;
 use crate::ledger::Call;
 use crate::loader::{Independent, Loader, Sequence, Step};
+use crate::package::Version;
 
 pub(super) const DOMAIN: &[u8] = &[0xA0, 0, 0, 0, 0xD1];
 pub(super) const OTHER: &[u8] = &[0xA0, 0, 0, 0, 0xD2, 7];
@@ -38,9 +40,10 @@ pub(super) fn load(model: &FileModel) -> Call {
     }
 }
 
-fn with_code(code: &[u8]) -> FileModel {
+fn with_code(version: Version, code: &[u8]) -> FileModel {
     let method = MethodModel::new(0x60, 1, Some(&[]), code);
     FileModel {
+        version,
         aid: FIRST.to_vec(),
         classes: vec![ClassModel::new(0, &[], vec![method])],
         ..FileModel::default()
@@ -48,29 +51,29 @@ fn with_code(code: &[u8]) -> FileModel {
 }
 
 /// Each code is loaded, and removed if it was accepted.
-fn codes_sequence(codes: impl Iterator<Item = Vec<u8>>) -> Sequence {
+fn codes_sequence(version: Version, codes: impl Iterator<Item = Vec<u8>>) -> Sequence {
     let mut calls = Vec::new();
     for code in codes {
-        calls.push(load(&with_code(&code)));
+        calls.push(load(&with_code(version, &code)));
         calls.push(Call::Remove(FIRST.to_vec()));
     }
     after_fresh(128, calls)
 }
 
-/// All codes of one and two bytes.
-pub fn short_codes() -> impl Iterator<Item = Sequence> {
-    let one = codes_sequence((0..=255).map(|a| vec![a]));
-    let two = (0..=255).map(|a| codes_sequence((0..=255).map(move |b| vec![a, b])));
-    std::iter::once(one).chain(two)
+/// All codes of one and two bytes, in files of this version.
+pub fn short_codes(version: Version) -> impl Iterator<Item = Sequence> {
+    let one = codes_sequence(version, (0..=255).map(|a| vec![a]));
+    let two = move |a| codes_sequence(version, (0..=255).map(move |b| vec![a, b]));
+    std::iter::once(one).chain((0..=255).map(two))
 }
 
-/// 256 random codes of three bytes.
-pub fn three_byte_codes(seed: u64) -> Sequence {
+/// 256 random codes of three bytes, in files of this version.
+pub fn three_byte_codes(version: Version, seed: u64) -> Sequence {
     let mut random = Random::new(seed);
-    codes_sequence((0..256).map(move |_| random.bytes(3)))
+    codes_sequence(version, (0..256).map(move |_| random.bytes(3)))
 }
 
-/// A store with two domains and three packages, the later ones importing.
+/// A store with two domains and three packages of both versions, the later ones importing.
 pub fn test_store() -> Vec<u8> {
     let random = &mut Random::new(12);
     let mut store = vec![0; 2048];
@@ -82,10 +85,16 @@ pub fn test_store() -> Vec<u8> {
     for domain in [DOMAIN, OTHER] {
         Independent.create(&mut store, domain);
     }
-    for (domain, aid) in [(DOMAIN, FIRST), (OTHER, SECOND), (DOMAIN, THIRD)] {
+    let (first, second) = (Version::First, Version::Second);
+    let packages = [
+        (DOMAIN, FIRST, second),
+        (OTHER, SECOND, first),
+        (DOMAIN, THIRD, second),
+    ];
+    for (domain, aid, version) in packages {
         loop {
             let model = valid_file(random, &scene, domain, aid);
-            let small = model.bytes().len() < 300;
+            let small = model.bytes().len() < 300 && model.version == version;
             let linked = model.imports.len() == scene.packages.len() && model.classes.len() > 2;
             if small && linked && Independent.load(&mut store, domain, &model.bytes()) & 0xFF == 0 {
                 scene.install(domain, &model.bytes());
@@ -100,7 +109,7 @@ pub fn test_store() -> Vec<u8> {
 pub fn damaged_stores() -> impl Iterator<Item = Sequence> {
     let store = test_store();
     let used = crate::store::used(&store);
-    let calls = every_call(DOMAIN, THIRD, &with_code(&[0x7A]).bytes());
+    let calls = every_call(DOMAIN, THIRD, &with_code(Version::Second, &[0x7A]).bytes());
     (0..used + 10).flat_map(move |place| {
         let calls = calls.clone();
         let store = store.clone();
@@ -154,18 +163,18 @@ pub fn lengths() -> Vec<Sequence> {
     sequences
 }
 
-/// Every limit at its value and one past it.
-pub fn limits() -> Sequence {
-    let mut calls = vec![load(&chain(SECOND, 1, 7))];
-    let counts = count_limits(FIRST, DOMAIN, Some(SECOND));
-    let methods = method_limits(FIRST, DOMAIN);
-    for file in counts.iter().chain(&methods) {
-        calls.push(load(&file.model));
-        calls.push(Call::Remove(file.model.aid.clone()));
+/// Every limit at its value and one past it, in files of this version.
+pub fn limits(version: Version) -> Sequence {
+    let mut calls = vec![load(&of_version(version, chain(SECOND, 1, 7)))];
+    let counts = count_limits(FIRST, DOMAIN, Some(SECOND)).into_iter();
+    for file in counts.chain(method_limits(FIRST, DOMAIN)) {
+        let aid = file.model.aid.clone();
+        calls.push(load(&of_version(version, file.model)));
+        calls.push(Call::Remove(aid));
     }
     for depth in 7..=9 {
         for kind in 0..=1 {
-            calls.push(load(&chain(FIRST, kind, depth)));
+            calls.push(load(&of_version(version, chain(FIRST, kind, depth))));
             calls.push(Call::Remove(FIRST.to_vec()));
         }
     }
@@ -175,8 +184,11 @@ pub fn limits() -> Sequence {
 /// Lists with FE at their limits and past them, in files with no domain, one and 32.
 pub fn own_limit_lists() -> Sequence {
     let mut calls = Vec::new();
-    for domain_count in [0, 1, 32] {
-        for limit in own_limits(FIRST, DOMAIN, domain_count) {
+    for (domain_count, version) in [0, 1, 32]
+        .into_iter()
+        .flat_map(|n| Version::BOTH.map(|v| (n, v)))
+    {
+        for limit in own_limits(version, FIRST, DOMAIN, domain_count) {
             let (domain, file) = (OTHER.to_vec(), limit.file);
             calls.push(Call::Load { domain, file });
             calls.push(Call::Remove(FIRST.to_vec()));
@@ -187,10 +199,10 @@ pub fn own_limit_lists() -> Sequence {
 
 /// Stores filled to the byte, by one package of each size around the free bytes.
 pub fn full_stores() -> Vec<Sequence> {
-    let fill = |length: usize, past: usize| {
+    let fill = |version: Version, length: usize, past: usize| {
         // Header, two domains, and the entry's own bytes before the file.
         let size = length - 7 - 8 - 9 - 9 + past;
-        let file = sized_file(FIRST, size)?;
+        let file = sized_file(version, FIRST, size)?;
         let mut calls = vec![load(&file), Call::Create(THIRD.to_vec())];
         calls.extend([Call::Delete(OTHER.to_vec()), Call::Create(THIRD.to_vec())]);
         calls.extend([Call::Delete(THIRD.to_vec()), load(&chain(SECOND, 0, 1))]);
@@ -198,15 +210,27 @@ pub fn full_stores() -> Vec<Sequence> {
         Some(after_fresh(length, calls))
     };
     let lengths = [64, 80, 100, 300, 8192, 65_535];
-    let cases = lengths.iter().flat_map(|&l| [(l, 0), (l, 1)]);
-    cases.filter_map(|(l, past)| fill(l, past)).collect()
+    let cases = lengths.iter().flat_map(|&l| Version::BOTH.map(|v| (v, l)));
+    cases
+        .flat_map(|(version, l)| [fill(version, l, 0), fill(version, l, 1)])
+        .flatten()
+        .collect()
 }
 
 /// Deep ladders of parents with many methods.
 pub fn hostile() -> Vec<Sequence> {
+    let (first, second) = (Version::First, Version::Second);
+    let ladders = [
+        (first, 0, false),
+        (first, 1, true),
+        (first, 64, false),
+        (first, 64, true),
+        (second, 64, true),
+    ];
     let mut sequences = Vec::new();
-    for (methods, last_is_class) in [(0, false), (1, true), (64, false), (64, true)] {
-        let mut calls = vec![load(&ladder(FIRST, methods, last_is_class))];
+    for (version, methods, last_is_class) in ladders {
+        let ladder = ladder(FIRST, methods, last_is_class);
+        let mut calls = vec![load(&of_version(version, ladder))];
         calls.push(load(&under_ladder(SECOND, FIRST, true)));
         for number in 0..40 {
             let aid = [0xB0, 0, 0, 0, number];

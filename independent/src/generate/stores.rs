@@ -14,8 +14,8 @@ pub struct PlantedStore {
     pub faulty: bool,
 }
 
-/// A store that holds domains and packages; question 0 plants no fault, 3 to 5 and
-/// 10 to 20 a fault for that question, 1 and 2 entries in a wrong order.
+/// A store that holds domains and packages; question 0 plants no fault, 3 to 5 and those
+/// about a file a fault for that question, 1 and 2 entries in a wrong order.
 pub fn planted_store(random: &mut Random, pools: &Scene, question: u8) -> PlantedStore {
     let mut scene = pools.clone();
     let mut entries = Vec::new();

@@ -1,6 +1,7 @@
 //! Files that every question of a load accepts, room apart.
 
 use super::codes::{call, call_kinds, valid_code};
+use super::handlers::to_second;
 use super::model::{ClassModel, FileModel, MethodModel};
 use super::own_meetings::{call_elsewhere, override_elsewhere};
 use super::policies::{random_policy, Lists};
@@ -21,7 +22,7 @@ struct Draft<'a> {
     classes: Vec<ClassFacts>,
 }
 
-/// A file for a load in this domain.
+/// A file for a load in this domain, of either version.
 pub fn valid_file(random: &mut Random, scene: &Scene, domain: &[u8], aid: &[u8]) -> FileModel {
     let mut draft = Draft {
         scene,
@@ -51,6 +52,9 @@ pub fn valid_file(random: &mut Random, scene: &Scene, domain: &[u8], aid: &[u8])
             true => call_elsewhere(random, scene, domain, &mut model, true),
             false => override_elsewhere(random, scene, domain, &mut model, true),
         };
+    }
+    if random.chance(50) {
+        to_second(random, &mut model);
     }
     model
 }
@@ -144,6 +148,7 @@ impl Draft<'_> {
             name,
             allowed,
             code,
+            handlers: Vec::new(),
         };
         (model, MethodFacts { bits, name, policy })
     }

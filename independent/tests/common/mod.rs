@@ -1,7 +1,11 @@
 //! Short ways to write packages and stores in tests.
 #![allow(dead_code)]
 
+pub mod misread;
+
 use independent::generate::model::{ClassModel, FileModel, MethodModel};
+use independent::ledger::Ledger;
+use independent::loader::{damage, Independent, Loader, Sequence, Step};
 use independent::operations::{create, fresh, load};
 
 pub const D1: &[u8] = &[0xA0, 0, 0, 0, 0xD1];
@@ -87,4 +91,30 @@ pub fn with_code(code: &[u8]) -> FileModel {
         P1,
         vec![class(&[], vec![coded(STATIC, 1, Some(&[]), code)])],
     )
+}
+
+/// The answers of a sequence; the ledger follows where it may.
+pub fn answers(sequence: &Sequence) -> Vec<u32> {
+    let mut store = sequence.start.clone();
+    let mut ledger = sequence.has_ledger().then(|| Ledger::new(store.len()));
+    let mut found = Vec::new();
+    for step in &sequence.steps {
+        match step {
+            Step::Damage { place, bits } => damage(&mut store, *place, *bits),
+            Step::Call(call) => {
+                let answer = Independent.call(&mut store, call);
+                if let Some(ledger) = &mut ledger {
+                    assert_eq!(answer, ledger.call(call).encoded());
+                    assert!(store == ledger.written_out(store.len()));
+                }
+                found.push(answer);
+            }
+        }
+    }
+    found
+}
+
+/// The numbers of a sequence.
+pub fn numbers(sequence: &Sequence) -> Vec<u32> {
+    answers(sequence).into_iter().map(|a| a & 0xFF).collect()
 }

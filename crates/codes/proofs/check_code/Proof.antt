@@ -23,7 +23,7 @@ slice-aggregate-check-marked-2 c = sym (simp length-take (omega arith))
 
 check-marked-requires : tie.Need-check-marked-requires
 check-marked-requires c κs =
-    let start = c .before .before .before .before .before in
+    let start = c .before .before .before .before .before .before in
     (start .pre .0, simp length-take (omega arith), simp length-take (omega arith))
 
 same-length : tie.Need-same-length

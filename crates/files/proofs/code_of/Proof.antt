@@ -2,6 +2,7 @@
 use native.Mathlib.Omega.{arith}
 use borrow.Author.Needs.{needs}
 use Rattle.files.proofs.Steps as steps
+use Rattle.files.proofs.Guards as guards
 use Rattle.files.proofs.code_of.Statement.{statement}
 use Rattle.files.proofs.code_of.Tie as tie
 
@@ -25,25 +26,25 @@ sub-result : tie.Need-sub-result
 sub-result c =
     let c1 = c .before .before in
     let pre = c1 .before .before .before .pre in
-    omega (arith, steps.bare-in (c1 .wide .ensures .0) (c .before .after-policy .ensures) (c .if1 .taken) pre)
+    omega (arith, guards.bare-in (c1 .wide .ensures .0) (c .before .after-policy .ensures) (c .if1 .taken) pre)
 
 part-result-start : tie.Need-part-result-start
 part-result-start c =
     let c1 = c .before .before in
     let pre = c1 .before .before .before .pre in
-    omega (arith, steps.bare-in (c1 .wide .ensures .0) (c .before .after-policy .ensures) (c .if1 .taken) pre)
+    omega (arith, guards.bare-in (c1 .wide .ensures .0) (c .before .after-policy .ensures) (c .if1 .taken) pre)
 
 part-result-end : tie.Need-part-result-end
 part-result-end c =
     let c1 = c .before .before in
     let pre = c1 .before .before .before .pre in
-    omega (arith, steps.bare-in (c1 .wide .ensures .0) (c .before .after-policy .ensures) (c .if1 .taken) pre)
+    omega (arith, guards.bare-in (c1 .wide .ensures .0) (c .before .after-policy .ensures) (c .if1 .taken) pre)
 
 returns : tie.Need-returns
 returns c =
     let c1 = c .before .before in
     let wide = c1 .before .wide in
-    steps.bare-code (wide .ensures .0) (c1 .after-policy .ensures) (c .before .if1 .taken)
+    guards.bare-code (wide .ensures .0) (c1 .after-policy .ensures) (c .before .if1 .taken)
 
 add-e : tie.Need-add-e
 add-e c =
@@ -52,15 +53,15 @@ add-e c =
     let pre = c1 .before .before .before .pre in
     omega (
       arith,
-      (steps.code-in (wide .ensures .0) (c .before .after-policy .ensures) (c .if1 .left) pre) .0,
-      (steps.code-in (wide .ensures .0) (c .before .after-policy .ensures) (c .if1 .left) pre) .1,
+      (guards.code-in (wide .ensures .0) (c .before .after-policy .ensures) (c .if1 .left) pre) .0,
+      (guards.code-in (wide .ensures .0) (c .before .after-policy .ensures) (c .if1 .left) pre) .1,
     )
 
 u2-at-requires : tie.Need-u2-at-requires
 u2-at-requires c κs =
     let c1 = c .before .before in
     let pre = c1 .before .before .before .pre in
-    (steps.code-in (c1 .wide .ensures .0) (c .before .after-policy .ensures) (c .if1 .left) pre) .0
+    (guards.code-in (c1 .wide .ensures .0) (c .before .after-policy .ensures) (c .if1 .left) pre) .0
 
 add-e-2 : tie.Need-add-e-2
 add-e-2 c =
@@ -71,8 +72,8 @@ add-e-2 c =
     let pre = c2 .before .before .before .pre in
     omega (
       arith,
-      (steps.code-in (wide .ensures .0) (after-policy .ensures) (c .before .if1 .left) pre) .0,
-      (steps.code-in (wide .ensures .0) (after-policy .ensures) (c .before .if1 .left) pre) .1,
+      (guards.code-in (wide .ensures .0) (after-policy .ensures) (c .before .if1 .left) pre) .0,
+      (guards.code-in (wide .ensures .0) (after-policy .ensures) (c .before .if1 .left) pre) .1,
       c .u2-at .ensures .0,
     )
 
@@ -85,8 +86,8 @@ add-result c =
     let pre = c2 .before .before .before .pre in
     omega (
       arith,
-      (steps.code-in (wide .ensures .0) (after-policy .ensures) (c .before .if1 .left) pre) .0,
-      (steps.code-in (wide .ensures .0) (after-policy .ensures) (c .before .if1 .left) pre) .1,
+      (guards.code-in (wide .ensures .0) (after-policy .ensures) (c .before .if1 .left) pre) .0,
+      (guards.code-in (wide .ensures .0) (after-policy .ensures) (c .before .if1 .left) pre) .1,
       c .u2-at .ensures .0,
     )
 
@@ -99,8 +100,8 @@ sub-result-2 c =
     let pre = c2 .before .before .before .pre in
     omega (
       arith,
-      (steps.code-in (wide .ensures .0) (after-policy .ensures) (c .before .if1 .left) pre) .0,
-      (steps.code-in (wide .ensures .0) (after-policy .ensures) (c .before .if1 .left) pre) .1,
+      (guards.code-in (wide .ensures .0) (after-policy .ensures) (c .before .if1 .left) pre) .0,
+      (guards.code-in (wide .ensures .0) (after-policy .ensures) (c .before .if1 .left) pre) .1,
       c .u2-at .ensures .0,
     )
 
@@ -113,8 +114,8 @@ part-result-start-2 c =
     let pre = c2 .before .before .before .pre in
     omega (
       arith,
-      (steps.code-in (wide .ensures .0) (after-policy .ensures) (c .before .if1 .left) pre) .0,
-      (steps.code-in (wide .ensures .0) (after-policy .ensures) (c .before .if1 .left) pre) .1,
+      (guards.code-in (wide .ensures .0) (after-policy .ensures) (c .before .if1 .left) pre) .0,
+      (guards.code-in (wide .ensures .0) (after-policy .ensures) (c .before .if1 .left) pre) .1,
       c .u2-at .ensures .0,
     )
 
@@ -127,8 +128,8 @@ part-result-end-2 c =
     let pre = c2 .before .before .before .pre in
     omega (
       arith,
-      (steps.code-in (wide .ensures .0) (after-policy .ensures) (c .before .if1 .left) pre) .0,
-      (steps.code-in (wide .ensures .0) (after-policy .ensures) (c .before .if1 .left) pre) .1,
+      (guards.code-in (wide .ensures .0) (after-policy .ensures) (c .before .if1 .left) pre) .0,
+      (guards.code-in (wide .ensures .0) (after-policy .ensures) (c .before .if1 .left) pre) .1,
       c .u2-at .ensures .0,
     )
 
@@ -137,7 +138,7 @@ returns-2 c =
     let c1 = c .before .before in
     let c2 = c1 .before in
     let wide = c2 .before .wide in
-    steps.code-is (wide .ensures .0) (c2 .after-policy .ensures) (c1 .if1 .left) (c .before .u2-at .ensures .0)
+    guards.code-is (wide .ensures .0) (c2 .after-policy .ensures) (c1 .if1 .left) (c .before .u2-at .ensures .0)
 
 pub code-of-spec : {M : Type 1} → statement M
 code-of-spec =

@@ -1,12 +1,18 @@
 -- `reader::read_contents` meets its contract: by each of its parts. Assumes nothing.
 use mathlib.Core.Option.{none}
 use borrow.Author.Needs.{needs}
+use denote.Ref.{now}
 use Rattle.rules.specs.Bytes.{aid}
+use Rattle.rules.specs.Package.{Format, formatOf}
 use Rattle.cursor.specs.Limits.{limitsOf}
 use Rattle.cursor.proofs.Steps.{stop-of, field-is, field-bad, aid-is, aid-bad, skip-is, skip-bad}
 use Rattle.reader.proofs.Files.{named-none, domains-none, imports-none, references-none, contents-stop, contents-bad, contents-are}
 use Rattle.reader.proofs.read_contents.Statement.{statement}
 use Rattle.reader.proofs.read_contents.Tie as tie
+
+-- the format of the file
+abbrev format : tie.Start → Format
+format start = formatOf (limitsOf (start .args .limits)) (now (start .args .f))
 
 aid-requires : tie.Need-aid-requires
 aid-requires c κs = search needs
@@ -23,7 +29,7 @@ returns c =
     let at-aid = c1 .aid in
     let start = c1 .before .before in
     let at-enum-told = c .enum-told in
-    contents-bad (named-none (limitsOf (start .args .limits)) (aid-bad (at-enum-told .given .1) (at-aid .ensures)))
+    contents-bad (named-none (format start) (aid-bad (at-enum-told .given .1) (at-aid .ensures)))
 
 aids-requires : tie.Need-aids-requires
 aids-requires c κs = search needs
@@ -45,7 +51,7 @@ returns-2 c =
     let start = c3 .before .before in
     let at-enum-told2 = c .enum-told2 in
     let named = aid-is (at-domains .given .1) (at-aid .ensures) in
-    contents-bad (domains-none (limitsOf (start .args .limits)) named (field-bad (at-enum-told2 .given .1) (at-aids .ensures)))
+    contents-bad (domains-none (format start) named (field-bad (at-enum-told2 .given .1) (at-aids .ensures)))
 
 aids-requires-2 : tie.Need-aids-requires-2
 aids-requires-2 c κs = search needs
@@ -72,7 +78,7 @@ returns-3 c =
     let at-enum-told3 = c .enum-told3 in
     let named = aid-is (at-domains .given .1) (at-aid .ensures) in
     let domains = field-is (at-count .given .1) (at-aids .ensures) in
-    contents-bad (imports-none (limitsOf (start .args .limits)) named domains (field-bad (at-enum-told3 .given .1) (at-aids2 .ensures)))
+    contents-bad (imports-none (format start) named domains (field-bad (at-enum-told3 .given .1) (at-aids2 .ensures)))
 
 skip-references-requires : tie.Need-skip-references-requires
 skip-references-requires c κs = search needs
@@ -104,7 +110,7 @@ returns-4 c =
     let named = aid-is (at-domains .given .1) (at-aid .ensures) in
     let domains = field-is (at-count .given .1) (at-aids .ensures) in
     let imports = field-is (at-references .given .1) (at-aids2 .ensures) in
-    contents-bad (references-none (limitsOf (start .args .limits)) named domains imports (skip-bad (at-enum-told4 .given .1) (at-skip-references .ensures)))
+    contents-bad (references-none (format start) named domains imports (skip-bad (at-enum-told4 .given .1) (at-skip-references .ensures)))
 
 skip-classes-requires : tie.Need-skip-classes-requires
 skip-classes-requires c κs = search needs
@@ -141,7 +147,7 @@ returns-5 c =
     let domains = field-is (at-count .given .1) (at-aids .ensures) in
     let imports = field-is (at-references .given .1) (at-aids2 .ensures) in
     let references = skip-is (at-classes .given .1) (at-skip-references .ensures) in
-    contents-bad (contents-stop (limitsOf (start .args .limits)) named domains imports references none
+    contents-bad (contents-stop (format start) named domains imports references none
     (λ ds e. skip-bad (at-enum-told5 .given .1) (at-skip-classes .ensures ds e)))
 
 returns-6 : tie.Need-returns-6
@@ -170,7 +176,7 @@ returns-6 c =
     let domains = field-is (at-count .given .1) (at-aids .ensures) in
     let imports = field-is (at-references .given .1) (at-aids2 .ensures) in
     let references = skip-is (at-classes .given .1) (at-skip-references .ensures) in
-    contents-are _ _ (contents-stop (limitsOf (start .args .limits)) named domains imports references _
+    contents-are _ _ (contents-stop (format start) named domains imports references _
     (λ ds e. skip-is (at-end .given .1) (at-skip-classes .ensures ds e)))
     (record { named = stop-of named; domains = stop-of domains; imports = stop-of imports; references = references })
 

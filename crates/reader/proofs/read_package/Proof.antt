@@ -4,12 +4,18 @@ use mathlib.Core.Path.{sym, _∙_}
 use mathlib.Core.Option.{none}
 use borrow.Author.Tests.{not-true, not-false}
 use borrow.Author.Needs.{needs}
+use denote.Ref.{now}
 use Rattle.rules.specs.Bytes.{u2}
+use Rattle.rules.specs.Package.{Format, formatOf}
 use Rattle.cursor.specs.Limits.{limitsOf}
 use Rattle.cursor.proofs.Steps.{field-is, field-bad}
 use Rattle.reader.proofs.Files.{contents-stopped, contents-none, size-none, size-other, size-leads, size-ends, file-none, file-left, file-reads, unmarked, unreadable, package-read}
 use Rattle.reader.proofs.read_package.Statement.{statement}
 use Rattle.reader.proofs.read_package.Tie as tie
+
+-- the format of the file
+abbrev format : tie.Start → Format
+format start = formatOf (limitsOf (start .args .limits)) (now (start .args .f))
 
 marked-requires : tie.Need-marked-requires
 marked-requires c κs = search needs
@@ -44,9 +50,9 @@ returns-2 c =
     let at-marked = c4 .marked in
     let start = c4 .before .before in
     let at-enum-told = c .enum-told in
-    let limits = limitsOf (start .args .limits) in
+    let t = format start in
     let mark = sym (at-marked .ensures) ∙ not-false (at-marked .result) (at-if1 .left) in
-    unreadable mark (file-none limits (size-none limits (rw (at-new .ensures) at (field-bad (at-enum-told .given .1) (at-u2 .ensures)))))
+    unreadable mark (file-none (t .limits) (size-none t (rw (at-new .ensures) at (field-bad (at-enum-told .given .1) (at-u2 .ensures)))))
 
 returns-3 : tie.Need-returns-3
 returns-3 c =
@@ -61,10 +67,10 @@ returns-3 c =
     let c5 = c4 .before in
     let at-marked = c5 .marked in
     let start = c5 .before .before in
-    let limits = limitsOf (start .args .limits) in
+    let t = format start in
     let mark = sym (at-marked .ensures) ∙ not-false (at-marked .result) (at-if1 .left) in
     let size = rw (at-new .ensures) at (field-is (at-size .given .1) (at-u2 .ensures)) in
-    unreadable mark (file-none limits (size-other limits size (λ z. omega arith)))
+    unreadable mark (file-none (t .limits) (size-other t size (λ z. omega arith)))
 
 read-contents-requires : tie.Need-read-contents-requires
 read-contents-requires c κs = search needs
@@ -91,10 +97,10 @@ returns-4 c =
     let at-marked = c6 .marked in
     let start = c6 .before .before in
     let at-enum-told2 = c .enum-told2 in
-    let limits = limitsOf (start .args .limits) in
+    let t = format start in
     let mark = sym (at-marked .ensures) ∙ not-false (at-marked .result) (at-if1 .left) in
     let size = rw (at-new .ensures) at (field-is (at-size .given .1) (at-u2 .ensures)) in
-    unreadable mark (file-none limits (size-leads limits size (omega arith) none (contents-none (at-enum-told2 .given .1) (at-read-contents .ensures))))
+    unreadable mark (file-none (t .limits) (size-leads t size (omega arith) none (contents-none (at-enum-told2 .given .1) (at-read-contents .ensures))))
 
 returns-5 : tie.Need-returns-5
 returns-5 c =
@@ -113,11 +119,11 @@ returns-5 c =
     let c7 = c6 .before in
     let at-marked = c7 .marked in
     let start = c7 .before .before in
-    let limits = limitsOf (start .args .limits) in
+    let t = format start in
     let mark = sym (at-marked .ensures) ∙ not-false (at-marked .result) (at-if1 .left) in
     let size = rw (at-new .ensures) at (field-is (at-size .given .1) (at-u2 .ensures)) in
-    let contents = size-leads limits size (omega arith) _ (contents-stopped (at-places .given .1) (at-read-contents .ensures)) in
-    unreadable mark (file-left limits contents (omega arith))
+    let contents = size-leads t size (omega arith) _ (contents-stopped (at-places .given .1) (at-read-contents .ensures)) in
+    unreadable mark (file-left (t .limits) contents (omega arith))
 
 returns-6 : tie.Need-returns-6
 returns-6 c =
@@ -136,11 +142,11 @@ returns-6 c =
     let c7 = c6 .before in
     let at-marked = c7 .marked in
     let start = c7 .before .before in
-    let limits = limitsOf (start .args .limits) in
+    let t = format start in
     let mark = sym (at-marked .ensures) ∙ not-false (at-marked .result) (at-if1 .left) in
     let size = rw (at-new .ensures) at (field-is (at-size .given .1) (at-u2 .ensures)) in
-    let contents = size-leads limits size (omega arith) _ (contents-stopped (at-places .given .1) (at-read-contents .ensures)) in
-    package-read mark (file-reads limits contents (omega arith)) _ (rw (size-ends limits size) at (at-read-contents .ensures .stand _ _ (at-places .given .1)))
+    let contents = size-leads t size (omega arith) _ (contents-stopped (at-places .given .1) (at-read-contents .ensures)) in
+    package-read mark (file-reads (t .limits) contents (omega arith)) _ (rw (size-ends t size) at (at-read-contents .ensures .stand _ _ (at-places .given .1)))
 
 pub read-package-spec : {M : Type 1} → statement M
 read-package-spec =

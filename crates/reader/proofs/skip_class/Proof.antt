@@ -1,12 +1,18 @@
 -- `reader::skip_class` meets its contract: by each of its parts. Assumes nothing.
 use native.Mathlib.Omega.{arith}
 use borrow.Author.Needs.{needs}
+use denote.Ref.{now}
 use Rattle.rules.specs.Bytes.{u1}
+use Rattle.rules.specs.Package.{Format, formatOf}
 use Rattle.cursor.specs.Limits.{limitsOf}
 use Rattle.cursor.proofs.Steps.{field-is, field-bad, skip-is, skip-bad}
 use Rattle.reader.proofs.Formats.{class-none, class-kind, class-parents-none, class-leads}
 use Rattle.reader.proofs.skip_class.Statement.{statement}
 use Rattle.reader.proofs.skip_class.Tie as tie
+
+-- the format of the file
+abbrev format : tie.Start → Format
+format start = formatOf (limitsOf (start .args .limits)) (now (start .args .f))
 
 u1-requires : tie.Need-u1-requires
 u1-requires c κs = search needs
@@ -23,7 +29,7 @@ returns c =
     let at-u1 = c1 .u1 in
     let start = c1 .before .before in
     let at-enum-told = c .enum-told in
-    λ ds e. class-none (limitsOf (start .args .limits)) ds (field-bad (at-enum-told .given .1) (at-u1 .ensures))
+    λ ds e. class-none (format start) ds (field-bad (at-enum-told .given .1) (at-u1 .ensures))
 
 returns-2 : tie.Need-returns-2
 returns-2 c =
@@ -33,7 +39,7 @@ returns-2 c =
     let at-u1 = c2 .u1 in
     let start = c2 .before .before in
     let kind = field-is (at-kind .given .1) (at-u1 .ensures) in
-    λ ds e. class-kind (limitsOf (start .args .limits)) ds kind (omega arith)
+    λ ds e. class-kind (format start) ds kind (omega arith)
 
 skip-parents-requires : tie.Need-skip-parents-requires
 skip-parents-requires c κs = search needs
@@ -55,7 +61,7 @@ returns-3 c =
     let start = c3 .before .before in
     let at-enum-told2 = c .enum-told2 in
     let kind = field-is (at-kind .given .1) (at-u1 .ensures) in
-    λ ds e. class-parents-none (limitsOf (start .args .limits)) ds kind (omega arith) (skip-bad (at-enum-told2 .given .1) (at-skip-parents .ensures))
+    λ ds e. class-parents-none (format start) ds kind (omega arith) (skip-bad (at-enum-told2 .given .1) (at-skip-parents .ensures))
 
 skip-methods-requires : tie.Need-skip-methods-requires
 skip-methods-requires c κs = search needs
@@ -73,7 +79,7 @@ returns-4 c =
     let start = c4 .before .before in
     let at-skip-methods = c .skip-methods in
     let kind = field-is (at-kind .given .1) (at-u1 .ensures) in
-    λ ds e. class-leads (limitsOf (start .args .limits)) ds kind (omega arith) (skip-is (at-methods .given .1) (at-skip-parents .ensures)) _
+    λ ds e. class-leads (format start) ds kind (omega arith) (skip-is (at-methods .given .1) (at-skip-parents .ensures)) _
     (at-skip-methods .ensures ds e)
 
 pub skip-class-spec : {M : Type 1} → statement M

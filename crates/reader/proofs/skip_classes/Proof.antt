@@ -6,8 +6,9 @@ use mathlib.Core.List.{List}
 use mathlib.Core.Option.{none}
 use lib.ListN.{length}
 use borrow.Author.Needs.{needs}
+use denote.Ref.{now}
 use Rattle.rules.specs.Bytes.{Aid, u1, many}
-use Rattle.rules.specs.Package.{mostClasses, class}
+use Rattle.rules.specs.Package.{Format, formatOf, mostClasses, class}
 use Rattle.cursor.specs.Limits.{limitsOf}
 use Rattle.cursor.proofs.Steps.{Leads, said-inside, field-is, field-bad, skip-is, skip-bad}
 use Rattle.cursor.proofs.Counts.{count-none, count-many, count-leads, loop-next, loop-none, loop-done}
@@ -16,11 +17,16 @@ use Rattle.reader.proofs.skip_classes.Statement.{statement}
 use Rattle.reader.proofs.skip_classes.Tie as tie
 
 abbrev Inv-loop : tie.InvT-loop
-Inv-loop f domains limits count c₀ left₀ c left = (c .at .0 ≤ length f) ×
-    ((ds : List Aid) → length ds ≡ domains → Leads (many count (class (limitsOf limits) ds)) (many left (class (limitsOf limits) ds)) f (c₀ .at .0) (c .at .0))
+Inv-loop f domains limits count c₀ left₀ c left = (c .at .0 ≤ length f) × ((ds : List Aid) → length ds ≡ domains →
+    let t = formatOf (limitsOf limits) f in
+    Leads (many count (class t ds)) (many left (class t ds)) f (c₀ .at .0) (c .at .0))
 
 abbrev μ-loop : tie.MeasureT-loop
 μ-loop f domains limits count c₀ left₀ c left = left
+
+-- the format of the file
+abbrev format : tie.Start Inv-loop μ-loop → Format
+format start = formatOf (limitsOf (start .args .limits)) (now (start .args .f))
 
 u1-requires : tie.Need-u1-requires Inv-loop μ-loop
 u1-requires c κs = search needs
@@ -37,7 +43,7 @@ returns c =
     let at-u1 = c1 .u1 in
     let start = c1 .before .before in
     let at-enum-told = c .enum-told in
-    λ ds e. count-none mostClasses (class (limitsOf (start .args .limits)) ds) (field-bad (at-enum-told .given .1) (at-u1 .ensures))
+    λ ds e. count-none mostClasses (class (format start) ds) (field-bad (at-enum-told .given .1) (at-u1 .ensures))
 
 returns-2 : tie.Need-returns-2 Inv-loop μ-loop
 returns-2 c =
@@ -47,7 +53,7 @@ returns-2 c =
     let at-u1 = c2 .u1 in
     let start = c2 .before .before in
     let field = field-is (at-count .given .1) (at-u1 .ensures) in
-    λ ds e. count-many mostClasses (class (limitsOf (start .args .limits)) ds) field (omega arith)
+    λ ds e. count-many mostClasses (class (format start) ds) field (omega arith)
 
 loop-holds : tie.Need-loop-holds Inv-loop μ-loop
 loop-holds c =
@@ -78,12 +84,12 @@ returns-3 c =
     let at-u1 = c4 .u1 in
     let start = c4 .before .before in
     let at-enum-told2 = c .enum-told2 in
-    let limits = limitsOf (start .args .limits) in
+    let t = format start in
     let field = field-is (at-count .given .1) (at-u1 .ensures) in
     λ ds e.
-    let bad = loop-none (class limits ds) (at-loop .left) (at-loop .inv .1 ds e) (omega arith)
+    let bad = loop-none (class t ds) (at-loop .left) (at-loop .inv .1 ds e) (omega arith)
     (skip-bad (at-enum-told2 .given .1) (at-skip-class .ensures ds e)) in
-    count-leads mostClasses (class limits ds) field (omega arith) none bad
+    count-leads mostClasses (class t ds) field (omega arith) none bad
 
 sub-left : tie.Need-sub-left Inv-loop μ-loop
 sub-left c = omega arith
@@ -99,9 +105,9 @@ loop-again c =
     let at-loop = c2 .loop in
     let start = c2 .before .before .before .before .before .before .before in
     let at-next = c .before .next in
-    let limits = limitsOf (start .args .limits) in (
-      inside-any {r = class limits} (start .args .domains) (λ ds e. skip-is (at-next .given .1) (at-skip-class .ensures ds e)),
-      λ ds e. loop-next (class limits ds) (at-loop .left) (at-loop .inv .1 ds e) (omega arith) (skip-is (at-next .given .1) (at-skip-class .ensures ds e)),
+    let t = format start in (
+      inside-any {r = class t} (start .args .domains) (λ ds e. skip-is (at-next .given .1) (at-skip-class .ensures ds e)),
+      λ ds e. loop-next (class t ds) (at-loop .left) (at-loop .inv .1 ds e) (omega arith) (skip-is (at-next .given .1) (at-skip-class .ensures ds e)),
     )
 
 returns-4 : tie.Need-returns-4 Inv-loop μ-loop
@@ -112,11 +118,11 @@ returns-4 c =
     let at-u1 = c2 .u1 in
     let start = c2 .before .before in
     let at-loop = c .before .loop in
-    let limits = limitsOf (start .args .limits) in
+    let t = format start in
     let field = field-is (at-count .given .1) (at-u1 .ensures) in
     λ ds e.
-    let done = loop-done (class limits ds) (at-loop .left) (at-loop .inv .1 ds e) (omega arith) (at-loop .inv .0) in
-    count-leads mostClasses (class limits ds) field (omega arith) _ done
+    let done = loop-done (class t ds) (at-loop .left) (at-loop .inv .1 ds e) (omega arith) (at-loop .inv .0) in
+    count-leads mostClasses (class t ds) field (omega arith) _ done
 
 pub skip-classes-spec : {M : Type 1} → statement M
 skip-classes-spec =
