@@ -13,6 +13,7 @@ const struct aid MEALS = {"meals", 6, {0xA0, 0x00, 0x00, 0x00, 0xC1, 0x01}};
 const struct aid TREATS = {"treats", 6, {0xA0, 0x00, 0x00, 0x00, 0xC1, 0x02}};
 const struct aid STATEMENTS = {"statements", 6, {0xA0, 0x00, 0x00, 0x00, 0xD1, 0x01}};
 const struct aid REQUESTS = {"requests", 6, {0xA0, 0x00, 0x00, 0x00, 0xD1, 0x02}};
+const struct aid ROTA = {"rota", 6, {0xA0, 0x00, 0x00, 0x00, 0xD1, 0x03}};
 const struct aid DIET = {"diet", 6, {0xA0, 0x00, 0x00, 0x00, 0xF1, 0x01}};
 const struct aid CABINET = {"cabinet", 6, {0xA0, 0x00, 0x00, 0x00, 0xF1, 0x02}};
 
@@ -23,7 +24,7 @@ enum { SIZE_PLACE = 5 };
 enum { VERSION_1 = 1, VERSION_2 = 2 };
 
 /* Class kinds and the bits of a method. */
-enum { KIND_CLASS = 0 };
+enum { KIND_CLASS = 0, KIND_INTERFACE = 1 };
 enum { VISIBLE = 0x80, IMPLEMENTED = 0x40, STATIC = 0x20 };
 
 /* Package numbers in references and parents. */
@@ -130,6 +131,18 @@ static void put_one_class_below(struct file *file, unsigned package, unsigned me
     put_u1(file, package);
     put_u1(file, 0);
     put_u1(file, methods);
+}
+
+/* A class or interface without methods; its parents are so many own classes, the last of them `last`. */
+static void put_bare_class(struct file *file, unsigned kind, unsigned parents, unsigned last)
+{
+    put_u1(file, kind);
+    put_u1(file, parents);
+    for (unsigned i = 0; i < parents; i++) {
+        put_u1(file, OWN);
+        put_u1(file, last - i);
+    }
+    put_u1(file, 0);
 }
 
 /* The allowed count, and the index of each domain of the set, FE for the own one. */
@@ -274,5 +287,20 @@ void write_treats(struct file *file)
     put_one_reference(file, IMPORT_1, NAME_FORWARD);
     put_one_class(file, 1);
     put_method(file, VISIBLE | STATIC, NAME_TREAT, BY_NONE, treat_code, sizeof treat_code);
+    end_file(file);
+}
+
+void write_rota(struct file *file, unsigned depth, unsigned parents)
+{
+    begin_file(file, VERSION_1, &ROTA);
+    put_domains(file);
+    put_no_imports(file);
+    put_no_references(file);
+    put_u1(file, depth);
+    put_bare_class(file, KIND_INTERFACE, 0, 0);
+    for (unsigned i = 1; i + 1 < depth; i++) {
+        put_bare_class(file, KIND_INTERFACE, 1, i - 1);
+    }
+    put_bare_class(file, KIND_CLASS, parents, depth - 2);
     end_file(file);
 }

@@ -18,7 +18,7 @@ struct aid {
 extern const struct aid CANTEEN, DIRECTORY, PHARMACY, RADIOLOGY;
 
 /* Packages: each vendor's bytes and a number of its own. */
-extern const struct aid MEALS, TREATS, STATEMENTS, REQUESTS, DIET, CABINET;
+extern const struct aid MEALS, TREATS, STATEMENTS, REQUESTS, ROTA, DIET, CABINET;
 
 /* Method names. A name stands for name and descriptor. */
 enum {
@@ -71,5 +71,11 @@ void write_requests(struct file *file, unsigned forward_allows, unsigned handler
 
 /* Canteen: treat calls the directory's forward; it allows no domain. */
 void write_treats(struct file *file);
+
+/*
+ * Directory: interfaces 0, 1, .., each the parent of the next, and below the last so many of them a class,
+ * the shift, which has the given depth. It has no methods.
+ */
+void write_rota(struct file *file, unsigned depth, unsigned parents);
 
 #endif

@@ -38,6 +38,7 @@ static const struct store trial = {copy_bytes, sizeof copy_bytes, true};
 static const struct store damaged = {copy_bytes, sizeof copy_bytes, false};
 static const struct store small = {copy_bytes, LOADER_STORE_LEAST, false};
 static const struct store too_small = {copy_bytes, LOADER_STORE_LEAST - 1, false};
+static const struct store next_card = {copy_bytes, sizeof copy_bytes, false};
 
 /* The store's bytes before a call. */
 static uint8_t before[CARD_BYTES];
@@ -118,6 +119,18 @@ static void fresh(struct store store, uint32_t expected)
     remember(store);
     row(store, loader_fresh(store.bytes, store.length), expected, loader_number_text(LOADER_DONE),
         "fresh store of %u bytes", (unsigned)store.length);
+}
+
+/* A fresh store with the limits of a series. */
+static void fresh_limits(struct store store, unsigned depth, unsigned parents, unsigned code,
+                         uint32_t expected)
+{
+    remember(store);
+    row(store,
+        loader_fresh_limits(store.bytes, store.length, (uint8_t)depth, (uint8_t)parents,
+                            (uint16_t)code),
+        expected, loader_number_text(LOADER_DONE), "fresh store of %u bytes, limits %u, %u, %u",
+        (unsigned)store.length, depth, parents, code);
 }
 
 static void create(struct store store, const struct aid *domain, uint32_t expected)
@@ -335,6 +348,37 @@ static void sunday(void)
     }
 }
 
+/* Other stores, which the simulated card has not: its limits are those of version 1. */
+static void next_series(void)
+{
+    struct file rota, meals;
+
+    say("Next: cards of other series, whose limits are chosen when the store is made: how deep a class\n"
+        "  may be, how many parents it may have, how long a code may be.\n"
+        "  The directory's rota has a class of depth 9 with five parents. Cards of the week's series\n"
+        "  allow four parents and depth 8.");
+    fresh(next_card, LOADER_DONE);
+    create(next_card, &DIRECTORY, LOADER_DONE);
+    write_rota(&rota, 9, 5);
+    load(next_card, "rota, five parents,", &DIRECTORY, &rota, 9, LOADER_FILE_LAYOUT);
+    write_rota(&rota, 9, 4);
+    load(next_card, "rota, four parents,", &DIRECTORY, &rota, 9, LOADER_CLASS_PARENTS);
+    say("  A series with the greatest limits; a depth of 17 is refused, and the card stays as it was.");
+    fresh_limits(next_card, LOADER_DEPTH_MOST + 1, LOADER_PARENTS_MOST, LOADER_CODE_MOST, LOADER_LIMITS);
+    fresh_limits(next_card, LOADER_DEPTH_MOST, LOADER_PARENTS_MOST, LOADER_CODE_MOST, LOADER_DONE);
+    create(next_card, &DIRECTORY, LOADER_DONE);
+    write_rota(&rota, 9, 5);
+    load(next_card, "rota, five parents,", &DIRECTORY, &rota, 9, LOADER_DONE);
+    say("  A series with small limits: order of meals has 5 bytes of code.");
+    fresh_limits(next_card, 2, 1, 4, LOADER_DONE);
+    create(next_card, &CANTEEN, LOADER_DONE);
+    write_meals(&meals);
+    load(next_card, "meals", &CANTEEN, &meals, 1, LOADER_FILE_LAYOUT);
+    fresh_limits(next_card, 2, 1, 5, LOADER_DONE);
+    create(next_card, &CANTEEN, LOADER_DONE);
+    load(next_card, "meals", &CANTEEN, &meals, 1, LOADER_DONE);
+}
+
 int main(int count, char **words)
 {
     if (count == 2 && strcmp(words[1], "card") == 0) {
@@ -351,5 +395,6 @@ int main(int count, char **words)
     friday();
     saturday();
     sunday();
+    next_series();
     return as_expected ? 0 : 1;
 }

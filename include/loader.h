@@ -1,5 +1,5 @@
 /*
- * The staff card loader: six operations on a store that the caller lends.
+ * The staff card loader: seven operations on a store that the caller lends.
  *
  * Every operation answers number + 256 * figure. The number is 0 when the
  * operation was done; else it is that of the first question answered no
@@ -15,9 +15,9 @@
  * Refusals. Where the number is not 0, every byte of the store is as it was,
  * and the figure is 0.
  *
- * Soundness. Every operation but fresh first checks the whole store (question
- * 2). This is no checksum: bytes that were changed from outside are noticed
- * only where the store is no longer sound.
+ * Soundness. Every operation but the two fresh calls first checks the whole
+ * store (question 2). This is no checksum: bytes that were changed from outside
+ * are noticed only where the store is no longer sound.
  *
  * Policies. A method allows the domains at its indexes, with FF every domain,
  * and by index FE the domain that its own package was loaded in, for as long as
@@ -31,10 +31,19 @@
  * none. A call that a handler guards, or that stands where it goes on, is a call
  * of its method like any other.
  *
+ * Limits of a series. A store has three limits: the greatest depth of a class,
+ * the greatest number of its parents and the greatest length of a code. They are
+ * chosen when the store is made. loader_fresh_limits takes them and writes them
+ * into the store, which is then of version 2; loader_fresh writes version 1, which
+ * means 8, 4 and 4,096. Every other operation reads them from the store, and none
+ * changes them. A file with more parents or a longer code is refused with 11, one
+ * with a deeper class with 14, whatever the version of the file. A stored limit
+ * out of its range makes the store unsound (2).
+ *
  * Used. The bytes that a store's opening and its entries take stand in its
  * bytes 5 and 6, the high byte first: LOADER_USED(store). It may be read of any
- * store whose last call answered neither 1 nor 2. docs/FORMATS.md has the whole
- * layout; nothing but used need be read.
+ * store whose last call answered none of 1, 2 and 30. docs/FORMATS.md has the
+ * whole layout; nothing but used need be read.
  *
  * Assumed of the caller, and tested by nothing:
  * - A pointer is valid for its length, for writing too where it is not const.
@@ -54,7 +63,8 @@
  * Power loss. A refused call and a query write nothing. The others write only
  * when all questions are answered yes, in this order:
  *
- *     loader_fresh                   every byte
+ *     loader_fresh,
+ *     loader_fresh_limits            every byte
  *     loader_create, loader_load     the entry, at used, its first byte first;
  *                                    then used (bytes 5 and 6)
  *     loader_delete, loader_remove   the later entries, moved up, the first of
@@ -62,10 +72,12 @@
  *                                    used (bytes 5 and 6)
  *
  * Cut off at any byte, a creation or a load leaves the store as it was, the
- * store as it becomes, or one for which every call but fresh answers 2. A
- * deletion or a removal leaves one of these or, while one entry is written over
- * another, a sound store that is neither: no call notices that. A fresh that was
- * cut off is called again. tests/tears.sh cuts calls off at every byte.
+ * store as it becomes, or one for which every call but the two fresh ones
+ * answers 2. A deletion or a removal leaves one of these or, while one entry is
+ * written over another, a sound store that is neither: no call notices that. A
+ * fresh call that was cut off is made again; until then loader_fresh leaves one of
+ * these, loader_fresh_limits one of these or a sound, empty store with other
+ * limits. tests/tears.sh cuts calls off at every byte.
  *
  * So the operating system lends a copy in volatile memory and writes that back
  * as a whole, or wraps the call in a transaction over bytes 5 and 6 and: for a
@@ -75,28 +87,38 @@
  *
  * Limits. A store has LOADER_STORE_LEAST to LOADER_STORE_MOST bytes, an AID
  * LOADER_AID_LEAST to LOADER_AID_MOST. A package file lies in a store whole, so
- * it has fewer than LOADER_STORE_MOST bytes.
+ * it has fewer than LOADER_STORE_MOST bytes. The limits of a series are 1 to
+ * LOADER_DEPTH_MOST, LOADER_PARENTS_MOST and LOADER_CODE_MOST; those of version 1
+ * are LOADER_DEPTH_STANDARD, LOADER_PARENTS_STANDARD and LOADER_CODE_STANDARD.
  *
- * Time. Every operation but fresh judges each installed package again, so its
- * time grows with the bytes installed. Measured on one core of an AMD EPYC with
- * ordinary packages (docs/BENCHMARKS.md has every figure), an operation takes
- * about 0.06 ms over a full store of 8,192 bytes and 0.5 ms over one of 65,535.
- * These are no bounds. Packages can be made for the purpose of taking longer: an
- * operation over the slowest store of 65,535 bytes that was found takes 1 to 3
- * seconds. For each package judged the time is at most a constant times its
- * file's bytes times the bytes of the packages that it imports, directly or not.
+ * Time. Every operation but the two fresh calls judges each installed package
+ * again, so its time grows with the bytes installed. Measured on one core of an
+ * AMD EPYC with ordinary packages (docs/BENCHMARKS.md has every figure), an
+ * operation takes about 0.06 ms over a full store of 8,192 bytes and 0.5 ms over
+ * one of 65,535. These are no bounds. Packages can be made for the purpose of
+ * taking longer: an operation over the slowest store of 65,535 bytes that was
+ * found takes 1 to 3 seconds. For each package judged the time is at most a
+ * constant times its file's bytes times the bytes of the packages that it imports,
+ * directly or not. It does not grow with the number of ways up through the
+ * classes, whatever the limits.
  *
  * Stack in bytes on x86-64: no call takes more, whatever the bytes. The figures
  * are read off the library's machine code, every frame and the longest chain of
- * calls; tests/stack.sh reads them again and measures calls beside them.
+ * calls; tests/stack.sh reads them again and measures calls beside them. Standard:
+ * stores whose depth limit is 8 or less and whose code limit is 4,096 or less,
+ * those of version 1 and buffers that are no store among them. Larger: all others.
+ * The limit on parents does not matter. Each has a column for stores to 8,192
+ * bytes, and one for longer stores.
  *
- *                       store to 8,192 bytes    larger
- *     loader_fresh                       300       300
- *     loader_create                    7,900    18,430
- *     loader_delete                    7,900    18,430
- *     loader_load                      7,900    18,430
- *     loader_remove                    7,900    18,430
- *     loader_query                     7,900    18,430
+ *                           standard limits      larger limits
+ *                            8,192   longer      8,192   longer
+ *     loader_fresh             300      300        300      300
+ *     loader_fresh_limits      300      300        300      300
+ *     loader_create          7,900   18,430     16,270   28,210
+ *     loader_delete          7,900   18,430     16,270   28,210
+ *     loader_load            7,900   18,430     16,270   28,210
+ *     loader_remove          7,900   18,430     16,270   28,210
+ *     loader_query           7,900   18,430     16,270   28,210
  *
  * Linking. libloader.a is for x86-64 Linux. It needs one function from outside:
  * memset, as C99 has it. This header compiles where int has 16 bits or more, and
@@ -120,13 +142,16 @@ extern "C" {
  * list means the domain that the package is loaded in; before, it was refused
  * with 11. Since 1.3 package files of version 2 are loaded too; before, they were
  * refused with 10. To a library before 1.3, a store that holds one is not sound.
+ * Since 1.4 stores of version 2 have limits of their own, and loader_fresh_limits
+ * makes them; LOADER_DEPTH_MOST, the greatest depth in any store, was 8. To a
+ * library before 1.4, a store of version 2 is not sound.
  */
 #define LOADER_VERSION_MAJOR 1u
-#define LOADER_VERSION_MINOR 3u
+#define LOADER_VERSION_MINOR 4u
 #define LOADER_VERSION (LOADER_VERSION_MAJOR * 256u + LOADER_VERSION_MINOR)
 
-/* The number of an answer: the question that was answered no. 22 and 23 are no numbers of the
-   loader. */
+/* The number of an answer: the question that was answered no. 22, 23 and 25 to 29 are no numbers
+   of the loader. */
 enum loader_number {
     /* Done: every question was answered yes. */
     LOADER_DONE = 0,
@@ -158,7 +183,7 @@ enum loader_number {
     LOADER_IMPORT_MISSING = 13,
     /* Does each parent exist, an own one with a smaller number; have interfaces only interface
        parents, classes at most one kind-0 parent, the same one listed twice being two; is each
-       depth at most 8? */
+       depth at most the store's limit? */
     LOADER_CLASS_PARENTS = 14,
     /* Do names differ within each class; is each static method implemented, each interface
        method neither? */
@@ -180,15 +205,28 @@ enum loader_number {
     LOADER_STORE_FULL = 21,
     /* Is each handler's start below its end, its end at most the code length; do start and target
        begin an instruction, and does end begin one or equal the length? */
-    LOADER_HANDLER = 24
+    LOADER_HANDLER = 24,
+    /* Does each limit given lie in its range: depth 1 to 16, parents 1 to 8, code length 1 to
+       32,767? */
+    LOADER_LIMITS = 30
 };
 
-/* The least and greatest lengths of a store and an AID, and the greatest depth of a class. */
+/* The least and greatest lengths of a store and an AID. */
 #define LOADER_STORE_LEAST 64u
 #define LOADER_STORE_MOST 65535u
 #define LOADER_AID_LEAST 5u
 #define LOADER_AID_MOST 16u
-#define LOADER_DEPTH_MOST 8u
+
+/* The greatest limits of a series, on the depth of a class, its parents and the bytes of a code;
+   the least are 1. */
+#define LOADER_DEPTH_MOST 16u
+#define LOADER_PARENTS_MOST 8u
+#define LOADER_CODE_MOST 32767u
+
+/* The limits of a store of version 1. */
+#define LOADER_DEPTH_STANDARD 8u
+#define LOADER_PARENTS_STANDARD 4u
+#define LOADER_CODE_STANDARD 4096u
 
 /* The number and the figure of an answer. */
 #define LOADER_NUMBER(answer) ((answer) % 256u)
@@ -198,14 +236,30 @@ enum loader_number {
 #define LOADER_USED(store) ((unsigned)(store)[5] * 256u + (unsigned)(store)[6])
 
 /*
- * Makes the buffer an empty store. What it held before is not looked at.
+ * Makes the buffer an empty store of version 1, with the limits 8, 4 and 4,096.
+ * What it held before is not looked at.
  *
  * In:      store: the buffer, any bytes.
  * Numbers: 1.
- * Changes: every byte of the store: mark, version, used = 7, zeros.
+ * Changes: every byte of the store: mark, version 1, used = 7, zeros.
  * Figure:  0.
  */
 uint32_t loader_fresh(uint8_t *store, size_t store_length);
+
+/*
+ * Makes the buffer an empty store of version 2, with the limits of a series. What
+ * it held before is not looked at.
+ *
+ * In:      store: the buffer, any bytes; depth: the greatest depth of a class,
+ *          1 to 16; parents: the greatest number of a class's parents, 1 to 8;
+ *          code: the greatest length of a code, 1 to 32,767.
+ * Numbers: 1, 30, asked in this order.
+ * Changes: every byte of the store: mark, version 2, used = 11, the limits in
+ *          bytes 7 to 10, zeros.
+ * Figure:  0.
+ */
+uint32_t loader_fresh_limits(uint8_t *store, size_t store_length,
+                             uint8_t depth, uint8_t parents, uint16_t code);
 
 /*
  * Creates a domain.
@@ -245,7 +299,8 @@ uint32_t loader_delete(uint8_t *store, size_t store_length,
  *          4 + domain_length + file_length bytes. All other bytes stay.
  * Figure:  accepted, exactly the depth of the file's deepest class or interface,
  *          the installed classes above it counted; 0 for a file without classes.
- *          It is at most LOADER_DEPTH_MOST. Refused, 0.
+ *          It is at most the store's depth limit, so at most LOADER_DEPTH_MOST.
+ *          Refused, 0.
  */
 uint32_t loader_load(uint8_t *store, size_t store_length,
                      const uint8_t *domain, size_t domain_length,

@@ -34,7 +34,13 @@ static const struct {
     {"LOADER_STORE_FULL", "the entry does not fit"},
     {NO_NAME, NO_TEXT},
     {NO_NAME, NO_TEXT},
-    {"LOADER_HANDLER", "a handler's offsets do not fit its code"}
+    {"LOADER_HANDLER", "a handler's offsets do not fit its code"},
+    {NO_NAME, NO_TEXT},
+    {NO_NAME, NO_TEXT},
+    {NO_NAME, NO_TEXT},
+    {NO_NAME, NO_TEXT},
+    {NO_NAME, NO_TEXT},
+    {"LOADER_LIMITS", "a limit is out of its range"}
 };
 
 const char *loader_number_name(uint32_t number)

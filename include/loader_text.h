@@ -8,8 +8,8 @@
 extern "C" {
 #endif
 
-/* One more than the greatest number. Below it 22 and 23 are no numbers of the loader. */
-#define LOADER_NUMBERS 25u
+/* One more than the greatest number. Below it 22, 23 and 25 to 29 are no numbers of the loader. */
+#define LOADER_NUMBERS 31u
 
 /* The name of a number, as enum loader_number has it; for any other number "". */
 const char *loader_number_name(uint32_t number);

@@ -3,10 +3,11 @@
 # reader, on the fixed cases and on COUNT generated call sequences.
 #
 # Prints the table of numbers answered and a line that begins with "ok", or what differs; exit
-# status 0 only if nothing does and, from 20,000 sequences on, every number and depth was reached, FE
-# decided and wrong readings of versions and handlers were told apart often enough.
+# status 0 only if nothing does and, from 20,000 sequences on, every number, depth and edge of limits
+# was reached, FE decided and wrong readings of versions, handlers and limits were told apart often
+# enough.
 # Builds what is missing or out of date; writes only under target/ and comparison/target/.
-# LOADER_LIBRARY and CARD may name another archive of the six operations, called libloader.a, and
+# LOADER_LIBRARY and CARD may name another archive of the operations, called libloader.a, and
 # another simulated card, which are then tested and not built.
 set -u
 CDPATH='' cd -- "$(dirname -- "$0")/.." || exit 1

@@ -2,7 +2,13 @@
  * For tests/formats.sh: holds the library to figures of docs/FORMATS.md, a line of standard input each:
  *
  *     limit NUMBER VALUE NAME       a load (or call) with this many of what is limited answers this number
- *     store NUMBER LENGTH BYTES     question 2 of a buffer that holds these bytes, then zeros (0 where it is sound)
+ *     chosen NUMBER DEPTH PARENTS CODE VALUE NAME
+ *                                   the same in a store with these limits; a store that holds what was accepted at its limit is not
+ *                                   sound with a limit one less
+ *     fresh NUMBER DEPTH PARENTS CODE
+ *                                   the second fresh call with these limits; done, it leaves the opening of version 2 and zeros
+ *     store NUMBER LENGTH BYTES     question 2 of a buffer that holds these bytes, then zeros (0 where it is sound); where it is not,
+ *                                   every call answers 2 and leaves it, but the two fresh ones, which are done
  *     load NUMBER FILE              a load into the week's store, where meals and cabinet are installed
  *     code NUMBER BYTES             a load of a package with this code
  *     handler NUMBER START END TARGET BYTES
@@ -28,6 +34,9 @@ static uint8_t store[LOADER_STORE_MOST + 2];
 static uint8_t file[LOADER_STORE_MOST + 2];
 static size_t at;
 static uint8_t length_of[256];
+
+/* The limits of the stores that loads are tried in: depth, parents, code; all 0 for a store of version 1. */
+static unsigned limits[3];
 
 static const uint8_t domain[] = {0xA0, 0, 0, 0, 0xD1};
 static const uint8_t imported[] = {0xA0, 0, 0, 0, 0xB1};
@@ -122,7 +131,7 @@ static void write_handlers(const uint8_t *code, unsigned length, unsigned n, con
 /* A file with so many of what is limited; 0 where the name is not known. */
 static int write_limit(const char *name, unsigned n)
 {
-    static uint8_t code[4200];
+    static uint8_t code[LOADER_CODE_MOST + 2];
     int is_class = strcmp(name, "classes of a file") == 0, is_depth = strcmp(name, "depth of a class") == 0;
 
     if (strcmp(name, "bytes of a code") == 0) {
@@ -163,13 +172,28 @@ static int write_limit(const char *name, unsigned n)
            strstr(name, "allows") != NULL;
 }
 
+static uint32_t fresh_limits(uint8_t *bytes, size_t length)
+{
+    return loader_fresh_limits(bytes, length, (uint8_t)limits[0], (uint8_t)limits[1], (uint16_t)limits[2]);
+}
+
+/* A new store, of version 1 or with the limits chosen. */
+static void new_store(void)
+{
+    if (limits[0] == 0) {
+        loader_fresh(store, LOADER_STORE_MOST);
+    } else {
+        fresh_limits(store, LOADER_STORE_MOST);
+    }
+}
+
 /* The number of a load of the file into a new store with its domain and its import. */
 static unsigned loaded(void)
 {
     static uint8_t kept[sizeof file];
     size_t length = at;
     memcpy(kept, file, length);
-    loader_fresh(store, LOADER_STORE_MOST);
+    new_store();
     loader_create(store, LOADER_STORE_MOST, domain, sizeof domain);
     begin(5, 0, 0, 0);
     memcpy(file + 8, imported, sizeof imported);
@@ -259,13 +283,94 @@ static unsigned bytes_of(const char *text, uint8_t *bytes)
     return n;
 }
 
+/* Every call answers 2 and leaves the buffer; then the two fresh calls are done, over what it holds. */
+static int all_unsound(size_t length)
+{
+    static uint8_t kept[sizeof store];
+    static const unsigned least[] = {1, 1, 1};
+    int done;
+    memcpy(kept, store, length);
+    begin(5, 0, 0, 0), u1(0), end();
+    if (loader_create(store, length, domain, 5) != LOADER_STORE_UNSOUND ||
+        loader_delete(store, length, domain, 5) != LOADER_STORE_UNSOUND ||
+        loader_load(store, length, domain, 5, file, at) != LOADER_STORE_UNSOUND ||
+        loader_remove(store, length, domain, 5) != LOADER_STORE_UNSOUND || memcmp(kept, store, length) != 0 ||
+        loader_fresh(store, length) != LOADER_DONE) {
+        return 0;
+    }
+    memcpy(store, kept, length);
+    memcpy(limits, least, sizeof limits);
+    done = fresh_limits(store, length) == LOADER_DONE;
+    memset(limits, 0, sizeof limits);
+    return done;
+}
+
 static int store_holds(unsigned number, char *text)
 {
     unsigned long length = strtoul(text, &text, 10);
     memset(store, 0, sizeof store);
     bytes_of(text, store);
     unsigned said = LOADER_NUMBER(loader_query(store, length, domain, 5, domain, 5, 0, 0));
-    return number == 0 ? said == LOADER_PACKAGE_UNKNOWN : said == number;
+    return number == 0 ? said == LOADER_PACKAGE_UNKNOWN : said == number && all_unsound(length);
+}
+
+/* Every byte of a buffer is as the page lays out an empty store with the limits chosen. */
+static int is_empty_store(const uint8_t *bytes, size_t length)
+{
+    uint8_t opening[] = {0x42, 0x43, 0x53, 0, 2, 0, 11, (uint8_t)limits[0], (uint8_t)limits[1],
+                         (uint8_t)(limits[2] / 256), (uint8_t)(limits[2] % 256)};
+    for (size_t i = sizeof opening; i < length; i++) {
+        if (bytes[i] != 0) {
+            return 0;
+        }
+    }
+    return memcmp(bytes, opening, sizeof opening) == 0;
+}
+
+/* The second fresh call over any bytes: 30 leaves them; a buffer of 63 bytes is answered 1 whatever the limits. */
+static int fresh_holds(unsigned number)
+{
+    enum { BYTES = 300 };
+    uint8_t bytes[BYTES], before[BYTES];
+    memset(bytes, 0xA5, sizeof bytes);
+    memcpy(before, bytes, sizeof bytes);
+    if (fresh_limits(bytes, LOADER_STORE_LEAST - 1) != LOADER_STORE_SIZE || memcmp(bytes, before, sizeof bytes) != 0 ||
+        fresh_limits(bytes, sizeof bytes) != number) {
+        return 0;
+    }
+    return number == 0 ? is_empty_store(bytes, sizeof bytes) : memcmp(bytes, before, sizeof bytes) == 0;
+}
+
+/* The store of an accepted load is sound; with the limit that the file reaches one less it is not. */
+static int lowered_is_unsound(const char *name, unsigned value)
+{
+    unsigned sound, lowered;
+    sound = LOADER_NUMBER(loader_query(store, LOADER_STORE_MOST, domain, 5, domain, 5, 0, 0));
+    if (strcmp(name, "bytes of a code") == 0) {
+        store[9] = (uint8_t)((value - 1) / 256);
+        store[10] = (uint8_t)((value - 1) % 256);
+    } else {
+        store[strcmp(name, "depth of a class") == 0 ? 7 : 8] = (uint8_t)(value - 1);
+    }
+    lowered = LOADER_NUMBER(loader_query(store, LOADER_STORE_MOST, domain, 5, domain, 5, 0, 0));
+    return sound == LOADER_PACKAGE_UNKNOWN && lowered == LOADER_STORE_UNSOUND;
+}
+
+static int chosen_holds(unsigned number, unsigned value, const char *name)
+{
+    int is_chosen = strcmp(name, "handlers of a code") != 0;
+    return limit_number(name, value) == number && (number != 0 || !is_chosen || lowered_is_unsound(name, value));
+}
+
+/* A line of kind fresh or chosen, from its limits on. */
+static int limits_hold(unsigned number, const char *text, int is_fresh)
+{
+    char name[80] = "";
+    unsigned value = 0;
+    int held, words = sscanf(text, "%u %u %u %u %79[^\n]", &limits[0], &limits[1], &limits[2], &value, name);
+    held = is_fresh ? words == 3 && fresh_holds(number) : words == 5 && chosen_holds(number, value, name);
+    memset(limits, 0, sizeof limits);
+    return held;
 }
 
 static unsigned load_into(const struct aid *into, const uint8_t *bytes, size_t length)
@@ -331,6 +436,9 @@ static int holds(char *line)
     }
     if (strcmp(kind, "limit") == 0) {
         return sscanf(line + rest, "%u %79[^\n]", &value, name) == 2 && limit_number(name, value) == first;
+    }
+    if (strcmp(kind, "fresh") == 0 || strcmp(kind, "chosen") == 0) {
+        return limits_hold(first, line + rest, strcmp(kind, "fresh") == 0);
     }
     if (strcmp(kind, "store") == 0) {
         return store_holds(first, line + rest);

@@ -1,8 +1,9 @@
 #!/bin/sh
 # formats.sh: the figures of docs/FORMATS.md on the static library. The dumps are contiguous, load, and are refused with bytes of
-# their opening changed; every limit holds at its value and is refused one past it; lengths, branches, calls and last instructions
-# of all opcodes are those of the tables; the codes and handlers are answered as said, and a store that holds a handler is sound
-# where its load is accepted, and only there.
+# their opening changed; every limit holds at its value and is refused one past it, in a store of version 1 and with the limits that
+# one of version 2 chooses; these are taken at the edges of their ranges and refused one past them, given and stored; lengths,
+# branches, calls and last instructions of all opcodes are those of the tables; the codes and handlers are answered as said, and a
+# store that holds a handler is sound where its load is accepted, and only there.
 #
 # Prints a line that begins with "ok", or what is wrong; exit status 0 only if all is right.
 set -u
@@ -36,6 +37,12 @@ rows() {
         $2 == head { inside = 1; next }
         inside && !/^[|]/ { inside = 0 }
         inside && $2 !~ /^-/ { print $2 "|" $3 "|" $4 "|" $5 }' "$page"
+}
+
+# limits NAME VALUE OTHERS: depth, parents and code, the named one being the value, the others those of a column (2 least, 3 most)
+limits() {
+    rows 'Chosen limit' | awk -F '|' -v name="$1" -v value="$2" -v others="$3" '
+        { all = all (NR > 1 ? " " : "") ($1 == name ? value : $others) } END { print all }'
 }
 
 # each opcode of the lists on standard input
@@ -101,6 +108,39 @@ marked() {
     # its package has no codes, so that version 2 is laid out alike
     echo "store 0 $length $(with "$store" 001B 0002)"
     echo "store 2 $length $(with "$store" 001B 0003)"
+    limited=$(dump 4) || exit 1
+    echo "store 0 $length $limited"
+    echo "store 0 300 $limited"
+    for place in 0000 0001 0002 0003 0004 0005 0006 0007 0008 0009 000B; do echo "store 2 $length $(with "$limited" "$place" EE)"; done
+    # a version that is not that of the opening, and no version
+    echo "store 2 $length $(with "$store" 0003 0002)"
+    echo "store 2 $length $(with "$limited" 0003 0001)"
+    for version in 0000 0003 0102; do echo "store 2 $length $(with "$limited" 0003 "$version")"; done
+    # used counts the opening bytes
+    echo "store 0 64 $(with "${store%"${store#??????????????}"}" 0005 0007)"
+    echo "store 2 64 $(with "${store%"${store#??????????????}"}" 0005 0006)"
+    opening=${limited%"${limited#??????????????????????}"}
+    echo "store 0 64 $(with "$opening" 0005 000B)"
+    for used in 0000 0007 0008 0009 000A; do echo "store 2 64 $(with "$opening" 0005 "$used")"; done
+    # the limits that a store chooses: as they are stored, given, and met by a load
+    rows 'Chosen limit' | while IFS='|' read -r name least most standard; do
+        case $name in depth*) place=0007 digits=2 ;; parents*) place=0008 digits=2 ;; *) place=0009 digits=4 ;; esac
+        number=$(rows Limit | awk -F '|' -v name="$name" '$1 == name { print $4 }')
+        for value in "$least" "$standard" "$most"; do
+            echo "store 0 $length $(with "$limited" "$place" "$(printf "%0${digits}X" "$value")")"
+            for others in 2 3; do echo "fresh 0 $(limits "$name" "$value" "$others")"; done
+        done
+        for value in $((least - 1)) $((most + 1)) $((digits == 2 ? 255 : 65535)); do
+            echo "store 2 $length $(with "$limited" "$place" "$(printf "%0${digits}X" "$value")")"
+            for others in 2 3; do echo "fresh 30 $(limits "$name" "$value" "$others")"; done
+        done
+        for value in "$least" $((least + 1)) $((standard - 1)) "$standard" $((standard + 1)) $((most - 1)) "$most"; do
+            echo "chosen 0 $(limits "$name" "$value" 3) $value $name"
+            echo "chosen $number $(limits "$name" "$value" 3) $((value + 1)) $name"
+        done
+    done
+    # a file of version 2 in a store with the least limits
+    echo "chosen 0 $(limits '' '' 2) 16 handlers of a code"
     for n in 1 2 3 4 5; do list "^$n\$" | sed "s/^/length $n /"; done
     list '^none' | sed 's/^/length 0 /'
     marked branch 1 'branch by the s1' | grep -v '^branch 0'
@@ -119,7 +159,7 @@ for n in 1 2; do grep -q " $(dump $n)\$" examples/week.card || fail "dump $n is 
 
 # the ranges of the fields are those of the limits
 while IFS='|' read -r field limit; do
-    range=$(rows Field | awk -F '|' -v field="$field" '$1 == field { sub(/, or FF$/, "", $3); print $3 }')
+    range=$(rows Field | awk -F '|' -v field="$field" '$1 == field { sub(/, or FF$|; in a store.*/, "", $3); print $3 }')
     said=$(rows Limit | awk -F '|' -v limit="$limit" '$1 == limit { print $2 " to " $3 }')
     [ -n "$range" ] && [ "$range" = "$said" ] || fail "the $field has the range $range, $limit: $said"
 done <<'FIELDS'
@@ -133,6 +173,16 @@ allowed count|domains that a method allows
 code length|bytes of a code
 handler count|handlers of a code
 FIELDS
+while IFS='|' read -r field limit; do
+    range=$(rows Field | awk -F '|' -v field="$field" '$1 == field { print $3 }')
+    said=$(rows 'Chosen limit' | awk -F '|' -v limit="$limit" '$1 == limit { print $2 " to " $3 " " $4 }')
+    standard=$(rows Limit | awk -F '|' -v limit="$limit" '$1 == limit { print $3 }')
+    [ -n "$range" ] && [ "$range $standard" = "$said" ] || fail "the $field has the range $range and means $standard in version 1, $limit: $said"
+done <<'FIELDS'
+depth limit|depth of a class
+parent limit|parents of a class
+code limit|bytes of a code
+FIELDS
 
 # every opcode stands once in the table of lengths
 {
@@ -141,9 +191,9 @@ FIELDS
     list '^none'
 } | sort >"$out/opcodes"
 awk 'BEGIN { for (i = 0; i < 256; i++) printf "%02X\n", i }' | cmp -s - "$out/opcodes" || fail "the table has not each opcode once"
-for kind in limit load store length branch call last code handler; do
+for kind in limit chosen fresh load store length branch call last code handler; do
     grep -q "^$kind " "$out/lines" || fail "nothing is tried of: $kind"
 done
 "$out/formats" <"$out/lines" >"$out/said" || fail "the library says otherwise:" "$out/said"
 
-echo "ok formats: $(cat "$out/said") of the page's limits, dumps, instructions, codes and handlers"
+echo "ok formats: $(cat "$out/said") of the page's limits, chosen limits, dumps, instructions, codes and handlers"

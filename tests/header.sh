@@ -1,7 +1,7 @@
 #!/bin/sh
 # header.sh: the C headers compile by themselves as C99, C11, C++98 and C++17, with other compilers at hand too, and where int has
-# 16 bits; each number from 0 to 21, and 24, has one constant; the static library exports the six operations and needs memset
-# alone.
+# 16 bits; each number from 0 to 21, 24 and 30 has one constant; the limits that a comment tells are those of the constants; the
+# static library exports the seven operations and needs memset alone.
 #
 # Prints a line that begins with "ok", or what is wrong; exit status 0 only if all is right.
 set -u
@@ -58,15 +58,24 @@ fi
 sed -n '/^enum loader_number {/,/^};/s/^ *LOADER_[A-Z_]* = \([0-9]*\),\{0,1\}$/\1/p' include/loader.h >"$out/numbers"
 {
     seq 0 21
-    echo 24
-} | cmp -s - "$out/numbers" || fail "the numbers are not 0 to 21 and 24, each once" "$out/numbers"
+    printf '%s\n' 24 30
+} | cmp -s - "$out/numbers" || fail "the numbers are not 0 to 21, 24 and 30, each once" "$out/numbers"
 # each of them but 0 is asked by an operation, and no other is
 sed -n '/^ \* Numbers: /,/^ \* Changes: /{/Changes/d; s/;.*//; p}' include/loader.h | grep -o '[0-9][0-9]*' | sort -nu >"$out/asked"
 sed 1d "$out/numbers" | cmp -s - "$out/asked" || fail "the operations' lists have other numbers" "$out/asked"
+# constant NAME: its value
+constant() { sed -n "s/^#define LOADER_$1 \([0-9]*\)u\$/\1/p" include/loader.h; }
+# comments SED: the comments as one line of words, figures without commas
+comments() { sed -n "$1" include/loader.h | sed 's,^ *\(/\*\|\*\) *, ,; s,\*/,,' | tr '\n' ' ' | sed 's/  */ /g; s/\([0-9]\),\([0-9]\)/\1\2/g'; }
+ranges="depth 1 to $(constant DEPTH_MOST), parents 1 to $(constant PARENTS_MOST), code length 1 to $(constant CODE_MOST)"
+comments '/^enum loader_number {/,/^};/p' | grep -qF "in its range: $ranges?" || fail "question 30 has other ranges than $ranges"
+standard="$(constant DEPTH_STANDARD), $(constant PARENTS_STANDARD) and $(constant CODE_STANDARD)"
+comments '1,/^ \*\/$/p' | grep -qF "means $standard." || fail "version 1 means other limits than $standard"
+comments '/^ \* Makes the buffer/,/^uint32_t/p' | grep -qF "with the limits $standard." || fail "loader_fresh has other limits than $standard"
 
 need_library
 nm -g "$library" | awk 'NF == 2 && $1 == "U" { print "needs " $2 } NF == 3 { print "has " $3 }' | sort >"$out/symbols"
-printf '%s\n' create delete fresh load query remove | sed 's/^/has loader_/' >"$out/symbols.expected"
+printf '%s\n' create delete fresh fresh_limits load query remove | sed 's/^/has loader_/' >"$out/symbols.expected"
 echo 'needs memset' >>"$out/symbols.expected"
 same "$out/symbols.expected" "$out/symbols"
 

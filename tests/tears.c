@@ -1,10 +1,11 @@
 /*
  * tears LINES: what a call leaves in the store when it is cut off at any byte that it writes.
  *
- * LINES are lines of the simulated card. Each call runs on a store whose pages are write-protected: a write
- * faults, is let through for one instruction, and the bytes that it changed are kept. The call is then
- * replayed on a copy and cut off before every byte, within one write from its first byte on and from its
- * last one back; each cut is shown to the loader. For x86-64 Linux, as the library is.
+ * LINES are lines of the simulated card; they run on a store of each version. Each call runs on a store
+ * whose pages are write-protected: a write faults, is let through for one instruction, and the bytes that
+ * it changed are kept. The call is then replayed on a copy and cut off before every byte, within one write
+ * from its first byte on and from its last one back; each cut is shown to the loader. For x86-64 Linux, as
+ * the library is.
  *
  * Holds what include/loader.h says under "Power loss", prints the counts, and says what does not hold;
  * exit status 0 only if all does.
@@ -30,7 +31,7 @@ struct change {
 
 /* Cuts of one operation, by what they leave. */
 struct counts {
-    unsigned long calls, cuts, as_before, unsound, as_after, neither;
+    unsigned long calls, cuts, as_before, unsound, as_after, neither, neither_empty;
 };
 
 static uint8_t *store;
@@ -39,8 +40,11 @@ static uint8_t before[STORE_BYTES];
 static uint8_t copy[STORE_BYTES];
 static struct change changes[CHANGES_MOST];
 static volatile size_t change_count, write_count;
-static struct counts counts[5];
+static struct counts counts[6];
 static int failures;
+
+/* Operations as the counts have them, behind those of lines. */
+enum { FRESH = 4, FRESH_LIMITS = 5, OPERATIONS = 6 };
 
 static void wrong(const char *what, unsigned long line)
 {
@@ -126,11 +130,17 @@ static uint32_t call(char *line, int *operation)
     }
 }
 
-/* Question 2 of the copy: any call but fresh asks it; this one writes nothing. */
+/* Question 2 of the copy: any call but the two fresh ones asks it; this one writes nothing. */
 static int is_sound(void)
 {
     static const uint8_t aid[5];
     return LOADER_NUMBER(loader_query(copy, STORE_BYTES, aid, 5, aid, 5, 0, 0)) != LOADER_STORE_UNSOUND;
+}
+
+/* The bytes that a store opens with. */
+static unsigned opening_of(const uint8_t *bytes)
+{
+    return bytes[4] == 2 ? 11 : 7;
 }
 
 /* Counts what a cut left. */
@@ -143,6 +153,7 @@ static void count_cut(struct counts *of)
         of->as_after += 1;
     } else if (is_sound()) {
         of->neither += 1;
+        of->neither_empty += LOADER_USED(copy) == opening_of(copy);
     } else {
         of->unsound += 1;
     }
@@ -191,7 +202,7 @@ static void hold_order(int operation, unsigned long line)
         if (used_written) {
             wrong("a byte of the entries is written after used", line);
         }
-        if (operation % 2 == 0 ? place < old_used || place >= used : place < 7 || place >= old_used) {
+        if (operation % 2 == 0 ? place < old_used || place >= used : place < opening_of(store) || place >= old_used) {
             wrong("a byte is written outside the entries that change", line);
         }
         if (operation % 2 == 0 ? entry_writes == 1 && place != old_used : place < used && place < last) {
@@ -201,37 +212,59 @@ static void hold_order(int operation, unsigned long line)
     }
 }
 
-/* Fresh over a store of any bytes: every byte is written. */
-static void hold_fresh(uint8_t fill)
+static void fill_store(uint8_t fill)
 {
     mprotect(store, STORE_BYTES, PROT_READ | PROT_WRITE);
     memset(store, fill, STORE_BYTES);
-    watch();
-    if (loader_fresh(store, STORE_BYTES) != 0 || change_count < STORE_BYTES - 7) {
-        wrong("fresh does not write every byte", 0);
-    }
-    counts[4].calls += 1;
-    cut_everywhere(&counts[4]);
 }
 
-int main(int argument_count, char **words)
+/* Fresh over the store as it is. */
+static void hold_fresh(void)
 {
-    static const char *const names[] = {"create", "delete", "load", "remove", "fresh"};
-    struct sigaction fault = {0}, step = {0};
+    watch();
+    if (loader_fresh(store, STORE_BYTES) != LOADER_DONE) {
+        wrong("fresh is not done", 0);
+    }
+    counts[FRESH].calls += 1;
+    cut_everywhere(&counts[FRESH]);
+}
+
+/* The same with limits; first with one that is out of its range. */
+static void hold_fresh_limits(unsigned depth, unsigned parents, unsigned code)
+{
+    watch();
+    if (loader_fresh_limits(store, STORE_BYTES, 0, (uint8_t)parents, (uint16_t)code) != LOADER_LIMITS || write_count != 0) {
+        wrong("a refused fresh with limits writes, or is not refused", 0);
+    }
+    watch();
+    if (loader_fresh_limits(store, STORE_BYTES, (uint8_t)depth, (uint8_t)parents, (uint16_t)code) != LOADER_DONE) {
+        wrong("fresh with limits is not done", 0);
+    }
+    counts[FRESH_LIMITS].calls += 1;
+    cut_everywhere(&counts[FRESH_LIMITS]);
+}
+
+/* Over bytes of which an empty store has few, each fresh call writes every other one. */
+static void hold_every_byte(void)
+{
+    fill_store(0xFF);
+    hold_fresh_limits(LOADER_DEPTH_MOST, LOADER_PARENTS_MOST, LOADER_CODE_STANDARD);
+    if (change_count < STORE_BYTES - 11) {
+        wrong("fresh with limits does not write every byte", 0);
+    }
+    fill_store(0xFF);
+    hold_fresh();
+    if (change_count < STORE_BYTES - 7) {
+        wrong("fresh does not write every byte", 0);
+    }
+}
+
+/* The lines of a file on the store as it is; how many were refused. */
+static unsigned long run_lines(FILE *lines)
+{
     static char line[LINE_MOST + 2];
     unsigned long number = 0, refused = 0;
-    FILE *lines = argument_count == 2 ? fopen(words[1], "r") : NULL;
-
-    store = mmap(NULL, STORE_BYTES, PROT_READ | PROT_WRITE, MAP_PRIVATE | MAP_ANONYMOUS, -1, 0);
-    fault.sa_sigaction = on_fault;
-    step.sa_sigaction = on_step;
-    fault.sa_flags = step.sa_flags = SA_SIGINFO;
-    if (lines == NULL || store == MAP_FAILED || sigaction(SIGSEGV, &fault, NULL) != 0 ||
-        sigaction(SIGTRAP, &step, NULL) != 0) {
-        fputs("usage: tears LINES\n", stderr);
-        return 2;
-    }
-    hold_fresh(0xFF);
+    rewind(lines);
     while (fgets(line, sizeof line, lines) != NULL) {
         int operation = 0;
         uint32_t answer = call(line, &operation);
@@ -247,17 +280,50 @@ int main(int argument_count, char **words)
         hold_order(operation, number);
         cut_everywhere(&counts[operation]);
     }
-    puts("operation  calls   cuts  as before  answered 2  as after  sound, neither");
-    for (int i = 0; i < 5; i++) {
-        printf("%-9s %6lu %6lu %10lu %11lu %9lu %15lu\n", names[i], counts[i].calls, counts[i].cuts, counts[i].as_before,
+    return refused;
+}
+
+int main(int argument_count, char **words)
+{
+    static const char *const names[] = {"create", "delete", "load", "remove", "fresh", "fresh, limits"};
+    struct sigaction fault = {0}, step = {0};
+    unsigned long refused;
+    FILE *lines = argument_count == 2 ? fopen(words[1], "r") : NULL;
+
+    store = mmap(NULL, STORE_BYTES, PROT_READ | PROT_WRITE, MAP_PRIVATE | MAP_ANONYMOUS, -1, 0);
+    fault.sa_sigaction = on_fault;
+    step.sa_sigaction = on_step;
+    fault.sa_flags = step.sa_flags = SA_SIGINFO;
+    if (lines == NULL || store == MAP_FAILED || sigaction(SIGSEGV, &fault, NULL) != 0 ||
+        sigaction(SIGTRAP, &step, NULL) != 0) {
+        fputs("usage: tears LINES\n", stderr);
+        return 2;
+    }
+    hold_every_byte();
+    refused = run_lines(lines);
+    /* over entries, in turn from version 1 to 2, from 2 to other limits, and back to 1 */
+    hold_fresh_limits(LOADER_DEPTH_STANDARD, LOADER_PARENTS_STANDARD, LOADER_CODE_STANDARD);
+    refused += run_lines(lines);
+    hold_fresh_limits(LOADER_DEPTH_MOST, LOADER_PARENTS_MOST, LOADER_CODE_MOST);
+    refused += run_lines(lines);
+    hold_fresh();
+    puts("operation      calls   cuts  as before  answered 2  as after  sound, neither");
+    for (int i = 0; i < OPERATIONS; i++) {
+        printf("%-13s %6lu %6lu %10lu %11lu %9lu %15lu\n", names[i], counts[i].calls, counts[i].cuts, counts[i].as_before,
                counts[i].unsound, counts[i].as_after, counts[i].neither);
         if (counts[i].calls == 0) {
             wrong("an operation was never done", 0);
         }
     }
     printf("refused calls: %lu, none of which wrote\n", refused);
-    if (counts[0].neither + counts[2].neither + counts[4].neither != 0) {
+    if (counts[0].neither + counts[2].neither + counts[FRESH].neither != 0) {
         wrong("a cut creation, load or fresh leaves a sound store that is neither the old nor the new one", 0);
+    }
+    if (counts[FRESH_LIMITS].neither != counts[FRESH_LIMITS].neither_empty) {
+        wrong("a cut fresh with limits leaves a sound store with entries that is neither the old nor the new one", 0);
+    }
+    if (counts[FRESH_LIMITS].neither == 0) {
+        wrong("no cut fresh with limits left a sound store with other limits: the header warns of these", 0);
     }
     if (counts[1].neither == 0 || counts[3].neither == 0) {
         wrong("no cut deletion or removal left a sound store that is neither: the header warns of these", 0);

@@ -3,8 +3,9 @@
  * reader: number, depth figure of a load, yes or no of a query, and all bytes of the store after the call.
  *
  * CALLS, a step a line: N length fill bytes (a new buffer: the bytes, then the fill byte), P offset bytes
- * (bytes written into it), F (fresh), C and D (domain), L (domain, file), R (package), Q (domain, package,
- * class, name). ANSWERS, a line a call: step, number, depth, yes or no, and the FNV-1a hash of the buffer.
+ * (bytes written into it), F (fresh), G (fresh with limits: depth, parents, code), C and D (domain), L
+ * (domain, file), R (package), Q (domain, package, class, name). ANSWERS, a line a call: step, number,
+ * depth, yes or no, and the FNV-1a hash of the buffer.
  * Bytes are in hexadecimal, - for none.
  *
  * Prints how many calls were answered alike, or the first that was not; exit status 0 only for the former.
@@ -90,6 +91,16 @@ static void damage(unsigned long step)
     memcpy(store.at + offset, first.at, first.length);
 }
 
+/* G depth parents code. */
+static uint32_t fresh_limits(unsigned long step)
+{
+    unsigned long depth = figure(step), parents = figure(step), code = figure(step);
+    if (depth > UINT8_MAX || parents > UINT8_MAX || code > UINT16_MAX) {
+        stop("a limit is too large", step);
+    }
+    return loader_fresh_limits(store.at, store.length, (uint8_t)depth, (uint8_t)parents, (uint16_t)code);
+}
+
 static uint32_t query(unsigned long step)
 {
     unsigned long class_number, name;
@@ -105,6 +116,9 @@ static uint32_t call(char kind, unsigned long step)
 {
     if (kind == 'F') {
         return loader_fresh(store.at, store.length);
+    }
+    if (kind == 'G') {
+        return fresh_limits(step);
     }
     if (kind == 'Q') {
         return query(step);
@@ -164,7 +178,7 @@ int main(int count, char **words)
 {
     FILE *calls = count == 3 ? fopen(words[1], "r") : NULL;
     FILE *answers = count == 3 ? fopen(words[2], "r") : NULL;
-    unsigned long step = 0, compared = 0, numbers[22] = {0};
+    unsigned long step = 0, compared = 0, done = 0;
 
     if (calls == NULL || answers == NULL) {
         fputs("usage: vectors CALLS ANSWERS\n", stderr);
@@ -180,13 +194,13 @@ int main(int count, char **words)
         } else {
             uint32_t answer = call(kind, step);
             compare(answers, kind, answer, step);
-            numbers[LOADER_NUMBER(answer)] += 1;
+            done += LOADER_NUMBER(answer) == LOADER_DONE;
             compared += 1;
         }
     }
     if (fscanf(answers, "%lu", &step) != EOF || compared == 0) {
         stop("answers without a call", step);
     }
-    printf("%lu calls, %lu of them done\n", compared, numbers[0]);
+    printf("%lu calls, %lu of them done\n", compared, done);
     return 0;
 }

@@ -1,5 +1,5 @@
 #!/bin/sh
-# week.sh: the example week, through the static library from C and through the simulated card; the table of examples/README.md.
+# week.sh: the example week, through the static library from C and through the simulated card; the tables of examples/README.md.
 #
 # Prints a line that begins with "ok", or what differs; exit status 0 only if all is right.
 set -u
@@ -21,5 +21,12 @@ same examples/week.card.expected "$out/card.out"
 # the table's line, answer and used are the card's
 awk -F ' *[|] *' '$2 ~ /^[0-9]+$/ { gsub(/`/, "", $4); print $2 " " $4 ($5 == "" ? "" : " " $5) }' examples/README.md >"$out/table"
 same examples/week.card.expected "$out/table"
+
+# of other series, the loads and what is refused: answer, used, depth
+awk -F ' *[|] *' '/^## Other series/ { on = 1 } on && $5 ~ /^[0-9]+$/ { sub(/, depth/, "", $4); split($4, said, " "); print said[1], $5, said[2] }' \
+    examples/README.md >"$out/series"
+sed -n '/^Next: /,$s/^  \(.*[^ ]\)  *\([0-9][0-9]*\)   used  *\([0-9]*\)   \(.*\)$/\1|\2|\3|\4/p' examples/week.expected |
+    awk -F '|' '/^load/ || $2 != 0 { n = split($4, said, "deepest class "); print $2, $3, (n > 1 ? said[2] : "") }' >"$out/series.expected"
+same "$out/series.expected" "$out/series"
 
 echo "ok week: the story and $(($(wc -l <examples/week.card))) lines of the simulated card are as stored"

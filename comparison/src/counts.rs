@@ -1,22 +1,32 @@
 //! How often each operation answered each number, loads by their depth figure, and what
-//! FE and handlers decided.
+//! FE, handlers and limits decided.
 
 use independent::depths::DepthCounts;
 use independent::handler_counts::HandlerCounts;
 use independent::ledger::Call;
+use independent::limit_counts::LimitCounts;
+use independent::limits::Limits;
 use independent::loader::{Independent, Loader};
 use independent::own_domain::OwnCounts;
 use independent::questions::NUMBERS;
 use std::cell::RefCell;
 
-pub const OPERATIONS: [&str; 6] = ["fresh", "create", "delete", "load", "remove", "query"];
+pub const OPERATIONS: [&str; 7] = [
+    "fresh",
+    "create",
+    "delete",
+    "load",
+    "remove",
+    "query",
+    "fresh_limits",
+];
 
 const GREATEST: usize = NUMBERS[NUMBERS.len() - 1] as usize;
 const LOAD: usize = 3;
 const QUERY: usize = 5;
 
 /// The numbers that each operation can answer.
-const CAN_ANSWER: [&[usize]; 6] = [
+const CAN_ANSWER: [&[usize]; OPERATIONS.len()] = [
     &[0, 1],
     &[0, 1, 2, 3, 4, 21],
     &[0, 1, 2, 3, 5, 6],
@@ -25,34 +35,48 @@ const CAN_ANSWER: [&[usize]; 6] = [
     ],
     &[0, 1, 2, 3, 7, 8],
     &[0, 1, 2, 3, 7, 9],
+    &[0, 1, 30],
 ];
+
+/// The place of a call among the operations.
+pub fn operation(call: &Call) -> usize {
+    match call {
+        Call::Fresh => 0,
+        Call::Create(_) => 1,
+        Call::Delete(_) => 2,
+        Call::Load { .. } => LOAD,
+        Call::Remove(_) => 4,
+        Call::Query { .. } => QUERY,
+        Call::FreshLimits(_) => 6,
+    }
+}
 
 #[derive(Default)]
 pub struct Counts {
-    answers: [[u64; GREATEST + 1]; 6],
+    answers: [[u64; GREATEST + 1]; OPERATIONS.len()],
     depths: DepthCounts,
     own: OwnCounts,
     handlers: HandlerCounts,
+    limits: LimitCounts,
     /// Queries answered yes.
     yes: u64,
 }
 
 impl Counts {
-    fn note(&mut self, operation: usize, answer: u32) {
+    /// Notes a call; the store is as it left it.
+    fn note(&mut self, call: &Call, answer: u32, store: &[u8]) {
+        let operation = operation(call);
         let (number, figure) = ((answer & 0xFF) as usize, answer >> 8);
         self.answers[operation][number] += 1;
-        if number == 0 && operation == QUERY {
-            self.yes += u64::from(figure);
+        if matches!(operation, LOAD | QUERY) {
+            self.own.note(call, answer, store);
+            self.handlers.note(call, answer, store);
         }
-    }
-
-    /// Notes a load or a query; the store is as it left it.
-    fn note_call(&mut self, operation: usize, call: &Call, answer: u32, store: &[u8]) {
-        self.note(operation, answer);
-        self.own.note(call, answer, store);
-        self.handlers.note(call, answer, store);
-        if operation == LOAD && answer & 0xFF == 0 {
-            self.depths.note(answer >> 8, store);
+        self.limits.note(call, answer, store);
+        match (operation, number) {
+            (LOAD, 0) => self.depths.note(figure, store),
+            (QUERY, 0) => self.yes += u64::from(figure),
+            _ => {}
         }
     }
 
@@ -66,11 +90,11 @@ impl Counts {
 
     /// Rows are operations, columns numbers; a dash where there is nothing to reach.
     pub fn print(&self) {
-        print!("{:8}", "");
+        print!("{:12}", "");
         NUMBERS.iter().for_each(|number| print!("{number:>7}"));
         println!();
         for (operation, name) in OPERATIONS.iter().enumerate() {
-            print!("{name:8}");
+            print!("{name:12}");
             for number in NUMBERS.map(usize::from) {
                 match self.answers[operation][number] {
                     0 if !CAN_ANSWER[operation].contains(&number) => print!("{:>7}", "-"),
@@ -83,12 +107,12 @@ impl Counts {
         println!("{accepted} of {loads} loads accepted: {}", self.depths);
         let (yes, queries) = (self.yes, self.answers[QUERY][0]);
         println!("{yes} of {queries} queries answered yes");
-        println!("{}\n{}", self.own, self.handlers);
+        println!("{}\n{}\n{}", self.own, self.handlers, self.limits);
     }
 
     /// What falls short of this many answers of each number, this many accepted loads by
-    /// each depth and origin, this many decisions of each kind by FE and by handlers, and a
-    /// fifth of loads accepted.
+    /// each depth and origin, this many decisions of each kind by FE, by handlers and by
+    /// limits, and a fifth of loads accepted.
     pub fn shortfalls(&self, least: u64) -> Vec<String> {
         let mut found = Vec::new();
         for (operation, numbers) in CAN_ANSWER.iter().enumerate() {
@@ -106,6 +130,7 @@ impl Counts {
         found.extend(self.depths.shortfalls(least));
         found.extend(self.own.shortfalls(least));
         found.extend(self.handlers.shortfalls(least));
+        found.extend(self.limits.shortfalls(least));
         found
     }
 }
@@ -117,55 +142,51 @@ pub struct Counting {
 }
 
 impl Counting {
-    fn noted(&self, operation: usize, answer: u32) -> u32 {
-        self.counts.borrow_mut().note(operation, answer);
-        answer
-    }
-
-    fn noted_call(&self, operation: usize, call: &Call, store: &mut [u8]) -> u32 {
-        let answer = Independent.call(store, call);
-        let mut counts = self.counts.borrow_mut();
-        counts.note_call(operation, call, answer, store);
-        answer
-    }
-
     pub fn into_counts(self) -> Counts {
         self.counts.into_inner()
     }
 }
 
 impl Loader for Counting {
+    fn call(&self, store: &mut [u8], call: &Call) -> u32 {
+        let answer = Independent.call(store, call);
+        self.counts.borrow_mut().note(call, answer, store);
+        answer
+    }
+
     fn fresh(&self, store: &mut [u8]) -> u32 {
-        self.noted(0, Independent.fresh(store))
+        self.call(store, &Call::Fresh)
+    }
+
+    fn fresh_limits(&self, store: &mut [u8], limits: Limits) -> u32 {
+        self.call(store, &Call::FreshLimits(limits))
     }
 
     fn create(&self, store: &mut [u8], domain: &[u8]) -> u32 {
-        self.noted(1, Independent.create(store, domain))
+        self.call(store, &Call::Create(domain.to_vec()))
     }
 
     fn delete(&self, store: &mut [u8], domain: &[u8]) -> u32 {
-        self.noted(2, Independent.delete(store, domain))
+        self.call(store, &Call::Delete(domain.to_vec()))
     }
 
     fn load(&self, store: &mut [u8], domain: &[u8], file: &[u8]) -> u32 {
-        let call = Call::Load {
-            domain: domain.to_vec(),
-            file: file.to_vec(),
-        };
-        self.noted_call(LOAD, &call, store)
+        let (domain, file) = (domain.to_vec(), file.to_vec());
+        self.call(store, &Call::Load { domain, file })
     }
 
     fn remove(&self, store: &mut [u8], package: &[u8]) -> u32 {
-        self.noted(4, Independent.remove(store, package))
+        self.call(store, &Call::Remove(package.to_vec()))
     }
 
     fn query(&self, store: &mut [u8], domain: &[u8], package: &[u8], class: u8, name: u16) -> u32 {
+        let (domain, package) = (domain.to_vec(), package.to_vec());
         let call = Call::Query {
-            domain: domain.to_vec(),
-            package: package.to_vec(),
+            domain,
+            package,
             class,
             name,
         };
-        self.noted_call(QUERY, &call, store)
+        self.call(store, &call)
     }
 }

@@ -1,7 +1,9 @@
 //! The cases that every run compares, whatever its count.
 
 use independent::generate::faults::faulty_file;
+use independent::generate::full_stores::full_stores;
 use independent::generate::handler_cases;
+use independent::generate::limit_cases;
 use independent::generate::lineages::lineages;
 use independent::generate::own_pairs::own_pairs;
 use independent::generate::random::Random;
@@ -30,6 +32,7 @@ fn group(name: &'static str, sequences: impl Iterator<Item = Sequence> + 'static
 pub fn groups(seed: u64) -> Vec<Group> {
     let mut found = at_limits();
     found.extend(of_version_2());
+    found.extend(of_limits());
     found.extend(given());
     found.extend(seeded(seed));
     found
@@ -68,14 +71,29 @@ fn of_version_2() -> Vec<Group> {
     ]
 }
 
+/// Stores of version 2 and their limits.
+fn of_limits() -> Vec<Group> {
+    vec![
+        group(
+            "limits given on both sides of each edge",
+            limit_cases::given().into_iter(),
+        ),
+        group(
+            "openings of version 2 in every way",
+            limit_cases::stored().into_iter(),
+        ),
+        group(
+            "files at the limits of stores and past",
+            limit_cases::at_limits().into_iter(),
+        ),
+    ]
+}
+
 /// Stores and codes that are the same in every run.
 fn given() -> Vec<Group> {
     let codes = Version::BOTH.into_iter().flat_map(special::short_codes);
     vec![
-        group(
-            "stores full to the byte",
-            special::full_stores().into_iter(),
-        ),
+        group("stores full to the byte", full_stores().into_iter()),
         group(
             "parents of three classes in every way",
             lineages().into_iter(),
@@ -93,7 +111,7 @@ fn given() -> Vec<Group> {
 fn seeded(seed: u64) -> Vec<Group> {
     let seeds = move |count: u64| (0..count).map(move |n| seed.wrapping_mul(257).wrapping_add(n));
     let faults = seeds(30).flat_map(|s| [with_faults(s, 1), with_faults(s, 2)]);
-    let questions = (0..=5).chain(OF_A_FILE);
+    let questions = (0..=5).chain(OF_A_FILE).chain([30]);
     let stores = questions.flat_map(move |question| seeds(10).map(move |s| over(s, question)));
     let codes = seeds(64).map(|s| special::three_byte_codes(Version::BOTH[s as usize % 2], s));
     vec![
@@ -158,10 +176,8 @@ fn over(seed: u64, question: u8) -> Sequence {
     let random = &mut Random::new(seed);
     let planted = planted_store(random, &pools(), question);
     let scene = &planted.scene;
-    let (domain, package) = (
-        scene.domains[0].clone(),
-        scene.packages[0].model.aid.clone(),
-    );
+    // The first package that is there, if any is.
+    let (domain, package) = (scene.domains[0].clone(), scene.package_pool[0].clone());
     let file = valid_file(random, scene, &domain, &[0xC0; 6]).bytes();
     let calls = [
         Call::Create(domain.clone()),

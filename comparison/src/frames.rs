@@ -8,10 +8,17 @@ use std::process::Command;
 const OUTSIDE: usize = 64;
 const RETURN_ADDRESS: usize = 8;
 
-/// How often functions that call themselves or each other nest at most.
+/// How often functions that call themselves or each other nest at most, with the standard limits
+/// and with larger ones.
 pub struct Recursion {
     pub members: Vec<String>,
-    pub most: usize,
+    pub most: [usize; 2],
+}
+
+/// Of which calls a bound is: with larger limits or not, and without those of the functions left out.
+pub struct Calls<'a> {
+    pub larger: bool,
+    pub left_out: &'a dyn Fn(&str) -> bool,
 }
 
 /// A function: its greatest depth, and the depth at each call.
@@ -86,25 +93,28 @@ impl Frames {
         false
     }
 
-    /// The most stack of a function, its return address included; calls of the functions left out
-    /// do not count.
-    pub fn bound(&self, name: &str, left_out: &dyn Fn(&str) -> bool) -> usize {
+    pub fn has(&self, name: &str) -> bool {
+        self.functions.contains_key(name)
+    }
+
+    /// The most stack of a function, its return address included.
+    pub fn bound(&self, name: &str, of: &Calls) -> usize {
         let Some(function) = self.functions.get(name) else {
             return OUTSIDE + RETURN_ADDRESS;
         };
         let together = self.recursions.iter().find(|r| r.members.iter().any(|m| m == name));
         let Some(recursion) = together else {
-            let calls = function.calls.iter().filter(|(callee, _)| !left_out(callee));
-            let deepest = calls.map(|(callee, depth)| depth + self.bound(callee, left_out)).max();
+            let calls = function.calls.iter().filter(|(callee, _)| !(of.left_out)(callee));
+            let deepest = calls.map(|(callee, depth)| depth + self.bound(callee, of)).max();
             return RETURN_ADDRESS + function.deepest.max(deepest.unwrap_or(0));
         };
         let members = || recursion.members.iter().filter_map(|member| self.functions.get(member));
         let once: usize = members().map(|f| f.deepest + RETURN_ADDRESS).sum();
         let callees = members().flat_map(|f| &f.calls).filter(|(callee, _)| {
-            !left_out(callee) && !recursion.members.contains(callee)
+            !(of.left_out)(callee) && !recursion.members.contains(callee)
         });
-        let beyond = callees.map(|(callee, _)| self.bound(callee, left_out)).max();
-        recursion.most * once + beyond.unwrap_or(0)
+        let beyond = callees.map(|(callee, _)| self.bound(callee, of)).max();
+        recursion.most[usize::from(of.larger)] * once + beyond.unwrap_or(0)
     }
 }
 

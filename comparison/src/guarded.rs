@@ -1,5 +1,6 @@
 //! A loader that is lent copies of the store with guard bytes on both sides.
 
+use independent::limits::Limits;
 use independent::loader::Loader;
 
 /// The answer that stands for a call that wrote outside the store.
@@ -30,6 +31,10 @@ fn within(store: &mut [u8], call: impl FnOnce(&mut [u8]) -> u32) -> u32 {
 impl<L: Loader> Loader for Guarded<L> {
     fn fresh(&self, store: &mut [u8]) -> u32 {
         within(store, |s| self.0.fresh(s))
+    }
+
+    fn fresh_limits(&self, store: &mut [u8], limits: Limits) -> u32 {
+        within(store, |s| self.0.fresh_limits(s, limits))
     }
 
     fn create(&self, store: &mut [u8], domain: &[u8]) -> u32 {

@@ -4,8 +4,10 @@
 
 use crate::hostile_chains::{chain, chain_of_lists, lists_by_turns, own_alone};
 use crate::hostile_handlers::{in_second, long_codes, short_codes};
+use crate::hostile_limits::with_limits;
 use crate::hostile_lists::Lists;
-use crate::hostile_tables::{below, crossing, domains, maps, names, packages, references, shuffle};
+use crate::hostile_tables::{below, crossing, domains, maps, names, packages, references};
+use crate::hostile_tables::{shuffle, Levels};
 use crate::ordinary::domain;
 use crate::workloads::{used, written, Workload};
 use independent::generate::model::{FileModel, MethodModel};
@@ -40,6 +42,11 @@ pub const LONG_HANDLERS: &str = "the longest codes of one-byte instructions, 16 
 pub const WIDE_HANDLERS: &str = "the longest codes of any instructions, 16 handlers each";
 pub const CHAIN_SECOND: &str = "the chain in version 2";
 pub const CALLED_SECOND: &str = "the references called, in 16 handlers' ranges";
+pub const CHAIN_DEEP: &str = "limits 16 and 8: a chain of 15 × 64 names, 8 parents a level";
+pub const BELOW_DEEP: &str = "limits 16 and 8: small packages below a ladder of 15 levels";
+pub const CROSSING_DEEP: &str = "limits 16 and 8: parents crossing eight packages a level";
+pub const LONGEST_HANDLERS: &str = "codes of 32,767 and 32,400 bytes, 16 handlers each";
+pub const SWITCHES: &str = "switches of 16,379 and 16,300 offsets, a code each";
 
 /// The sizes of the chain's stores, for its growth.
 pub const CHAIN_SIZES: [usize; 4] = [8, 16, 32, 64];
@@ -68,8 +75,8 @@ pub fn all() -> Vec<Workload> {
     found.push(chain_of_lists(OWN_INDEX, Lists::own_index()));
     found.push(lists_by_turns(TURNS_FIRST, [0, 1].map(Lists::turns_first)));
     found.push(lists_by_turns(TURNS_LAST, [0, 1].map(Lists::turns_last)));
-    found.push(below(8));
-    found.push(crossing(6, 32, 8));
+    found.push(below(&levels(BELOW, 7)));
+    found.push(crossing(&levels(CROSSING, 6), 32));
     found.push(domains(DOMAINS, |numbers| numbers.reverse()));
     found.push(domains(SHUFFLED, shuffle));
     found.push(references(UNUSED, 1_024, false));
@@ -79,10 +86,22 @@ pub fn all() -> Vec<Workload> {
     found.push(packages());
     found.push(names());
     found.extend(with_handlers());
+    found.extend(with_limits());
     found
 }
 
-/// Those of version 2.
+/// So many levels by the standard limits.
+fn levels(name: &'static str, count: usize) -> Levels {
+    Levels {
+        name,
+        count,
+        parents: 4,
+        methods: 8,
+        room: LARGEST,
+    }
+}
+
+/// Those of files of version 2.
 fn with_handlers() -> [Workload; 5] {
     [
         short_codes(),

@@ -8,10 +8,18 @@ use crate::ordinary::domain;
 use crate::workloads::{used, Workload};
 use independent::generate::model::{ClassModel, FileModel};
 use independent::ledger::Entry;
+use independent::limits::Limits;
 use independent::policy::OWN;
 
-/// A package whose classes of kind 0 are a chain of 7, each with so many names of its own.
-fn chain_package(number: usize, names: u16, domains: Vec<Vec<u8>>, allowed: &[u8]) -> Entry {
+/// The classes of the chain by the standard limits: one above the depth limit.
+const CLASSES: u8 = Limits::STANDARD.depth - 1;
+
+/// The most levels of interfaces by these limits.
+const LEVELS: usize = 6;
+
+/// A package whose classes of kind 0 are a chain of so many, each with so many names of its
+/// own.
+fn chain_package(classes: u8, names: u16, domains: Vec<Vec<u8>>, allowed: &[u8]) -> Entry {
     let class = |k: u8| {
         let parents: Vec<(u8, u8)> = (0..k)
             .last()
@@ -23,9 +31,9 @@ fn chain_package(number: usize, names: u16, domains: Vec<Vec<u8>>, allowed: &[u8
         ClassModel::new(0, &parents, methods.collect())
     };
     packed(FileModel {
-        aid: aid(number),
+        aid: aid(1),
         domains,
-        classes: (0..7).map(class).collect(),
+        classes: (0..classes).map(class).collect(),
         ..FileModel::default()
     })
 }
@@ -35,6 +43,8 @@ struct Level {
     home: usize,
     domains: Vec<Vec<u8>>,
     count: u8,
+    /// Of each interface.
+    parents: u8,
     names: u16,
     asking: Vec<u8>,
 }
@@ -45,18 +55,24 @@ impl Level {
             home: lists.home,
             domains: lists.asked.clone(),
             count: 8,
+            parents: 4,
             names: 4,
             asking: lists.asking.clone(),
         }
     }
 
-    /// Its package, with four parents each in the level before, if there is one.
+    /// Its package, with parents in the level before, if there is one.
     fn package(&self, number: usize, before: Option<usize>) -> Entry {
-        let four = |i: u8| (0..4).map(|k| (1, (4 * i + k) % self.count)).collect();
+        let most = self.parents;
+        let all = |i: u8| {
+            (0..most)
+                .map(|k| (1, (most * i + k) % self.count))
+                .collect()
+        };
         let methods = (0..self.names).map(|name| asked(name, &self.asking));
         let interface = ClassModel::new(1, &[], methods.collect());
         let class = |i: u8| ClassModel {
-            parents: before.map_or(Vec::new(), |_| four(i)),
+            parents: before.map_or(Vec::new(), |_| all(i)),
             ..interface.clone()
         };
         let model = FileModel {
@@ -70,17 +86,17 @@ impl Level {
     }
 }
 
-/// Levels of interfaces by turns, in about half of the store; then packages of 32 classes
+/// Up to so many levels of interfaces by turns, in about half of the store; then packages of 32 classes
 /// below a class, by the number of its package and its own, and one interface or three.
 fn below_class(
     mut entries: Vec<Entry>,
     length: usize,
-    levels: &[Level],
+    (levels, most): (&[Level], usize),
     parents: usize,
     above: (usize, u8),
 ) -> Vec<Entry> {
     let mut last = 1;
-    for level in 0..6 {
+    for level in 0..most {
         let before = (level > 0).then_some(last);
         let entry = levels[level % levels.len()].package(last + 1, before);
         if used(&entries) + used(std::slice::from_ref(&entry)) > length / 2 {
@@ -106,15 +122,37 @@ fn chain_with(name: &'static str, kb: usize, list: &[u8]) -> Workload {
     let length = (1024 * kb).min(LARGEST);
     let (names, count) = if kb == 8 { (16, 8) } else { (64, 16) };
     let mut entries = start();
-    entries.push(chain_package(1, names, vec![], list));
+    entries.push(chain_package(CLASSES, names, vec![], list));
     let level = Level {
         home: 0,
         domains: vec![],
         count,
+        parents: 4,
         names,
         asking: list.to_vec(),
     };
-    let entries = below_class(entries, length, &[level], 2, (1, 6));
+    let entries = below_class(entries, length, (&[level], LEVELS), 2, (1, CLASSES - 1));
+    workload(name, &entries, length)
+}
+
+/// The chain, its levels and their parents at the greatest limits; room for these is left.
+pub(crate) fn deep_chain(name: &'static str, kb: usize) -> Workload {
+    let length = (1024 * kb).min(LARGEST);
+    let names = if kb == 8 { 16 } else { 64 };
+    let classes = Limits::GREATEST.depth - 1;
+    let level = Level {
+        home: 0,
+        domains: vec![],
+        count: 8,
+        parents: Limits::GREATEST.parents,
+        names,
+        asking: vec![],
+    };
+    let mut entries = start();
+    entries.push(chain_package(classes, names, vec![], &[]));
+    let levels = (&[level][..], usize::from(classes));
+    let room = length - Limits::BYTES;
+    let entries = below_class(entries, room, levels, 2, (1, classes - 1));
     workload(name, &entries, length)
 }
 
@@ -129,8 +167,8 @@ pub(crate) fn own_alone() -> Workload {
 pub(crate) fn chain_of_lists(name: &'static str, lists: Lists) -> Workload {
     let level = Level::of(&lists);
     let mut entries = start();
-    entries.push(chain_package(1, 4, lists.running, &lists.listed));
-    let entries = below_class(entries, LARGEST, &[level], 4, (1, 6));
+    entries.push(chain_package(CLASSES, 4, lists.running, &lists.listed));
+    let entries = below_class(entries, LARGEST, (&[level], LEVELS), 4, (1, CLASSES - 1));
     workload(name, &entries, LARGEST)
 }
 
@@ -155,6 +193,6 @@ pub(crate) fn lists_by_turns(name: &'static str, lists: [Lists; 2]) -> Workload 
     }
     entries.push(package(1, vec![], &lists[0], &[], [1, 3]));
     entries.push(package(50, vec![aid(1)], &lists[1], &[(1, 0)], [0, 2]));
-    let entries = below_class(entries, LARGEST, &levels, 4, (50, 0));
+    let entries = below_class(entries, LARGEST, (&levels, LEVELS), 4, (50, 0));
     workload(name, &entries, LARGEST)
 }

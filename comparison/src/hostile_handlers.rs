@@ -4,12 +4,14 @@ use crate::hostile::SHORT_HANDLERS;
 use crate::hostile::{aid, filled, packed, start, workload, LARGEST};
 use crate::ordinary::of_codes;
 use crate::ordinary_handlers::second;
+use crate::ordinary_limits::entries_of;
 use crate::workloads::{used, Workload};
+use independent::generate::limits::plain_code;
 use independent::generate::model::{ClassModel, FileModel, MethodModel};
 use independent::handlers::{Handler, MAX_HANDLERS};
 use independent::ledger::Entry;
-use independent::package::{Version, MAX_CODE};
-use independent::store::{self, Body};
+use independent::limits::STANDARD_CODE;
+use independent::package::Version;
 
 /// The most methods of a class.
 const METHODS: u16 = 64;
@@ -41,16 +43,16 @@ pub(crate) fn long_codes(name: &'static str, any: bool) -> Workload {
     let entries = filled(start(), LARGEST, |number| {
         packed(match any {
             true => any_code(number),
-            false => one_byte_code(number),
+            false => one_byte_code(number, STANDARD_CODE as u16),
         })
     });
     workload(name, &entries, LARGEST)
 }
 
-fn one_byte_code(number: usize) -> FileModel {
-    let mut code = vec![0; MAX_CODE];
-    code[MAX_CODE - 1] = 0x7A;
-    let (last, length) = (MAX_CODE as u16 - 1, MAX_CODE as u16);
+/// A code of this length of instructions of one byte, with handlers at its end.
+pub(crate) fn one_byte_code(number: usize, length: u16) -> FileModel {
+    let code = plain_code(length.into());
+    let last = length - 1;
     let handlers: Vec<Handler> = (0..MAX_HANDLERS as u16)
         .map(|k| Handler::new(last - k, length, last - k))
         .collect();
@@ -59,7 +61,7 @@ fn one_byte_code(number: usize) -> FileModel {
 }
 
 fn any_code(number: usize) -> FileModel {
-    let mut model = of_codes(number, 1, MAX_CODE - 200);
+    let mut model = of_codes(number, 1, STANDARD_CODE - 200);
     model.aid = aid(1 + number);
     second(model, |_| MAX_HANDLERS)
 }
@@ -67,12 +69,12 @@ fn any_code(number: usize) -> FileModel {
 /// The packages of a hostile store in version 2, so many handlers a code; as many as fit.
 pub(crate) fn in_second(name: &'static str, of: &Workload, handlers: usize) -> Workload {
     let mut entries: Vec<Entry> = Vec::new();
-    for entry in store::entries(&of.store).expect("a store that is laid out") {
-        entries.push(match entry.body {
-            Body::Domain(aid) => Entry::Domain(aid.to_vec()),
-            Body::Package { domain, file } => {
-                let model = FileModel::read(file).expect("a file that reads");
-                let (domain, file) = (domain.to_vec(), second(model, |_| handlers).bytes());
+    for entry in entries_of(&of.store) {
+        entries.push(match entry {
+            Entry::Domain(_) => entry,
+            Entry::Package { domain, file } => {
+                let model = FileModel::read(&file).expect("a file that reads");
+                let file = second(model, |_| handlers).bytes();
                 Entry::Package { domain, file }
             }
         });

@@ -1,19 +1,30 @@
 //! Hostile stores of many parents, domains, references, imports and names.
 
 use crate::hostile::{aid, asked, filled, long, packed, runs, start, workload, LARGEST};
-use crate::hostile::{BELOW, CROSSING, NAMES, PACKAGES};
+use crate::hostile::{NAMES, PACKAGES};
 use crate::ordinary::domain;
 use crate::workloads::Workload;
 use independent::generate::model::{ClassModel, FileModel, MethodModel};
 use independent::ledger::Entry;
 
-/// Seven packages of 32 interfaces with so many methods, and packages of one class below the last.
-pub(crate) fn below(methods: u16) -> Workload {
+/// Levels of packages of interfaces, each with its parents in the level before.
+pub(crate) struct Levels {
+    pub name: &'static str,
+    pub count: usize,
+    pub parents: u8,
+    pub methods: u16,
+    /// The bytes that may be in use.
+    pub room: usize,
+}
+
+/// A package of 32 interfaces a level, and packages of one class below the last.
+pub(crate) fn below(levels: &Levels) -> Workload {
+    let (parents, methods) = (levels.parents, levels.methods);
     let mut entries = start();
     let asked: Vec<MethodModel> = (0..methods).map(|name| asked(name, &[])).collect();
-    for level in 0..7 {
-        let four = |i: u8| (0..4).map(|k| (1, (4 * i + k) % 32)).collect::<Vec<_>>();
-        let parents = |i: u8| if level == 0 { Vec::new() } else { four(i) };
+    for level in 0..levels.count {
+        let all = |i: u8| (0..parents).map(|k| (1, (parents * i + k) % 32)).collect();
+        let parents = |i: u8| if level == 0 { Vec::new() } else { all(i) };
         entries.push(packed(FileModel {
             aid: aid(1 + level),
             imports: if level == 0 {
@@ -27,33 +38,37 @@ pub(crate) fn below(methods: u16) -> Workload {
             ..FileModel::default()
         }));
     }
-    let entries = filled(entries, LARGEST, |k| {
-        let class = ClassModel::new(0, &[(1, 0), (1, 1), (1, 2), (1, 3)], vec![runs(0, None)]);
+    let entries = filled(entries, levels.room, |k| {
+        let above: Vec<(u8, u8)> = (0..parents).map(|class| (1, class)).collect();
+        let class = ClassModel::new(0, &above, vec![runs(0, None)]);
         packed(FileModel {
             aid: aid(100 + k),
-            imports: vec![aid(7)],
+            imports: vec![aid(levels.count)],
             classes: vec![class],
             ..FileModel::default()
         })
     });
-    workload(BELOW, &entries, LARGEST)
+    workload(levels.name, &entries, LARGEST)
 }
 
-/// Levels of four packages; each class has a parent in each package of the level before.
-pub(crate) fn crossing(levels: usize, per_package: u8, methods: u16) -> Workload {
+/// A package of so many interfaces for each parent; each interface has one in each package
+/// of the level before.
+pub(crate) fn crossing(levels: &Levels, per_package: u8) -> Workload {
+    let (packages, wide) = (levels.parents, usize::from(levels.parents));
+    let methods = levels.methods;
     let mut entries = start();
     let asked: Vec<MethodModel> = (0..methods).map(|name| asked(name, &[])).collect();
-    let four = |first: usize| (first..first + 4).map(aid).collect::<Vec<_>>();
-    for number in 0..4 * levels {
-        let level = number / 4;
-        let crossed = |i: u8| (0..4).map(move |k| (k + 1, (4 * i + k) % per_package));
+    let across = |level: usize| (wide * level..wide * (level + 1)).map(aid).collect();
+    for number in 0..wide * levels.count {
+        let level = number / wide;
+        let crossed = |i: u8| (0..packages).map(move |k| (k + 1, (packages * i + k) % per_package));
         let parents = |i: u8| crossed(i).filter(|_| level > 0).collect::<Vec<_>>();
         entries.push(packed(FileModel {
             aid: aid(number),
             imports: if level == 0 {
                 Vec::new()
             } else {
-                four(4 * (level - 1))
+                across(level - 1)
             },
             classes: (0..per_package)
                 .map(|i| ClassModel::new(1, &parents(i), asked.clone()))
@@ -61,17 +76,18 @@ pub(crate) fn crossing(levels: usize, per_package: u8, methods: u16) -> Workload
             ..FileModel::default()
         }));
     }
-    let entries = filled(entries, LARGEST, |k| {
-        let parents = |i: u8| [0, 1, 2, 3].map(|k| (k + 1, (i + k) % per_package));
-        let class = |i| ClassModel::new(0, &parents(i), vec![runs(0, None)]);
+    let first = entries.len().max(100);
+    let entries = filled(entries, levels.room, |k| {
+        let parents = |i: u8| (0..packages).map(move |k| (k + 1, (i + k) % per_package));
+        let class = |i| ClassModel::new(0, &parents(i).collect::<Vec<_>>(), vec![runs(0, None)]);
         packed(FileModel {
-            aid: aid(100 + k),
-            imports: four(4 * (levels - 1)),
+            aid: aid(first + k),
+            imports: across(levels.count - 1),
             classes: (0..32).map(class).collect(),
             ..FileModel::default()
         })
     });
-    workload(CROSSING, &entries, LARGEST)
+    workload(levels.name, &entries, LARGEST)
 }
 
 /// A store full of domains with the shortest AIDs, their numbers in an order.

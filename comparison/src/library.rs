@@ -1,12 +1,20 @@
-//! The six C functions of `include/loader.h` as the trait that comparisons ask for.
+//! The seven C functions of `include/loader.h` as the trait that comparisons ask for.
 
 #![allow(unsafe_code)]
 
+use independent::limits::Limits;
 use independent::loader::Loader;
 use std::ptr;
 
 extern "C" {
     fn loader_fresh(store: *mut u8, store_length: usize) -> u32;
+    fn loader_fresh_limits(
+        store: *mut u8,
+        store_length: usize,
+        depth: u8,
+        parents: u8,
+        code: u16,
+    ) -> u32;
     fn loader_create(
         store: *mut u8,
         store_length: usize,
@@ -71,6 +79,15 @@ fn start_mut(bytes: &mut [u8]) -> *mut u8 {
 impl Loader for Library {
     fn fresh(&self, store: &mut [u8]) -> u32 {
         unsafe { loader_fresh(start_mut(store), store.len()) }
+    }
+
+    fn fresh_limits(&self, store: &mut [u8], limits: Limits) -> u32 {
+        let Limits {
+            depth,
+            parents,
+            code,
+        } = limits;
+        unsafe { loader_fresh_limits(start_mut(store), store.len(), depth, parents, code) }
     }
 
     fn create(&self, store: &mut [u8], domain: &[u8]) -> u32 {

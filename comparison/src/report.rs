@@ -42,6 +42,7 @@ fn line(step: &Step) -> String {
     match step {
         Step::Damage { place, bits } => format!("damage byte {place}, bits {bits:02X}"),
         Step::Call(Call::Fresh) => "fresh".into(),
+        Step::Call(Call::FreshLimits(limits)) => format!("fresh {limits:?}"),
         Step::Call(Call::Create(domain)) => format!("create {}", described(domain)),
         Step::Call(Call::Delete(domain)) => format!("delete {}", described(domain)),
         Step::Call(Call::Load { domain, file }) => {

@@ -3,10 +3,12 @@
 
 #![allow(unsafe_code)]
 
-use crate::counts::OPERATIONS;
+use crate::counts::{operation, OPERATIONS};
 use crate::library::Library;
 use independent::ledger::Call;
+use independent::limits::Limits;
 use independent::loader::{damage, Loader, Sequence, Step};
+use independent::store::StoreVersion;
 
 /// The stack of the measuring thread, and how much of it is painted.
 const THREAD: usize = 8 << 20;
@@ -15,14 +17,29 @@ const PAINTED: usize = 2 << 20;
 /// Left unpainted for the frame of `depth` itself.
 const MARGIN: usize = 256;
 
-/// The deepest stack of each operation over all calls of these sequences, in bytes,
-/// counted from the caller's frame: a little more than the operation's own, and never
-/// less than `MARGIN`.
-pub fn peaks(sequences: Vec<Sequence>) -> [usize; OPERATIONS.len()] {
+/// Stores to this many bytes have figures of their own.
+const SHORT: usize = 8_192;
+
+/// For each operation the stack in bytes: standard limits, stores to 8,192 bytes and longer
+/// ones; then larger limits, the same.
+pub type Peaks = [[usize; 4]; OPERATIONS.len()];
+
+/// The column of a store: its limits are larger than the standard ones by depth or by code.
+fn column(store: &[u8]) -> usize {
+    let limits = StoreVersion::of(store).unwrap_or_default().limits();
+    let standard = Limits::STANDARD;
+    let larger = limits.depth > standard.depth || limits.code > standard.code;
+    2 * usize::from(larger) + usize::from(store.len() > SHORT)
+}
+
+/// The deepest stack of each operation over all calls of these sequences, counted from the
+/// caller's frame: a little more than the operation's own, and never less than `MARGIN`; 0
+/// where there was no call.
+pub fn peaks(sequences: Vec<Sequence>) -> Peaks {
     let measuring = std::thread::Builder::new()
         .stack_size(THREAD)
         .spawn(move || {
-            let mut peaks = [0; OPERATIONS.len()];
+            let mut peaks = Peaks::default();
             sequences.iter().for_each(|s| follow(s, &mut peaks));
             peaks
         });
@@ -31,31 +48,20 @@ pub fn peaks(sequences: Vec<Sequence>) -> [usize; OPERATIONS.len()] {
         .expect("the measuring thread ends")
 }
 
-fn follow(sequence: &Sequence, peaks: &mut [usize]) {
+fn follow(sequence: &Sequence, peaks: &mut Peaks) {
     let mut store = sequence.start.clone();
     for step in &sequence.steps {
         match step {
             Step::Damage { place, bits } => damage(&mut store, *place, *bits),
             Step::Call(call) => {
                 let mut copy = store.clone();
-                let row = operation(call);
+                let peak = &mut peaks[operation(call)][column(&store)];
                 // A byte may be written with the paint's own value: two paints.
                 let first = depth(0xA5A5_A5A5_A5A5_A5A5, &mut copy, call);
                 let second = depth(0x3C3C_3C3C_3C3C_3C3C, &mut store, call);
-                peaks[row] = peaks[row].max(first).max(second);
+                *peak = first.max(second).max(*peak);
             }
         }
-    }
-}
-
-fn operation(call: &Call) -> usize {
-    match call {
-        Call::Fresh => 0,
-        Call::Create(_) => 1,
-        Call::Delete(_) => 2,
-        Call::Load { .. } => 3,
-        Call::Remove(_) => 4,
-        Call::Query { .. } => 5,
     }
 }
 

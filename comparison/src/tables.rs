@@ -3,6 +3,8 @@
 use crate::counts::OPERATIONS;
 use crate::hostile;
 use crate::ordinary_handlers as handled;
+use crate::ordinary_limits as limited;
+use crate::stack::Peaks;
 use crate::timing::Times;
 use crate::workloads::{self as named, Workload};
 
@@ -90,6 +92,7 @@ impl Measured {
             handled::LOAD,
             handled::QUERY,
             handled::OVER_FIRST,
+            limited::LOAD,
         ] {
             let (small, large) = (self.of(name, "8 KB"), self.of(name, "64 KB"));
             let library = large.library.best() / small.library.best();
@@ -129,11 +132,11 @@ fn print_aims(aims: &[Aim]) {
     }
 }
 
-pub fn print_stack(small: &[usize], large: &[usize]) {
+pub fn print_stack(peaks: &Peaks) {
     println!("\n## Peak stack of the library\n");
-    println!("| Operation | Stores to 8,192 bytes | Larger ones |");
-    println!("|---|---:|---:|");
-    for ((name, small), large) in OPERATIONS.iter().zip(small).zip(large) {
-        println!("| `loader_{name}` | {small} | {large} |");
+    println!("| Operation | Standard limits, to 8,192 bytes | longer | Larger limits, to 8,192 bytes | longer |");
+    println!("|---|---:|---:|---:|---:|");
+    for (name, [short, long, larger_short, larger_long]) in OPERATIONS.iter().zip(peaks) {
+        println!("| `loader_{name}` | {short} | {long} | {larger_short} | {larger_long} |");
     }
 }

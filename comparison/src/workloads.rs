@@ -3,6 +3,7 @@
 use crate::below_ladder::below_ladder;
 use crate::ordinary::{domain, home, of_codes, of_size, ordinary, package, Own, CODE};
 use crate::ordinary_handlers::with_handlers;
+use crate::ordinary_limits::with_limits;
 use independent::generate::limits::ladder;
 use independent::generate::model::FileModel;
 use independent::ledger::{Call, Entry, Ledger};
@@ -62,6 +63,7 @@ pub fn all() -> Vec<Workload> {
     found.push(below_ladder());
     found.push(empty());
     found.extend(with_handlers());
+    found.extend(with_limits());
     found
 }
 
@@ -110,7 +112,12 @@ pub(crate) fn full_of(make: impl Fn(usize) -> FileModel) -> Vec<Entry> {
 
 /// As many of the entries as a store of this size holds.
 pub(crate) fn first_entries(entries: &[Entry], kb: usize) -> &[Entry] {
-    let fits = |&count: &usize| used(&entries[..count]) <= buffer_bytes(kb);
+    entries_within(entries, buffer_bytes(kb))
+}
+
+/// The same of a store of so many bytes.
+pub(crate) fn entries_within(entries: &[Entry], bytes: usize) -> &[Entry] {
+    let fits = |&count: &usize| used(&entries[..count]) <= bytes;
     let count = (0..entries.len()).take_while(fits).last();
     &entries[..count.unwrap_or(0)]
 }

@@ -1,5 +1,6 @@
 //! What a store holds, read once: its domains, its packages and their classes.
 
+use crate::limits::Limits;
 use crate::misreadings::Misreading;
 use crate::package::{Class, Method, Package};
 use crate::policy::{Role, Standing};
@@ -50,14 +51,17 @@ pub struct Contents<'a> {
     pub packages: Vec<Installed<'a>>,
     package_numbers: HashMap<&'a [u8], usize>,
     domain_numbers: HashMap<&'a [u8], usize>,
+    /// Those of the store.
+    pub limits: Limits,
     /// How a load is misread, if it is.
     pub misreading: Option<Misreading>,
 }
 
 impl<'a> Contents<'a> {
     /// Nothing yet.
-    pub fn by(misreading: Option<Misreading>) -> Self {
+    pub fn by(limits: Limits, misreading: Option<Misreading>) -> Self {
         Contents {
+            limits,
             misreading,
             ..Contents::default()
         }

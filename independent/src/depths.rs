@@ -1,6 +1,7 @@
 //! How accepted loads come by their depth figure, and counts of it.
 
 use crate::contents::{Contents, Place};
+use crate::limits::Limits;
 use crate::questions::q2;
 use std::fmt;
 
@@ -53,7 +54,7 @@ pub fn depths_by(
 /// Accepted loads by their depth figure and its origin.
 #[derive(Default)]
 pub struct DepthCounts {
-    by_figure: [u64; 9],
+    by_figure: [u64; Limits::GREATEST.depth as usize + 1],
     not_last: u64,
     through_store: u64,
 }

@@ -2,11 +2,13 @@
 
 use crate::code;
 use crate::ledger::Call;
+use crate::limits::Limits;
 use crate::load_questions::{q10, q11, q16, Code};
 use crate::misreadings::Misreading;
 use crate::operations::asked;
-use crate::package::{self, Version};
+use crate::package::{self, Reading, Version};
 use crate::questions::{judge_codes, judge_load, q2, q2_by};
+use crate::store::StoreVersion;
 use std::fmt;
 
 /// Loads that are counted by what their files have.
@@ -47,7 +49,7 @@ impl HandlerCounts {
             return;
         };
         if matches!(number, 0 | 10 | 11 | 16..=24) {
-            self.note_file(file);
+            self.note_file(file, limits_of(store));
         }
         match number {
             0 => self.note_accepted(file, store),
@@ -74,8 +76,8 @@ impl HandlerCounts {
     }
 
     /// Counts the readings that the file alone tells apart.
-    fn note_file(&mut self, file: &[u8]) {
-        let right = of_file(file, None);
+    fn note_file(&mut self, file: &[u8], limits: Limits) {
+        let right = of_file(file, limits, None);
         let first = package::version(file, None) == Some(Version::First);
         for misreading in Misreading::HANDLERS {
             let asked = match misreading {
@@ -83,7 +85,7 @@ impl HandlerCounts {
                 Misreading::HandlersInFirst => true,
                 _ => !first,
             };
-            if asked && of_file(file, Some(misreading)) != right {
+            if asked && of_file(file, limits, Some(misreading)) != right {
                 self.tell(misreading);
             }
         }
@@ -122,7 +124,7 @@ impl HandlerCounts {
                 Version::Second => Shape::SecondImportsFirst,
             });
         }
-        let read = package::read(file);
+        let read = package::read(file, contents.limits);
         let codes = read.and_then(|package| q16(&package)).unwrap_or_default();
         if codes.iter().any(|code| code.handlers.iter().count() > 0) {
             self.add(Shape::Handlers);
@@ -153,10 +155,19 @@ impl HandlerCounts {
     }
 }
 
+/// The limits of a sound store.
+fn limits_of(store: &[u8]) -> Limits {
+    StoreVersion::of(store).unwrap_or_default().limits()
+}
+
 /// The first no among questions 10, 11, 16, 17 and 24, by a misreading or none.
-fn of_file(file: &[u8], misreading: Option<Misreading>) -> Result<(), u8> {
-    let version = q10(file, misreading).ok_or(10)?;
-    let package = q11(file, version, misreading).ok_or(11)?;
+fn of_file(file: &[u8], limits: Limits, misreading: Option<Misreading>) -> Result<(), u8> {
+    let reading = Reading {
+        version: q10(file, misreading).ok_or(10)?,
+        limits,
+        misreading,
+    };
+    let package = q11(file, reading).ok_or(11)?;
     let codes = match misreading {
         None => judge_codes(&package)?,
         Some(wrong) => wrong.judge_codes(&package)?,

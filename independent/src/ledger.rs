@@ -1,13 +1,15 @@
 //! The ledger: a list of entries, fed the buffer's length and the calls.
 
+use crate::limits::Limits;
 use crate::operations::asked;
-use crate::store::{HEAD, MARK_AND_VERSION};
+use crate::store::StoreVersion;
 use crate::Answer;
 
 /// A call and its arguments other than the buffer.
 #[derive(Clone, Debug, PartialEq, Eq)]
 pub enum Call {
     Fresh,
+    FreshLimits(Limits),
     Create(Vec<u8>),
     Delete(Vec<u8>),
     Load {
@@ -70,6 +72,8 @@ fn package_aid(file: &[u8]) -> Option<&[u8]> {
 #[derive(Clone, Debug)]
 pub struct Ledger {
     length: usize,
+    /// That in which it is written out: of the fresh call done last.
+    pub version: StoreVersion,
     pub entries: Vec<Entry>,
 }
 
@@ -78,6 +82,7 @@ impl Ledger {
     pub fn new(length: usize) -> Self {
         Ledger {
             length,
+            version: StoreVersion::First,
             entries: Vec::new(),
         }
     }
@@ -91,9 +96,7 @@ impl Ledger {
             entries.extend_from_slice(&(body.len() as u16).to_be_bytes());
             entries.extend_from_slice(&body);
         }
-        let used = (HEAD + entries.len()) as u16;
-        let mut buffer = MARK_AND_VERSION.to_vec();
-        buffer.extend_from_slice(&used.to_be_bytes());
+        let mut buffer = self.version.opened(entries.len());
         buffer.extend_from_slice(&entries);
         buffer.resize(n, 0);
         buffer
@@ -104,6 +107,7 @@ impl Ledger {
         let store = self.written_out(self.length);
         let judged = match call {
             Call::Fresh => asked::fresh(&store).map(|()| 0),
+            Call::FreshLimits(limits) => asked::fresh_limits(&store, *limits).map(|()| 0),
             Call::Create(domain) => asked::create(&store, domain).map(|()| 0),
             Call::Delete(domain) => asked::delete(&store, domain).map(|_| 0),
             Call::Load { domain, file } => asked::load(&store, domain, file),
@@ -121,9 +125,15 @@ impl Ledger {
         Answer::of(judged)
     }
 
+    fn empty(&mut self, version: StoreVersion) {
+        self.version = version;
+        self.entries.clear();
+    }
+
     fn change(&mut self, call: &Call) {
         match call {
-            Call::Fresh => self.entries.clear(),
+            Call::Fresh => self.empty(StoreVersion::First),
+            Call::FreshLimits(limits) => self.empty(StoreVersion::Second(*limits)),
             Call::Create(domain) => self.entries.push(Entry::Domain(domain.clone())),
             Call::Delete(domain) => self.entries.retain(|e| !e.is_domain(domain)),
             Call::Load { domain, file } => self.entries.push(Entry::Package {

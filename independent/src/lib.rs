@@ -1,4 +1,4 @@
-//! An independent reading of document 01 with requests 2, 5 and 7 of document 02: the
+//! An independent reading of document 01 with requests 2, 5, 7 and 12 of document 02: the
 //! staff card loader.
 
 pub mod bytes;
@@ -11,9 +11,13 @@ pub mod handler_counts;
 pub mod handler_faults;
 pub mod handlers;
 pub mod ledger;
+pub mod limit_counts;
+pub mod limit_edges;
+pub mod limits;
 pub mod load_questions;
 pub mod loader;
 mod misread_handlers;
+pub mod misread_limits;
 pub mod misreadings;
 pub mod operations;
 pub mod own_domain;

@@ -3,13 +3,11 @@
 use crate::code::{self, CallKind};
 use crate::contents::{Contents, Lineage, MethodPlace, Place};
 use crate::handlers::Handlers;
+use crate::limits::Limits;
 use crate::misreadings::Misreading;
-use crate::package::{self, Class, Method, Package, Version};
+use crate::package::{self, Class, Method, Package, Reading, Version};
 use crate::policy::Role;
 use std::borrow::Cow;
-
-/// The greatest depth of a class.
-const MAX_DEPTH: u8 = 8;
 
 /// Does the file begin with mark and version? If so, which version.
 pub fn q10(file: &[u8], misreading: Option<Misreading>) -> Option<Version> {
@@ -17,8 +15,8 @@ pub fn q10(file: &[u8], misreading: Option<Misreading>) -> Option<Version> {
 }
 
 /// Does the rest read exactly to its end as laid out, size, counts and ranges included?
-pub fn q11(file: &[u8], version: Version, misreading: Option<Misreading>) -> Option<Package<'_>> {
-    package::read_by(file, version, misreading)
+pub fn q11(file: &[u8], reading: Reading) -> Option<Package<'_>> {
+    package::read_by(file, reading)
 }
 
 /// Is the package AID not installed?
@@ -41,12 +39,17 @@ pub fn q13(contents: &Contents, package: &Package) -> Option<Vec<usize>> {
 
 /// Does each parent exist, an own one with a smaller number; have interfaces only
 /// interface parents, classes at most one kind-0 parent, the same one listed twice
-/// being two; is each depth at most 8?
-pub fn q14(contents: &Contents, package: &Package, imports: &[usize]) -> Option<Vec<Lineage>> {
+/// being two; is each depth at most the store's limit?
+pub fn q14(
+    contents: &Contents,
+    limits: Limits,
+    package: &Package,
+    imports: &[usize],
+) -> Option<Vec<Lineage>> {
     let mut lineages: Vec<Lineage> = Vec::with_capacity(package.classes.len());
     for class in &package.classes {
         let lineage = lineage(contents, package, imports, &lineages, class)?;
-        lineages.push(lineage);
+        lineages.push(Some(lineage).filter(|found| found.depth <= limits.depth)?);
     }
     Some(lineages)
 }
@@ -83,7 +86,7 @@ fn lineage(
     }
     let most = if class.interface { 0 } else { 1 };
     let depth = deepest + 1;
-    (class_parents <= most && depth <= MAX_DEPTH).then_some(Lineage { parents, depth })
+    (class_parents <= most).then_some(Lineage { parents, depth })
 }
 
 /// Do names differ within each class; is each static method implemented, each

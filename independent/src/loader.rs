@@ -1,11 +1,13 @@
-//! The six operations as a trait, so that two implementations can be compared.
+//! The seven operations as a trait, so that two implementations can be compared.
 
 use crate::ledger::Call;
+use crate::limits::Limits;
 use crate::operations;
 
 /// Each operation gives number + 256 × figure.
 pub trait Loader {
     fn fresh(&self, store: &mut [u8]) -> u32;
+    fn fresh_limits(&self, store: &mut [u8], limits: Limits) -> u32;
     fn create(&self, store: &mut [u8], domain: &[u8]) -> u32;
     fn delete(&self, store: &mut [u8], domain: &[u8]) -> u32;
     fn load(&self, store: &mut [u8], domain: &[u8], file: &[u8]) -> u32;
@@ -16,6 +18,7 @@ pub trait Loader {
     fn call(&self, store: &mut [u8], call: &Call) -> u32 {
         match call {
             Call::Fresh => self.fresh(store),
+            Call::FreshLimits(limits) => self.fresh_limits(store, *limits),
             Call::Create(domain) => self.create(store, domain),
             Call::Delete(domain) => self.delete(store, domain),
             Call::Load { domain, file } => self.load(store, domain, file),
@@ -36,6 +39,10 @@ pub struct Independent;
 impl Loader for Independent {
     fn fresh(&self, store: &mut [u8]) -> u32 {
         operations::fresh(store).encoded()
+    }
+
+    fn fresh_limits(&self, store: &mut [u8], limits: Limits) -> u32 {
+        operations::fresh_limits(store, limits).encoded()
     }
 
     fn create(&self, store: &mut [u8], domain: &[u8]) -> u32 {
@@ -78,12 +85,15 @@ pub enum Step {
 }
 
 impl Sequence {
-    /// May a ledger follow it: fresh first, in a buffer of 64 to 65,535 bytes, no damage?
+    /// May a ledger follow it: either fresh first, answered 0, and no damage?
     pub fn has_ledger(&self) -> bool {
         let damaged = |step: &Step| matches!(step, Step::Damage { .. });
-        (64..=65_535).contains(&self.start.len())
-            && self.steps.first() == Some(&Step::Call(Call::Fresh))
-            && !self.steps.iter().any(damaged)
+        let fresh = match self.steps.first() {
+            Some(Step::Call(Call::Fresh)) => true,
+            Some(Step::Call(Call::FreshLimits(limits))) => limits.in_range(),
+            _ => false,
+        };
+        fresh && (64..=65_535).contains(&self.start.len()) && !self.steps.iter().any(damaged)
     }
 }
 

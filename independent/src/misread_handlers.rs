@@ -4,6 +4,7 @@ use crate::bytes::Reader;
 use crate::handler_faults::HandlerFault;
 use crate::handlers::{Handler, Handlers, MAX_HANDLERS};
 use crate::load_questions::{codes_of, q16, q17, Code};
+use crate::misread_limits::LimitMisreading;
 use crate::misreadings::Misreading;
 use crate::package::{Package, Version};
 use crate::questions::number;
@@ -183,7 +184,11 @@ impl Misreading {
 
     /// What is left of it once question 2 has been asked.
     pub fn after_soundness(self) -> Option<Self> {
-        (self != Misreading::NotInSoundness).then_some(self)
+        let of_soundness = [
+            Misreading::NotInSoundness,
+            Misreading::Limits(LimitMisreading::NotInSoundness),
+        ];
+        (!of_soundness.contains(&self)).then_some(self)
     }
 }
 

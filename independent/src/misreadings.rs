@@ -1,7 +1,8 @@
-//! Wrong readings of FE and of handlers. Tests show that generated sequences find them, and
+//! Wrong readings of FE, of handlers and of limits. Tests show that generated sequences find them, and
 //! counts ask by them on what an answer hangs; the loader itself uses none.
 
 use crate::handler_faults::HandlerFault;
+use crate::misread_limits::LimitMisreading;
 use crate::policy::{Policy, Role, Standing, OWN};
 
 #[derive(Clone, Copy, Debug, PartialEq, Eq)]
@@ -73,6 +74,9 @@ pub enum Misreading {
     HandlerUncalled,
     /// A package of another version is no import.
     VersionsApart,
+
+    /// Something about the limits of a store.
+    Limits(LimitMisreading),
 }
 
 impl Misreading {

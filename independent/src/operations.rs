@@ -1,8 +1,10 @@
-//! The six operations on a lent buffer.
+//! The seven operations on a lent buffer.
 
+use crate::limits::Limits;
 use crate::policy::Role;
-use crate::questions::{judge_creation, judge_load, number, q1, q2, q3, q5, q6, q7, q8, q9, Room};
-use crate::store::{self, Body};
+use crate::questions::Room;
+use crate::questions::{judge_creation, judge_load, number, q1, q2, q3, q30, q5, q6, q7, q8, q9};
+use crate::store::{self, Body, StoreVersion};
 use crate::Answer;
 use std::ops::Range;
 
@@ -12,6 +14,11 @@ pub mod asked {
 
     pub fn fresh(store: &[u8]) -> Result<(), u8> {
         number(q1(store), 1)
+    }
+
+    pub fn fresh_limits(store: &[u8], limits: Limits) -> Result<(), u8> {
+        number(q1(store), 1)?;
+        number(q30(limits), 30)
     }
 
     pub fn create(store: &[u8], domain: &[u8]) -> Result<(), u8> {
@@ -72,11 +79,20 @@ pub mod asked {
     }
 }
 
-/// Writes an empty store.
+/// Writes an empty store of version 1.
 pub fn fresh(store: &mut [u8]) -> Answer {
     let judged = asked::fresh(store);
     if judged.is_ok() {
-        store::write_empty(store);
+        store::write_empty(store, StoreVersion::First);
+    }
+    Answer::of(judged.map(|()| 0))
+}
+
+/// Writes an empty store of version 2 with these limits.
+pub fn fresh_limits(store: &mut [u8], limits: Limits) -> Answer {
+    let judged = asked::fresh_limits(store, limits);
+    if judged.is_ok() {
+        store::write_empty(store, StoreVersion::Second(limits));
     }
     Answer::of(judged.map(|()| 0))
 }

@@ -2,6 +2,7 @@
 
 use crate::bytes::Reader;
 use crate::handlers::{HandlerReader, Handlers};
+use crate::limits::Limits;
 use crate::misreadings::Misreading;
 use crate::policy::{Policy, PolicyReader};
 
@@ -42,9 +43,7 @@ pub const MAX_DOMAINS: usize = 32;
 pub const MAX_IMPORTS: usize = 15;
 pub const MAX_REFERENCES: usize = 1024;
 pub const MAX_CLASSES: usize = 32;
-pub const MAX_PARENTS: usize = 4;
 pub const MAX_METHODS: usize = 64;
-pub const MAX_CODE: usize = 4096;
 
 pub const VISIBLE: u8 = 0x80;
 pub const IMPLEMENTED: u8 = 0x40;
@@ -111,17 +110,27 @@ pub fn version(file: &[u8], misreading: Option<Misreading>) -> Option<Version> {
     version.filter(|_| file.starts_with(&MARK))
 }
 
-/// Reads a file; `None` unless it has mark and version and reads exactly to its end.
-pub fn read(file: &[u8]) -> Option<Package<'_>> {
-    read_by(file, version(file, None)?, None)
+/// What the rest of a file is read by.
+#[derive(Clone, Copy)]
+pub struct Reading {
+    pub version: Version,
+    /// Those of the store.
+    pub limits: Limits,
+    pub misreading: Option<Misreading>,
 }
 
-/// Reads the file after mark and version, by a misreading or none.
-pub fn read_by(
-    file: &[u8],
-    version: Version,
-    misreading: Option<Misreading>,
-) -> Option<Package<'_>> {
+/// Reads a file; `None` unless it has mark and version and reads exactly to its end.
+pub fn read(file: &[u8], limits: Limits) -> Option<Package<'_>> {
+    let reading = Reading {
+        version: version(file, None)?,
+        limits,
+        misreading: None,
+    };
+    read_by(file, reading)
+}
+
+/// Reads the file after mark and version.
+pub fn read_by(file: &[u8], reading: Reading) -> Option<Package<'_>> {
     let mut reader = Reader::new(file);
     reader.take(HEAD)?;
     if usize::from(reader.u2()?) != file.len() {
@@ -132,12 +141,12 @@ pub fn read_by(
     let imports = read_aids(&mut reader, MAX_IMPORTS)?;
     let references = read_references(&mut reader)?;
     let class_count = reader.count1(MAX_CLASSES)?;
-    let methods = MethodReader::new(version, domains.len(), misreading);
+    let methods = MethodReader::new(reading, domains.len());
     let classes = (0..class_count)
         .map(|_| read_class(&mut reader, &methods))
         .collect::<Option<Vec<_>>>()?;
     reader.rest().is_empty().then_some(Package {
-        version,
+        version: reading.version,
         aid,
         domains,
         imports,
@@ -167,13 +176,20 @@ fn read_references(reader: &mut Reader) -> Option<Vec<Reference>> {
 
 /// What the methods of a file are read by.
 struct MethodReader {
+    limits: Limits,
     policies: PolicyReader,
     handlers: HandlerReader,
 }
 
 impl MethodReader {
-    fn new(version: Version, domain_count: usize, misreading: Option<Misreading>) -> Self {
+    fn new(reading: Reading, domain_count: usize) -> Self {
+        let Reading {
+            version,
+            limits,
+            misreading,
+        } = reading;
         MethodReader {
+            limits,
             policies: PolicyReader {
                 domain_count,
                 misreading,
@@ -193,7 +209,7 @@ impl MethodReader {
         let name = reader.u2()?;
         let policy = self.policies.read(reader)?;
         let code = if bits & IMPLEMENTED != 0 {
-            Some(read_code(reader)?)
+            Some(self.read_code(reader)?)
         } else {
             None
         };
@@ -206,11 +222,19 @@ impl MethodReader {
             handlers: self.handlers.read(reader, code)?,
         })
     }
+
+    fn read_code<'a>(&self, reader: &mut Reader<'a>) -> Option<&'a [u8]> {
+        let length = reader.u2()?;
+        match (1..=self.limits.code).contains(&length) {
+            true => reader.take(length.into()),
+            false => None,
+        }
+    }
 }
 
 fn read_class<'a>(reader: &mut Reader<'a>, methods: &MethodReader) -> Option<Class<'a>> {
     let kind = reader.count1(1)?;
-    let parent_count = reader.count1(MAX_PARENTS)?;
+    let parent_count = reader.count1(methods.limits.parents.into())?;
     let parents = reader.take(2 * parent_count)?.chunks_exact(2);
     let method_count = reader.count1(MAX_METHODS)?;
     Some(Class {
@@ -220,13 +244,4 @@ fn read_class<'a>(reader: &mut Reader<'a>, methods: &MethodReader) -> Option<Cla
             .map(|_| methods.read(reader))
             .collect::<Option<Vec<_>>>()?,
     })
-}
-
-fn read_code<'a>(reader: &mut Reader<'a>) -> Option<&'a [u8]> {
-    let length = usize::from(reader.u2()?);
-    if (1..=MAX_CODE).contains(&length) {
-        reader.take(length)
-    } else {
-        None
-    }
 }

@@ -1,16 +1,17 @@
-//! Questions 1 to 9 and 21, and the orders in which questions are asked.
+//! Questions 1 to 9, 21 and 30, and the orders in which questions are asked.
 
 use crate::bytes::AID_LENGTHS;
 use crate::contents::{Contents, MethodPlace, Place};
 use crate::handlers::q24;
+use crate::limits::Limits;
 use crate::load_questions::{q10, q11, q12, q13, q14, q15, q16, q17, q18, q19, q20, Code};
 use crate::misreadings::Misreading;
-use crate::package::Package;
-use crate::store::{self, Body, HEAD};
+use crate::package::{Package, Reading};
+use crate::store::{self, Body};
 
 /// Every number that a call can answer, 0 among them.
-pub const NUMBERS: [u8; 23] = [
-    0, 1, 2, 3, 4, 5, 6, 7, 8, 9, 10, 11, 12, 13, 14, 15, 16, 17, 18, 19, 20, 21, 24,
+pub const NUMBERS: [u8; 24] = [
+    0, 1, 2, 3, 4, 5, 6, 7, 8, 9, 10, 11, 12, 13, 14, 15, 16, 17, 18, 19, 20, 21, 24, 30,
 ];
 
 /// The questions about a file, in the order in which a load asks them.
@@ -34,9 +35,14 @@ pub fn q2(store: &[u8]) -> Option<Contents<'_>> {
 
 /// The same by a misreading.
 pub fn q2_by(store: &[u8], misreading: Option<Misreading>) -> Option<Contents<'_>> {
-    let mut contents = Contents::by(misreading);
-    let mut used = HEAD;
-    for entry in store::entries(store)? {
+    let layout = store::layout_by(store, misreading)?;
+    let limits = match misreading {
+        None => layout.version.limits(),
+        Some(wrong) => wrong.limits_of(layout.version),
+    };
+    let mut contents = Contents::by(limits, misreading);
+    let mut used = layout.version.opening();
+    for entry in layout.entries {
         let room = Room {
             used,
             length: store.len(),
@@ -102,6 +108,11 @@ pub fn q21(room: Room, body: &Body) -> bool {
     room.used + store::entry_length(body) <= room.length
 }
 
+/// Is each limit in its range: depth 1 to 16, parents 1 to 8, code length 1 to 32,767?
+pub fn q30(limits: Limits) -> bool {
+    limits.in_range()
+}
+
 /// The bytes used before an entry, and the buffer's length.
 #[derive(Clone, Copy)]
 pub struct Room {
@@ -146,10 +157,19 @@ pub fn judge_load<'a>(
     number(q5(contents, domain), 5)?;
     let misreading = contents.misreading;
     let version = q10(file, misreading).ok_or(10)?;
-    let package = q11(file, version, misreading).ok_or(11)?;
+    let limits = match misreading {
+        None => contents.limits,
+        Some(wrong) => wrong.limits_for(contents.limits, version),
+    };
+    let reading = Reading {
+        version,
+        limits,
+        misreading,
+    };
+    let package = q11(file, reading).ok_or(11)?;
     number(q12(contents, &package), 12)?;
     let imports = q13(contents, &package).ok_or(13)?;
-    let lineages = q14(contents, &package, &imports).ok_or(14)?;
+    let lineages = q14(contents, limits, &package, &imports).ok_or(14)?;
     number(q15(&package), 15)?;
     let codes = match misreading {
         None => judge_codes(&package)?,

@@ -1,13 +1,75 @@
 //! The store's layout.
 
 use crate::bytes::Reader;
+use crate::limits::Limits;
+use crate::misreadings::Misreading;
 use std::ops::Range;
 
-/// The mark "BCS" and version 1.
-pub const MARK_AND_VERSION: [u8; 5] = [0x42, 0x43, 0x53, 0, 1];
+/// The mark "BCS".
+pub const MARK: [u8; 3] = [0x42, 0x43, 0x53];
 
 /// Mark, version and used.
 pub const HEAD: usize = 7;
+
+/// The version of a store; the second has limits after used (request 12).
+#[derive(Clone, Copy, Debug, Default, PartialEq, Eq)]
+pub enum StoreVersion {
+    #[default]
+    First,
+    Second(Limits),
+}
+
+impl StoreVersion {
+    /// The version of bytes that begin as a store does, its limits in their ranges.
+    pub fn of(store: &[u8]) -> Option<Self> {
+        let (field, limits) = fields(store)?;
+        match field {
+            [0, 1] => Some(StoreVersion::First),
+            [0, 2] => Some(StoreVersion::Second(limits)).filter(|_| limits.in_range()),
+            _ => None,
+        }
+    }
+
+    fn field(self) -> [u8; 2] {
+        match self {
+            StoreVersion::First => [0, 1],
+            StoreVersion::Second(_) => [0, 2],
+        }
+    }
+
+    /// How many bytes stand before the entries.
+    pub fn opening(self) -> usize {
+        match self {
+            StoreVersion::First => HEAD,
+            StoreVersion::Second(_) => HEAD + Limits::BYTES,
+        }
+    }
+
+    pub fn limits(self) -> Limits {
+        match self {
+            StoreVersion::First => Limits::STANDARD,
+            StoreVersion::Second(limits) => limits,
+        }
+    }
+
+    /// The opening bytes of a store with so many bytes of entries.
+    pub fn opened(self, entries: usize) -> Vec<u8> {
+        let used = (self.opening() + entries) as u16;
+        let mut bytes = [&MARK[..], &self.field(), &used.to_be_bytes()].concat();
+        if let StoreVersion::Second(limits) = self {
+            bytes.extend_from_slice(&limits.bytes());
+        }
+        bytes
+    }
+}
+
+/// The version field and what stands in the place of limits, after the mark.
+pub fn fields(store: &[u8]) -> Option<([u8; 2], Limits)> {
+    let rest = store.strip_prefix(&MARK)?;
+    let field = rest.get(..2)?.try_into().ok()?;
+    let limits = store.get(HEAD..)?.get(..Limits::BYTES)?.try_into().ok()?;
+    Some((field, Limits::read(limits)))
+}
 
 /// Kind and body length.
 pub const ENTRY_HEAD: usize = 3;
@@ -30,23 +92,55 @@ pub fn used(store: &[u8]) -> usize {
     usize::from(u16::from_be_bytes([store[5], store[6]]))
 }
 
-/// The entries in order, if the layout holds.
-pub fn entries(store: &[u8]) -> Option<Vec<Entry<'_>>> {
-    if store.len() < HEAD || store[..5] != MARK_AND_VERSION {
-        return None;
-    }
+/// A store's version, and its entries in order.
+pub struct Layout<'a> {
+    pub version: StoreVersion,
+    pub entries: Vec<Entry<'a>>,
+}
+
+/// Where entries begin, and the least that used may be.
+pub struct Begin {
+    pub entries: usize,
+    pub used: usize,
+}
+
+/// The layout, if it holds.
+pub fn layout(store: &[u8]) -> Option<Layout<'_>> {
+    layout_by(store, None)
+}
+
+/// The same by a misreading.
+pub fn layout_by(store: &[u8], misreading: Option<Misreading>) -> Option<Layout<'_>> {
+    let version = match misreading {
+        None => StoreVersion::of(store)?,
+        Some(wrong) => wrong.store_version(store)?,
+    };
+    let begin = match misreading {
+        None => Begin {
+            entries: version.opening(),
+            used: version.opening(),
+        },
+        Some(wrong) => wrong.begin(version),
+    };
     let used = used(store);
-    if used < HEAD || used > store.len() || !all_zero(&store[used..]) {
+    let end = used.max(begin.entries);
+    if used < begin.used || end > store.len() || !all_zero(&store[end..]) {
         return None;
     }
-    let mut reader = Reader::new(&store[HEAD..used]);
+    let entries = entries(store, begin.entries..end)?;
+    Some(Layout { version, entries })
+}
+
+fn entries(store: &[u8], place: Range<usize>) -> Option<Vec<Entry<'_>>> {
+    let end = place.end;
+    let mut reader = Reader::new(&store[place]);
     let mut found = Vec::new();
     while !reader.rest().is_empty() {
-        let start = used - reader.rest().len();
+        let start = end - reader.rest().len();
         let kind = reader.u1()?;
         let length = usize::from(reader.u2()?);
         let body = read_body(kind, reader.take(length)?)?;
-        let bytes = start..used - reader.rest().len();
+        let bytes = start..end - reader.rest().len();
         found.push(Entry { bytes, body });
     }
     Some(found)
@@ -87,10 +181,9 @@ pub fn entry_length(body: &Body) -> usize {
 }
 
 /// Writes an empty store over every byte.
-pub fn write_empty(store: &mut [u8]) {
+pub fn write_empty(store: &mut [u8], version: StoreVersion) {
     store.fill(0);
-    store[..5].copy_from_slice(&MARK_AND_VERSION);
-    write_used(store, HEAD);
+    store[..version.opening()].copy_from_slice(&version.opened(0));
 }
 
 fn write_used(store: &mut [u8], used: usize) {

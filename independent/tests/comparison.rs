@@ -3,6 +3,7 @@
 use independent::contents::{Contents, Place};
 use independent::depths::depths_by;
 use independent::generate::sequences::sequence;
+use independent::limits::Limits;
 use independent::loader::{compare, shrink, Independent, Loader, Sequence};
 use independent::questions::q2;
 
@@ -73,6 +74,10 @@ impl Wrong {
 impl Loader for Wrong {
     fn fresh(&self, store: &mut [u8]) -> u32 {
         Independent.fresh(store)
+    }
+
+    fn fresh_limits(&self, store: &mut [u8], limits: Limits) -> u32 {
+        Independent.fresh_limits(store, limits)
     }
 
     fn create(&self, store: &mut [u8], domain: &[u8]) -> u32 {

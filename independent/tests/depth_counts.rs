@@ -51,7 +51,7 @@ fn stores_without_a_package_or_unsound() {
 fn shortfalls() {
     let mut counts = DepthCounts::default();
     assert_eq!(counts.shortfalls(0).len(), 0);
-    assert_eq!(counts.shortfalls(1).len(), 11);
+    assert_eq!(counts.shortfalls(1).len(), 19);
     let mut left_after = |parents: &[&[(u8, u8)]], least: u64| {
         let (store, figure) = loaded(parents);
         counts.note(figure, &store);
@@ -59,14 +59,14 @@ fn shortfalls() {
     };
     // Depth 2, not the last.
     let left = left_after(&[&[], &[(0, 0)], &[]], 1);
-    assert_eq!(left.len(), 9);
+    assert_eq!(left.len(), 17);
     assert!(!left.contains(&"loads carried depth 2 only 0 times".into()));
     assert!(left.contains(&"the depth came through the store only 0 times".into()));
     // Depth 4, through the store.
     let left = left_after(&[&[(1, 2)]], 1);
-    assert_eq!(left.len(), 7);
+    assert_eq!(left.len(), 15);
     assert!(left.contains(&"loads carried depth 3 only 0 times".into()));
     // Depth 0, once and twice.
-    assert_eq!(left_after(&[], 2).len(), 11);
-    assert_eq!(left_after(&[], 2).len(), 10);
+    assert_eq!(left_after(&[], 2).len(), 19);
+    assert_eq!(left_after(&[], 2).len(), 18);
 }

@@ -3,6 +3,8 @@
 mod common;
 use common::{answers, numbers};
 use independent::generate::faults::faulty_file;
+use independent::generate::full_stores::full_stores;
+use independent::generate::limit_cases::CHOSEN;
 use independent::generate::limits::{count_limits, method_limits};
 use independent::generate::lines::line_file;
 use independent::generate::random::Random;
@@ -11,9 +13,10 @@ use independent::generate::sequences::sequence;
 use independent::generate::special;
 use independent::generate::stores::planted_store;
 use independent::generate::valid::valid_file;
-use independent::operations::{create, fresh, load};
+use independent::operations::{create, load};
 use independent::package::Version;
 use independent::questions::{asked_place, q2, OF_A_FILE};
+use independent::store::{write_empty, StoreVersion};
 
 const DOMAIN: &[u8] = &[0xA0, 0, 0, 0, 0xD1];
 
@@ -21,11 +24,12 @@ const DOMAIN: &[u8] = &[0xA0, 0, 0, 0, 0xD1];
 const LEAST_PLANTED: usize = 40;
 
 /// A store with some generated packages, and the scene that goes with it.
-fn scene(random: &mut Random) -> (Vec<u8>, Scene) {
+fn scene(random: &mut Random, version: StoreVersion) -> (Vec<u8>, Scene) {
     let mut store = vec![0; 65_535];
-    fresh(&mut store);
+    write_empty(&mut store, version);
     create(&mut store, DOMAIN);
     let mut scene = Scene {
+        version,
         domains: vec![DOMAIN.to_vec()],
         domain_pool: vec![DOMAIN.to_vec(), vec![1; 5], vec![1; 6], vec![2; 16]],
         package_pool: vec![vec![3; 9]],
@@ -42,7 +46,10 @@ fn scene(random: &mut Random) -> (Vec<u8>, Scene) {
 #[test]
 fn valid_files_are_accepted() {
     for seed in 0..120 {
-        scene(&mut Random::new(seed));
+        scene(&mut Random::new(seed), StoreVersion::First);
+    }
+    for (seed, limits) in (0..60).flat_map(|seed| CHOSEN.map(|limits| (seed, limits))) {
+        scene(&mut Random::new(seed), StoreVersion::Second(limits));
     }
 }
 
@@ -51,7 +58,7 @@ fn planted_faults_give_their_number() {
     let mut planted = [[0; OF_A_FILE.len()]; OF_A_FILE.len()];
     for seed in 0..60 {
         let random = &mut Random::new(seed);
-        let (store, scene) = scene(random);
+        let (store, scene) = scene(random, StoreVersion::First);
         let model = valid_file(random, &scene, DOMAIN, &[0xC0; 6]);
         let pairs = OF_A_FILE.iter().flat_map(|&a| OF_A_FILE.map(|b| [a, b]));
         for questions in pairs {
@@ -127,7 +134,7 @@ fn hostile_files() {
 
 #[test]
 fn full_stores_answer_21_one_past() {
-    for pair in special::full_stores().chunks(2) {
+    for pair in full_stores().chunks(2) {
         let numbers = [&pair[0], &pair[1]].map(|s| answers(s)[3] & 0xFF);
         assert_eq!(numbers, [0, 21]);
     }
@@ -169,7 +176,7 @@ fn planted_stores_are_sound_or_not() {
         package_pool: vec![vec![3; 9], vec![1; 5], vec![8; 16]],
         ..Scene::default()
     };
-    let questions: Vec<u8> = (0..=5).chain(OF_A_FILE).collect();
+    let questions: Vec<u8> = (0..=5).chain(OF_A_FILE).chain([30]).collect();
     let mut faulty = vec![0; questions.len()];
     for seed in 0..1000 {
         let place = seed as usize % questions.len();

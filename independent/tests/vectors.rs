@@ -2,6 +2,7 @@
 //! or no, and every byte of the buffer after each call.
 
 use independent::ledger::Call;
+use independent::limits::Limits;
 use independent::loader::{Independent, Loader};
 use std::path::{Path, PathBuf};
 use std::process::Command;
@@ -53,6 +54,11 @@ fn step(line: &str, store: &mut Vec<u8>) -> Option<Call> {
             return None;
         }
         "F" => Call::Fresh,
+        "G" => Call::FreshLimits(Limits::new(
+            words.figure() as u8,
+            words.figure() as u8,
+            words.figure() as u16,
+        )),
         "C" => Call::Create(words.bytes()),
         "D" => Call::Delete(words.bytes()),
         "R" => Call::Remove(words.bytes()),

@@ -8,12 +8,16 @@ use comparison::stack::peaks;
 use comparison::tables::{print_stack, Measured};
 use comparison::timing::measure;
 use comparison::workloads::{self, Workload};
+use independent::generate::full_stores::full_stores;
 use independent::generate::handler_cases;
+use independent::generate::limit_cases;
 use independent::generate::own_pairs::own_pairs;
 use independent::generate::sequences::sequence;
 use independent::generate::special;
+use independent::ledger::Call;
 use independent::loader::{Sequence, Step};
 use independent::package::Version;
+use independent::store::StoreVersion;
 use std::process::ExitCode;
 
 /// The fewest rounds that count.
@@ -58,13 +62,10 @@ fn bench(rounds: usize, date: &str) {
     stack(&ordinary.workloads, &hostile.workloads);
 }
 
-/// The peak stack of each operation, on stores to 8,192 bytes and on larger ones.
+/// The peak stack of each operation.
 fn stack(ordinary: &[Workload], hostile: &[Workload]) {
     let all = ordinary.iter().chain(hostile);
-    let (small, large) = stack_sequences(all)
-        .into_iter()
-        .partition(|s| s.start.len() <= 8_192);
-    print_stack(&peaks(small), &peaks(large));
+    print_stack(&peaks(stack_sequences(all)));
 }
 
 /// The processor's name.
@@ -75,8 +76,8 @@ fn processor() -> String {
     name.map_or("unknown processor".into(), |(_, name)| name.trim().into())
 }
 
-/// Calls that reach deep: limits, lists with FE, handlers, ladders, full stores, all that is timed,
-/// and others.
+/// Calls that reach deep: limits, lists with FE, handlers, limits of stores, ladders, full stores,
+/// all that is timed, and others.
 fn stack_sequences<'a>(workloads: impl Iterator<Item = &'a Workload>) -> Vec<Sequence> {
     let mut found = special::lengths();
     found.extend(Version::BOTH.map(special::limits));
@@ -84,12 +85,35 @@ fn stack_sequences<'a>(workloads: impl Iterator<Item = &'a Workload>) -> Vec<Seq
     found.extend(own_pairs());
     found.extend([handler_cases::limits(), handler_cases::orders()]);
     found.extend(handler_cases::version_pairs());
-    found.extend(special::full_stores());
+    found.extend(limit_cases::given());
+    found.extend(limit_cases::at_limits());
+    found.extend(full_stores());
     found.extend(special::hostile());
     found.extend((0..300).map(sequence));
-    found.extend(workloads.map(|workload| Sequence {
-        start: workload.store.clone(),
-        steps: vec![Step::Call(workload.call.clone())],
-    }));
+    found.extend(workloads.map(over_workload));
     found
+}
+
+/// The call that is timed; over a store of version 2 also one of each other kind, refused.
+fn over_workload(workload: &Workload) -> Sequence {
+    let start = workload.store.clone();
+    let mut calls = vec![workload.call.clone()];
+    if matches!(StoreVersion::of(&start), Some(StoreVersion::Second(_))) {
+        let aid = || vec![9; 5];
+        let (domain, file) = (aid(), Vec::new());
+        calls.extend([
+            Call::Delete(aid()),
+            Call::Load { domain, file },
+            Call::Remove(aid()),
+            Call::Create(vec![]),
+            Call::Query {
+                domain: aid(),
+                package: aid(),
+                class: 0,
+                name: 0,
+            },
+        ]);
+    }
+    let steps = calls.into_iter().map(Step::Call).collect();
+    Sequence { start, steps }
 }

@@ -4,6 +4,7 @@
 use independent::card::run_card;
 use independent::generate::files::sized_file;
 use independent::generate::lines::line_file;
+use independent::limits::STANDARD_CODE;
 use independent::package::Version;
 use std::collections::BTreeMap;
 use std::io::{self, Read, Write};
@@ -76,8 +77,8 @@ fn full_card(version: Version, past: usize) -> String {
     let rest = 8192 - 7 - 8 - 3 * 9 - 2 * 3900;
     let mut text = String::from("C A0000000D1\n");
     for (number, size) in [(1, 3900), (2, 3900), (3, rest + past)] {
-        let file =
-            sized_file(version, &[0xA0, 0, 0, 1, number], size).expect("a file of this size");
+        let aid = [0xA0, 0, 0, 1, number];
+        let file = sized_file(version, &aid, size, STANDARD_CODE).expect("a file of this size");
         text += &format!("L A0000000D1 {}\n", hex(&file.bytes()));
     }
     text + "C A0000000D2\nR A000000102\nC A0000000D2\nR A000000103\nD A0000000D2\n"

@@ -6,7 +6,8 @@ use mathlib.Core.List.{[], _∷_}
 use lib.Dec.{T}
 use Rattle.rules.specs.Bytes.{Bytes, Aid, noneOr}
 use Rattle.rules.specs.Code.{Call, splitFrom, codeSplits, callsOf}
-use Rattle.rules.specs.Package.{Limits, formatOf, storeLimits, Method, codeIf}
+use Rattle.rules.specs.Package.{Limits, formatOf, Method, codeIf}
+use Rattle.rules.specs.Store.{storeLimits}
 use Rattle.rules.specs.Classes.{installed, allows, allowsAllOf}
 use Rattle.rules.specs.Questions.{ownMethod, methodNamed}
 use Rattle.places.specs.Reads.{Reads}

@@ -7,8 +7,8 @@ use mathlib.Core.List.{List, [], _∷_, _++_}
 use mathlib.Core.Option.{Option, some}
 use lib.ListN.{length, getD, replicate, length-replicate, getD-replicate}
 use Rattle.rules.specs.Bytes.{Bytes, Aid, noneOr, u1, aid, counted}
-use Rattle.rules.specs.Package.{storeLimits, mostDomains, Policy, Package, readFile}
-use Rattle.rules.specs.Store.{Entry}
+use Rattle.rules.specs.Package.{mostDomains, Policy, Package, readFile}
+use Rattle.rules.specs.Store.{Entry, storeLimits}
 use Rattle.rules.specs.Classes.{Installed, meant, admits, admitsAllOf, allows, allowsAllOf}
 use Rattle.rules.specs.Questions.{Named, methodNamed}
 use Rattle.places.specs.Reads.{Reads, Ends}

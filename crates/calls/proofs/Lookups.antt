@@ -8,7 +8,7 @@ use mathlib.Core.Option.{Option, some}
 use lib.Dec.{eqb}
 use lib.ListN.{length, getD}
 use Rattle.rules.specs.Bytes.{Bytes, at, someAnd, u1, aid, _andThen_}
-use Rattle.rules.specs.Package.{storeLimits, mostImports, Reference, Method, Class, method, class}
+use Rattle.rules.specs.Package.{mostImports, Reference, Method, Class, method, class}
 use Rattle.rules.specs.Classes.{Installed, installed, ClassAt, packageNumbered, recordOf, declared}
 use Rattle.rules.specs.Questions.{Named, referenceNames, callForm}
 use Rattle.places.proofs.Steady.{steady-u1, steady-aid}
@@ -23,7 +23,7 @@ use Rattle.files.proofs.Walks.{imports-read, references-read}
 use Rattle.codes.specs.Calls.{kindOf}
 use Rattle.codes.specs.declared.Calling.{Calling}
 use Rattle.codes.specs.declared.Calling.the-variants as kinds
-use Rattle.rules.specs.Store.{Entry}
+use Rattle.rules.specs.Store.{Entry, storeLimits}
 use Rattle.homes.specs.Homes.{Imports, fileOf, HomeIs, own, HomeThere, ClassPlaced}
 use Rattle.homes.specs.Found.{ImportHomes}
 use Rattle.named.specs.Named.{Judged, OfJudged, homeOf, PackageThere}

@@ -7,8 +7,8 @@ use lib.Dec.{T}
 use lib.ListN.{length, getD}
 use Rattle.rules.specs.Bytes.{Bytes, Aid, Reader, all, u1, many, counted}
 use Rattle.rules.specs.Code.{codeSplits}
-use Rattle.rules.specs.Package.{storeLimits, mostMethods, mostClasses, method, class}
-use Rattle.rules.specs.Store.{Entry}
+use Rattle.rules.specs.Package.{mostMethods, mostClasses, method, class}
+use Rattle.rules.specs.Store.{Entry, storeLimits}
 use Rattle.rules.specs.Classes.{Installed}
 use Rattle.rules.specs.Questions.{q16-splits, q18-calls, q19-allowed}
 use Rattle.rules.proofs.Tests.{and-l, and-r}

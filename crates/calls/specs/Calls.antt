@@ -15,8 +15,8 @@ use mathlib.Core.Option.{some}
 use lib.Dec.{T}
 use Rattle.rules.specs.Bytes.{Bytes, Aid, Reader, all}
 use Rattle.rules.specs.Code.{Call, codeSplits, callsOf}
-use Rattle.rules.specs.Package.{Limits, storeLimits, Method, Class, Package, method, class, readFile}
-use Rattle.rules.specs.Store.{Entry}
+use Rattle.rules.specs.Package.{Limits, Method, Class, Package, method, class, readFile}
+use Rattle.rules.specs.Store.{Entry, storeLimits}
 use Rattle.rules.specs.Classes.{Installed, installed}
 use Rattle.rules.specs.Questions.{q16-splits, q18-calls, q19-allowed, ownMethod, callNamesMethod, callAllowed}
 use Rattle.rules.specs.Operations.{firstNo}

@@ -14,7 +14,8 @@ use mathlib.Core.List.{List, [], _∷_, _++_}
 use mathlib.Core.Option.{Option, none, some}
 use lib.ListN.{length}
 use Rattle.rules.specs.Bytes.{Bytes, Aid, aid}
-use Rattle.rules.specs.Package.{storeLimits, Package, readFile}
+use Rattle.rules.specs.Package.{Package, readFile}
+use Rattle.rules.specs.Store.{storeLimits}
 use Rattle.places.specs.Reads.{Ends}
 use Rattle.policies.specs.Say.{slotAid}
 use Rattle.policies.specs.Numbers.{numberIn}

@@ -17,8 +17,8 @@ use mathlib.Core.Option.{Option, none, some}
 use lib.Dec.{eqb}
 use lib.ListN.{length}
 use Rattle.rules.specs.Bytes.{Bytes, Aid, at, _andThen_}
-use Rattle.rules.specs.Package.{Limits, formatOf, storeLimits, Reference, Package, method, class, readFile}
-use Rattle.rules.specs.Store.{Entry}
+use Rattle.rules.specs.Package.{Limits, formatOf, Reference, Package, method, class, readFile}
+use Rattle.rules.specs.Store.{Entry, storeLimits}
 use Rattle.rules.specs.Classes.{Installed, installed}
 use Rattle.rules.specs.Questions.{Named, referenceNames, callForm, callNamesMethod}
 use Rattle.places.specs.Reads.{Reads}

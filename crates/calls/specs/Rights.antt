@@ -12,8 +12,8 @@ use mathlib.Core.Path.{_≡_}
 use mathlib.Core.Bool.{Bool, _&&_}
 use mathlib.Core.List.{List}
 use Rattle.rules.specs.Bytes.{Bytes, Aid, noneOr}
-use Rattle.rules.specs.Package.{storeLimits, policy, method}
-use Rattle.rules.specs.Store.{Entry}
+use Rattle.rules.specs.Package.{policy, method}
+use Rattle.rules.specs.Store.{Entry, storeLimits}
 use Rattle.rules.specs.Classes.{Installed, installed, MethodAt, allows, allowsAllOf}
 use Rattle.rules.specs.Questions.{methodNamed}
 use Rattle.places.specs.Reads.{Reads}

@@ -9,8 +9,8 @@ use lib.ListN.{length}
 use mathlib.Core.Bool.{Bool, true, false}
 use lib.Dec.{eqb}
 use Rattle.rules.specs.Bytes.{Bytes, at, pick}
-use Rattle.rules.specs.Store.{Entry}
-use Rattle.rules.specs.Package.{storeLimits, Class, class, method}
+use Rattle.rules.specs.Store.{Entry, storeLimits}
+use Rattle.rules.specs.Package.{Class, class, method}
 use Rattle.rules.specs.Classes.{Installed, declaredInstance}
 use Rattle.places.specs.Reads.{Reads, Placed}
 use Rattle.places.proofs.Track.{put-none}

@@ -5,7 +5,7 @@ use mathlib.Core.Path.{_≡_, sym, ap, subst}
 use mathlib.Core.List.{List}
 use lib.ListN.{length}
 use Rattle.rules.specs.Bytes.{Bytes}
-use Rattle.rules.specs.Package.{storeLimits}
+use Rattle.rules.specs.Store.{storeLimits}
 use Rattle.rules.proofs.Limits.{limits-range}
 use Rattle.homes.specs.Homes.{ownHome}
 use Rattle.homes.specs.Homes as homes
@@ -17,7 +17,7 @@ use Rattle.classes.specs.declared.ClassSpot.{ClassSpot}
 use Rattle.classes.proofs.Places.{own-depth}
 use Rattle.chains.specs.Say.{RunningThere}
 use Rattle.chains.specs.Chain.{mostLinks, namesStart, Part, Same, PartRoom, PartIs}
-use Rattle.chains.specs.Names.{firstLink, Gathered, GatheredAll, namesOf, NamesIs, KeptFor, Kept, Room, PartThere}
+use Rattle.chains.specs.Names.{firstLink, Gathered, GatheredAll, namesLength, namesOf, NamesIs, KeptFor, Kept, Room, PartThere}
 use Rattle.chains.specs.declared.Names.{Names}
 use Rattle.chains.proofs.Methods.{own-there, own-class}
 use Rattle.chains.proofs.Links.{part-inside, part-same}
@@ -92,18 +92,21 @@ module _ (f s : Bytes) where
         pub own-part-there : PartThere f s l′ h b j
         own-part-there = (subst (λ (g : Home). ClassThere f s g b) (sym eh) (own-there f s end b there), stop, own-part)
 
-        own-fits : Room f s l → namesStart ≤ to → to + 64 * (j - 16) ≤ namesStart + 64 * storeLimits s .depth → (j ≤ firstLink h + mostLinks) ×
+        own-fits : Room f s l → namesStart ≤ to → to + 64 * (j - 16) ≤ namesLength s → (j ≤ firstLink h + mostLinks) ×
             (namesStart ≤ to) × (to + 64 * (j - firstLink h) ≤ length l′)
         own-fits r low z = (omega (arith, own-link, p .few), low, omega (arith, own-link, z, r .size, p .size, size))
 
         -- a stored class follows
         module _ (d : ClassSpot) (e : stop ≡ classes.At d) (k : KeptFor f s l′ (d .home) (d .number) to) where
-          pub fits-stored : Room f s l → (j ≤ firstLink h + mostLinks) × (namesStart ≤ to) × (to + 64 * (j - firstLink h) ≤ length l′)
-          fits-stored r =
+          few-stored : to + 64 * (j - 16) ≤ namesLength s
+          few-stored =
               let n = next-room d e in
               let c = n .class in
               let few = k .few end (c .entries) (c .self) (c .asked) (c .pack) (c .home) (c .class) (c .is) (n .depth) (n .within) in
-              own-fits r (k .names .sorted .low) (omega (arith, few, n .room, inside))
+              omega (arith, few, n .room, inside)
+
+          pub fits-stored : Room f s l → (j ≤ firstLink h + mostLinks) × (namesStart ≤ to) × (to + 64 * (j - firstLink h) ≤ length l′)
+          fits-stored r = own-fits r (k .names .sorted .low) few-stored
 
           module _ (l″ : List ℕ) (all : ℕ) (g : GatheredAll f s l′ l″ h b j to all) where
             kept-end : KeptFor f s l″ (d .home) (d .number) to
@@ -117,6 +120,7 @@ module _ (f s : Bytes) where
               own = subst (λ (v : Home). Gathered f s l″ v b (classes.At d) to all) eh
                   (g .is (classes.At d) (subst (λ (o : ClassFound). Part f s l′ h b (firstLink h) j o) e own-part));
               stored = kept-end .names;
+              few = omega (arith, own-link, g .end, few-stored);
             }
 
             pub names-kept : Kept f s l″ (record { end = end; own = b; stored = to; all = all; home = d .home; number = d .number })
@@ -124,9 +128,11 @@ module _ (f s : Bytes) where
 
         -- none does
         module _ (e : stop ≡ classes.Nothing) (z : to ≡ namesStart) where
+          few-alone : to + 64 * (j - 16) ≤ namesLength s
+          few-alone = omega (arith, part-few f s m h b 16 j stop end (16 + storeLimits s .depth) (p .part) own-room, inside)
+
           pub fits-alone : Room f s l → (j ≤ firstLink h + mostLinks) × (namesStart ≤ to) × (to + 64 * (j - firstLink h) ≤ length l′)
-          fits-alone r = let n = part-few f s m h b 16 j stop end (16 + storeLimits s .depth) (p .part) own-room in own-fits r (omega arith)
-              (omega (arith, n, inside))
+          fits-alone r = own-fits r (omega arith) few-alone
 
           pub names-alone : (l″ : List ℕ) (all : ℕ) → GatheredAll f s l′ l″ h b j to all → NamesIs f s l″
               (record { end = end; own = b; stored = to; all = all; home = h; number = b })
@@ -136,6 +142,7 @@ module _ (f s : Bytes) where
             own = subst (λ (v : Home). Gathered f s l″ v b classes.Nothing to all) eh
                 (g .is classes.Nothing (subst (λ (o : ClassFound). Part f s l′ h b (firstLink h) j o) e own-part));
             stored = z;
+            few = omega (arith, own-link, g .end, few-alone);
           }
 
           pub alone-kept : (l″ : List ℕ) (all : ℕ) → Kept f s l″ (record { end = end; own = b; stored = to; all = all; home = h; number = b })

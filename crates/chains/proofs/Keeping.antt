@@ -9,7 +9,7 @@ use lib.Dec.{eqb}
 use lib.ListN.{length}
 use borrow.Author.Tests.{ne-eqb}
 use Rattle.rules.specs.Bytes.{Bytes}
-use Rattle.rules.specs.Package.{storeLimits}
+use Rattle.rules.specs.Store.{storeLimits}
 use Rattle.rules.proofs.Limits.{limits-range}
 use Rattle.homes.specs.Homes.{ownHome}
 use Rattle.homes.specs.declared.Home.{Home}

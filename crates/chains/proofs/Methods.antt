@@ -6,8 +6,8 @@ use mathlib.Core.Bool.{Bool, true, false, not}
 use mathlib.Core.List.{List}
 use mathlib.Core.Option.{Option, none, some, Option·some-injective}
 use Rattle.rules.specs.Bytes.{Bytes, Aid, at}
-use Rattle.rules.specs.Package.{storeLimits, Class, method, class}
-use Rattle.rules.specs.Store.{Entry}
+use Rattle.rules.specs.Package.{Class, method, class}
+use Rattle.rules.specs.Store.{Entry, storeLimits}
 use Rattle.rules.specs.Classes.{Installed, installed, ClassAt, recordOf, isKind0, kind0Parent, declaredInstance, MethodAt, firstInstance, ifImplemented, runsUpTo}
 use Rattle.rules.specs.Questions.{own}
 use Rattle.rules.specs.Paths.{First, declares, inherits}

@@ -6,11 +6,10 @@ use mathlib.Core.List.{List}
 use mathlib.Core.Logic.{inl, inr}
 use lib.ListN.{length, getD}
 use Rattle.rules.specs.Bytes.{Bytes}
-use Rattle.rules.specs.Package.{storeLimits}
 use Rattle.rules.specs.Classes.{installed, depthUpTo}
 use Rattle.rules.proofs.Bounds.{parent-depth, kind0-parent}
 use Rattle.store.proofs.Stand.{entries-to}
-use Rattle.rules.specs.Store.{openingLength}
+use Rattle.rules.specs.Store.{firstEntry, storeLimits}
 use Rattle.homes.specs.declared.Home.{Home}
 use Rattle.homes.proofs.Homes.{home-bounds, home-below}
 use Rattle.classes.specs.Say.{Judged, ClassIn, ClassThere, Nearer, Kind0ParentIs, RecordAt}
@@ -69,7 +68,7 @@ module _ (f s : Bytes) where
     link-fits u w r p =
         let c = room .class in
         let b = room-bounds in
-        let x = entries-to s openingLength (c .entries) end (c .asked .parents .imported .setting .stand) in
+        let x = entries-to s (firstEntry s) (c .entries) end (c .asked .parents .imported .setting .stand) in
         let y = (class-at f s h n r p end (c .entries) (c .self) (c .asked) (c .pack) (c .home) (c .class) (c .is)) .1 in
         let t = file-held f s h b u w in
         (omega (arith, b .0, b .1), omega (arith, b .1), omega (arith, room-below, x .1), omega (arith, y .from, t .inside, t .short))

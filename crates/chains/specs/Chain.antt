@@ -13,7 +13,7 @@ use mathlib.Core.List.{List}
 use mathlib.Core.Logic.{_⊎_}
 use lib.ListN.{length, getD, set}
 use Rattle.rules.specs.Bytes.{Bytes}
-use Rattle.rules.specs.Package.{storeLimits}
+use Rattle.rules.specs.Store.{storeLimits}
 use Rattle.rules.specs.Classes.{installed, depthUpTo}
 use Rattle.homes.specs.declared.Home.{Home}
 use Rattle.classes.specs.Say.{Judged, ClassIn, Kind0ParentIs, RecordAt}

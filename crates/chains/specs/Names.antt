@@ -6,6 +6,7 @@
 -- Gathers              == what gathering the methods of one class does to a table
 -- Gathered f s l h n stop a e == the numbers from a up to e are the places of the first method of each name, in the part of a chain that
 --                         begins with class n at home h and ends at stop
+-- namesLength s        == how many numbers a table holds with all names of any chain: 64 for each class that the depth limit allows
 -- namesOf              == names by their numbers, and the class whose chain the stored ones are of
 -- NamesIs f s l v      == the names of own class v.own over the entries that end at v.end
 -- Kept f s l v         == what of them stays right for the next own class
@@ -18,7 +19,8 @@ use mathlib.Core.Option.{none, some}
 use lib.Dec.{eqb}
 use lib.ListN.{length, getD}
 use Rattle.rules.specs.Bytes.{Bytes, pick}
-use Rattle.rules.specs.Package.{formatOf, storeLimits, method}
+use Rattle.rules.specs.Package.{formatOf, method}
+use Rattle.rules.specs.Store.{storeLimits}
 use Rattle.rules.specs.Classes.{installed, depthUpTo, declaredInstance}
 use Rattle.places.specs.Reads.{Placed}
 use Rattle.files.specs.Say as files
@@ -110,6 +112,10 @@ abbrev pub StoredIs : Bytes → Bytes → List ℕ → ℕ → ClassFound → Ty
 StoredIs f s l e (classes.At d) = Gathered f s l (d .home) (d .number) classes.Nothing namesStart e
 StoredIs f s l e classes.Nothing = e ≡ namesStart
 
+-- the links, and room for 64 names of each class that the depth limit allows
+abbrev pub namesLength : Bytes → ℕ
+namesLength s = namesStart + 64 * storeLimits s .depth
+
 abbrev pub namesOf : ℕ → ℕ → ℕ → ℕ → ClassSpot → Names
 namesOf end own stored all c = record { end = end; own = own; stored = stored; all = all; home = c .home; number = c .number }
 
@@ -118,6 +124,7 @@ pub record NamesIs (f s : Bytes) (l : List ℕ) (v : Names) : Type 0 where
   pub leaves : Leaves (ownHome (v .end)) stop
   pub own : Gathered f s l (ownHome (v .end)) (v .own) stop (v .stored) (v .all)
   pub stored : StoredIs f s l (v .stored) stop
+  pub few : v .all ≤ namesLength s
 
 -- no more names than 64 for each class that the depth allows
 abbrev pub Few : Bytes → Bytes → Home → ℕ → ℕ → Type 0
@@ -136,7 +143,7 @@ NoneKept v = (f s : Bytes) (l : List ℕ) → Kept f s l v
 
 -- there is room for all names of a chain
 pub record Room (f s : Bytes) (l : List ℕ) : Type 0 where
-  pub size : namesStart + 64 * storeLimits s .depth ≤ length l
+  pub size : namesLength s ≤ length l
   pub file : length f ≤ 65535
   pub store : length s ≤ 65535
 

@@ -11,8 +11,8 @@ use mathlib.Core.List.{List}
 use mathlib.Core.Option.{Option, none, some}
 use lib.Dec.{T}
 use Rattle.rules.specs.Bytes.{Bytes}
-use Rattle.rules.specs.Package.{storeLimits, method}
-use Rattle.rules.specs.Store.{Entry}
+use Rattle.rules.specs.Package.{method}
+use Rattle.rules.specs.Store.{Entry, storeLimits}
 use Rattle.rules.specs.Classes.{Installed, installed, ClassAt, isKind0, declaredInstance, MethodAt, runsUpTo}
 use Rattle.rules.specs.Questions.{own}
 use Rattle.rules.specs.Paths.{First}

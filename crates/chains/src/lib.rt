@@ -14,12 +14,12 @@ ghost use mathlib.Core.Path.{_≡_};
 ghost use mathlib.Core.Bool.{true};
 ghost use Prim.Native.Nat.{_<_, _≤_};
 ghost use lib.ListN.{length};
-ghost use Rattle.rules.specs.Package.{storeLimits};
 ghost use Rattle.homes.specs.Found.{Indexed};
 ghost use Rattle.slots.specs.Slots.{SlotsTrue};
 ghost use Rattle.chains.specs.Chain.{mostLinks, namesStart, PartRoom, Same};
 ghost use Rattle.chains.specs.Names.{namesOf, HitThere, HitRuns, NamesIs, Kept, NoneKept, KeptFor, Room, NoneRuns};
 ghost use Rattle.chains.specs.Say.{MethodHere, IfImplemented, RunningThere, RunsIs};
+ghost use Rattle.rules.specs.Store.{storeLimits};
 
 // The method that runs, by its package's home and its place in the file there, or none.
 pub enum RunsFound {

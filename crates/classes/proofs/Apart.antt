@@ -5,7 +5,7 @@ use mathlib.Core.Path.{_≡_, refl}
 use mathlib.Core.List.{List}
 use mathlib.Core.Logic.{inl, inr}
 use Rattle.rules.specs.Bytes.{Bytes}
-use Rattle.rules.specs.Store.{Entry, openingLength}
+use Rattle.rules.specs.Store.{Entry, firstEntry}
 use Rattle.rules.specs.Classes.{Installed}
 use Rattle.store.proofs.Stand.{entry-apart}
 use Rattle.homes.specs.Homes.{Setting, HomeIs}
@@ -29,7 +29,7 @@ module _ (f s : Bytes) (end : ℕ) (es : List Entry) (self : Installed) (j : Set
   homes-apart _ g _ y homes.own (homes.stored u) (inr z) = enters refl (omega (arith, u .inside))
   homes-apart h _ x _ (homes.stored t) homes.own (inr z) = absurd (omega (arith, home-below f s end es self j h x (homes.stored t)))
   homes-apart h g x y (homes.stored t) (homes.stored u) (inr z) =
-      let a = entry-apart s openingLength (u .pre) (t .pre) (g .before) (h .before) (g .to) _ (u .stand) (u .entry) (t .stand) z in
+      let a = entry-apart s (firstEntry s) (u .pre) (t .pre) (g .before) (h .before) (g .to) _ (u .stand) (u .entry) (t .stand) z in
       earlier (omega (arith, u .inside)) (omega (arith, t .inside))
 
 -- a class and its kind-0 parent

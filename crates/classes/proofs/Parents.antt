@@ -10,8 +10,8 @@ use mathlib.Core.Option.{Option, none, some, Option·some-injective}
 use lib.Dec.{T}
 use lib.ListN.{drop, getD, drop-of-length-le}
 use Rattle.rules.specs.Bytes.{Bytes, pick, at, find, isSome, someAnd, _andThen_}
-use Rattle.rules.specs.Package.{Limits, storeLimits, ClassNumber, Class}
-use Rattle.rules.specs.Store.{Entry, loaded}
+use Rattle.rules.specs.Package.{Limits, ClassNumber, Class}
+use Rattle.rules.specs.Store.{Entry, loaded, storeLimits}
 use Rattle.rules.specs.Classes.{Installed, installedBy, installed, byAid, packageNumbered, ClassAt, recordOf, classNamed, parentsNamed, isKind0, kind0Parent}
 use Rattle.rules.specs.Questions.{q13-imports, parentExists}
 use Rattle.rules.proofs.Tests.{and-l, all-mem, allFrom-zero, none-some, some-and-is}

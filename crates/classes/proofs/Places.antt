@@ -6,8 +6,8 @@ use mathlib.Core.Option.{some, Option·some-injective}
 use lib.Dec.{leb→le}
 use lib.ListN.{length}
 use Rattle.rules.specs.Bytes.{Bytes, at, u1, counted}
-use Rattle.rules.specs.Package.{storeLimits, mostMethods, Class, method, class}
-use Rattle.rules.specs.Store.{Entry}
+use Rattle.rules.specs.Package.{mostMethods, Class, method, class}
+use Rattle.rules.specs.Store.{Entry, storeLimits}
 use Rattle.rules.specs.Classes.{Installed, installed, depthUpTo}
 use Rattle.rules.specs.Questions.{own, depthWithin}
 use Rattle.rules.proofs.Tests.{none-some, allFrom-zero}

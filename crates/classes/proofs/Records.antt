@@ -10,8 +10,8 @@ use lib.ListN.{length, drop, getD, length-drop}
 use lib.Seq.{getD-drop}
 use borrow.Author.Tests.{eq-eqb, ne-eqb}
 use Rattle.rules.specs.Bytes.{Bytes, Aid, at, u1}
-use Rattle.rules.specs.Package.{Limits, Format, storeLimits, ClassNumber, Class, classNumber, class}
-use Rattle.rules.specs.Store.{Entry}
+use Rattle.rules.specs.Package.{Limits, Format, ClassNumber, Class, classNumber, class}
+use Rattle.rules.specs.Store.{Entry, storeLimits}
 use Rattle.rules.specs.Classes.{Installed}
 use Rattle.rules.proofs.Tests.{none-some}
 use Rattle.rules.proofs.Lists.{at-below}

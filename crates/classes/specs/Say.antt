@@ -16,8 +16,8 @@ use mathlib.Core.Option.{Option, none, some}
 use lib.Dec.{T}
 use lib.ListN.{length}
 use Rattle.rules.specs.Bytes.{Bytes, at, u1, counted}
-use Rattle.rules.specs.Package.{storeLimits, mostMethods, ClassNumber, Class, method}
-use Rattle.rules.specs.Store.{Entry}
+use Rattle.rules.specs.Package.{mostMethods, ClassNumber, Class, method}
+use Rattle.rules.specs.Store.{Entry, storeLimits}
 use Rattle.rules.specs.Classes.{Installed, installed, ClassAt, classNamed, isKind0, kind0Parent}
 use Rattle.rules.specs.Questions.{q14-parents}
 use Rattle.places.specs.Reads.{Reads}

@@ -1,14 +1,15 @@
 -- Offsets added to a set of bits, one after the other: whether all lie in the code, and their bits. Assumes nothing.
 use Prim.Native.Nat.{ℕ, _<_, _≤_}
+use native.Mathlib.Omega.{arith}
 use mathlib.Core.Path.{_≡_, refl, sym, ap, _∙_, subst}
 use mathlib.Core.Bool.{Bool, true, false, _&&_, _||_, and-true, or-false}
 use mathlib.Core.List.{List, [], _∷_, _++_}
 use lib.Dec.{eqb, ltb}
 use lib.IntN.{ℤ, pos, negsuc}
-use borrow.Author.Tests.{lt-ltb, le-ltb}
+use borrow.Author.Tests.{lt-ltb, le-ltb, ltb-true}
 use Rattle.rules.specs.Bytes.{Bytes, any, all}
 use Rattle.bits.specs.Bits.{bitAt, withBit}
-use Rattle.codes.specs.Marks.{goesTo, inCode, Adds}
+use Rattle.codes.specs.Marks.{goesTo, inCode, LandsAt, Adds}
 
 or-assoc : (a b c : Bool) → (a || (b || c)) ≡ ((a || b) || c)
 or-assoc true b c = refl
@@ -40,15 +41,26 @@ module _ (n : ℕ) where
       turned true false = refl
       turned false b = sym (or-false b)
 
-  -- one integer that is none
-  adds-none : (old : Bytes) (z : ℤ) → inCode n z ≡ false → Adds n (bitAt old) old false (z ∷ [])
-  adds-none old z h = record { answer = sym (ap (λ (b : Bool). b && true) h); marked = λ t k. absurd (subst (λ (b : Bool). lib.Dec.T b) (sym t) tt) }
-
+  -- one offset past it
   pub adds-past : (old : Bytes) (to : ℕ) → n ≤ to → Adds n (bitAt old) old false (pos to ∷ [])
-  adds-past old to h = adds-none old (pos to) (le-ltb to n h)
+  adds-past old to h = record { answer = sym (rw (le-ltb to n h)); marked = λ t k. absurd (subst (λ (b : Bool). lib.Dec.T b) (sym t) tt) }
 
-  pub adds-before : (old : Bytes) (k : ℕ) → Adds n (bitAt old) old false (negsuc k ∷ [])
-  adds-before old k = adds-none old (negsuc k) refl
+  -- an integer that is a natural number lands there
+  pub lands-there : (z : ℤ) (r : ℕ) → z ≡ pos r → LandsAt n z r
+  lands-there z r e = record { below = sym (ap (inCode n) e); there = λ h. e }
+
+  -- one below 0 lands at the end, which is outside
+  pub lands-before : (z : ℤ) (k : ℕ) → z ≡ negsuc k → LandsAt n z n
+  lands-before z k e = record { below = le-ltb n n (omega arith) ∙ sym (ap (inCode n) e); there = λ h. absurd (omega arith) }
+
+  -- one integer, by where it lands
+  pub adds-lands : (old : ℕ → Bool) (new : Bytes) (b : Bool) (z : ℤ) (r : ℕ) → LandsAt n z r → Adds n old new b (pos r ∷ []) → Adds n old new b (z ∷ [])
+  adds-lands old new b z r l a = record {
+    answer = a .answer ∙ ap (λ (t : Bool). t && true) (l .below);
+    marked = λ t k.
+        let h : r < n = ltb-true r n (sym (and-true (ltb r n)) ∙ sym (a .answer) ∙ t) in
+        a .marked t k ∙ ap (λ (y : ℤ). old k || any (goesTo k) (y ∷ [])) (sym (l .there h));
+  }
 
   -- two lists, one after the other
   pub adds-join : (old : ℕ → Bool) (mid new : Bytes) (r q : Bool) (xs ys : List ℤ) → Adds n old mid r xs → Adds n (bitAt mid) new q ys → Adds n old new

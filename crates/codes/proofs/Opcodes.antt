@@ -3,7 +3,7 @@ use Prim.Native.Nat.{ℕ, _+_, _≤_}
 use native.Mathlib.Omega.{arith}
 use native.Mathlib.Decide.{decLe, ℕ-discrete}
 use mathlib.Core.Path.{_≡_, sym, ap, _∙_, subst}
-use mathlib.Core.Bool.{false, or-false}
+use mathlib.Core.Bool.{false, not, or-false}
 use mathlib.Core.List.{[], _∷_}
 use lib.Dec.{T, leb, eqb, leb→le}
 use lib.ListN.{length}
@@ -87,14 +87,14 @@ module _ (code : Bytes) (at f n : ℕ) (s : Says (u1At code at) f n) where
   range-is : within 0x8B 0x8E (u1At code at) ≡ eqb f 1
   range-is = sym (or-false (within 0x8B 0x8E (u1At code at))) ∙ s .calls
 
-  pub form-quiet : (f ≡ 1 → ⊥) → callAt code at ≡ []
+  form-quiet : (f ≡ 1 → ⊥) → callAt code at ≡ []
   form-quiet h = no-call code at (λ e. outside (omega arith) (omega arith)) (λ e. outside (omega arith) (omega arith))
       (λ e. outside (omega arith) (omega arith)) (λ e. outside (omega arith) (omega arith))
     where
       outside : 0x8B ≤ u1At code at → u1At code at ≤ 0x8E → ⊥
       outside a b = h (eqb-true f 1 (sym range-is ∙ in-range 0x8B 0x8E (u1At code at) a b))
 
-  pub form-calls : f ≡ 1 → empty (callAt code at) ≡ false
+  form-calls : f ≡ 1 → empty (callAt code at) ≡ false
   form-calls h = elim (ℕ-discrete (u1At code at) 0x8B) [
     | yes e ↦ ap empty (call-8B code at e)
     | no a ↦ elim (ℕ-discrete (u1At code at) 0x8C) [
@@ -114,3 +114,10 @@ module _ (code : Bytes) (at f n : ℕ) (s : Says (u1At code at) f n) where
           let low = leb→le 0x8B (u1At code at) (and-l (leb 0x8B (u1At code at)) (leb (u1At code at) 0x8E) inside) in
           let high = leb→le (u1At code at) 0x8E (and-r (leb 0x8B (u1At code at)) (leb (u1At code at) 0x8E) inside) in
           omega arith
+
+  -- both at once
+  pub form-empty : empty (callAt code at) ≡ not (eqb f 1)
+  form-empty = elim (ℕ-discrete f 1) [
+    | yes e ↦ form-calls e ∙ sym (ap not (eq-eqb f 1 e))
+    | no e ↦ ap empty (form-quiet e) ∙ sym (ap not (ne-eqb f 1 e))
+  ]

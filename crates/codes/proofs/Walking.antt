@@ -2,14 +2,14 @@
 use Prim.Native.Nat.{ℕ, zero, suc, _+_, _<_, _≤_}
 use native.Mathlib.Omega.{arith}
 use mathlib.Core.Path.{_≡_, refl, sym, ap, _∙_, subst}
-use mathlib.Core.Bool.{Bool, true, false, _&&_, _||_, not, and-true, and-false, or-false}
+use mathlib.Core.Bool.{Bool, true, false, _&&_, _||_, not, and-true, or-false}
 use mathlib.Core.List.{List, [], _∷_, _++_, append-assoc, append-nil}
 use mathlib.Core.Option.{Option, none, some}
 use lib.Dec.{eqb, ltb}
 use lib.ListN.{length}
 use borrow.Author.Tests.{eqb-true, lt-ltb}
 use Rattle.rules.specs.Bytes.{Bytes, any, flat, _andThen_}
-use Rattle.rules.specs.Code.{u1At, instructionLength, splitFrom, split, targetsAt, Call, callAt}
+use Rattle.rules.specs.Code.{u1At, instructionLength, splitFrom, split, targetsAt, callAt}
 use Rattle.rules.proofs.Tests.{none-some}
 use Rattle.bits.specs.Bits.{bitAt, withBit}
 use Rattle.instructions.specs.Table.{Says, nonzero}
@@ -18,7 +18,7 @@ use Rattle.instructions.proofs.Sizes.{nonzero-is, nonzero-none}
 use Rattle.rules.proofs.Splitting.{behind, split-end, split-none, split-more}
 use Rattle.codes.proofs.Adding.{any-join, adds-nil, adds-join, adds-is}
 use Rattle.codes.proofs.Targets.{no-targets}
-use Rattle.codes.proofs.Opcodes.{form-quiet, form-calls}
+use Rattle.codes.proofs.Opcodes.{form-empty}
 
 flat-last : {A B : Type 0} (f : A → List B) (xs : List A) (x : A) → flat f (xs ++ x ∷ []) ≡ flat f xs ++ f x
 flat-last f [] x = append-nil (f x)
@@ -75,25 +75,26 @@ module _ (code : Bytes) (inside calls : Bool) (starts targets : Bytes) (ks : Lis
           go false true x y z = lt-ltb k (length code) (omega (arith, eqb-true k at y, h))
           go false false x y z = absurd (subst (λ (b : Bool). lib.Dec.T b) (sym z) tt)
 
-  -- neither call nor branch, a call, a branch
+  -- the same by the form of its opcode
   module _ (at f n : ℕ) (starts′ : Bytes) (s : Says (u1At code at) f n) (h : at < length code)
       (m : (k : ℕ) → bitAt starts′ k ≡ withBit (bitAt starts) at k) where
-    stays : f ≤ 1 → Adds (length code) (bitAt targets) targets true (targetsAt code at)
-    stays e = adds-is refl (sym (no-targets code at f n s e)) (adds-nil (length code) targets)
+    -- a call among all is one among those before, or this one
+    called-more : not (calls || eqb f 1) ≡ (not calls && empty (callAt code at))
+    called-more = by calls
+      where
+        by : (b : Bool) → not (b || eqb f 1) ≡ (not b && empty (callAt code at))
+        by true = refl
+        by false = sym (form-empty code at f n s)
 
-    quiet : (f ≡ 1 → ⊥) → not calls ≡ (not calls && empty (callAt code at))
-    quiet e = sym (ap (λ (l : List Call). not calls && empty l) (form-quiet code at f n s e) ∙ and-true (not calls))
+    -- one that does not branch
+    pub passed-straight : f ≤ 1 → Passed code inside (calls || eqb f 1) starts′ targets (ks ++ at ∷ [])
+    passed-straight e = passed-more at starts′ targets true inside (calls || eqb f 1) h m
+        (adds-is refl (sym (no-targets code at f n s e)) (adds-nil (length code) targets)) (sym (and-true inside)) called-more
 
-    pub passed-plain : f ≡ 0 → Passed code inside calls starts′ targets (ks ++ at ∷ [])
-    passed-plain e = passed-more at starts′ targets true inside calls h m (stays (omega arith)) (sym (and-true inside)) (quiet (λ q. omega arith))
-
-    pub passed-call : f ≡ 1 → Passed code inside true starts′ targets (ks ++ at ∷ [])
-    passed-call e = passed-more at starts′ targets true inside true h m (stays (omega arith)) (sym (and-true inside))
-        (sym (ap (λ (b : Bool). not calls && b) (form-calls code at f n s e) ∙ and-false (not calls)))
-
-    pub passed-branch : 1 < f → (targets′ : Bytes) (r : Bool) → Adds (length code) (bitAt targets) targets′ r (targetsAt code at) → Passed code
-        (inside && r) calls starts′ targets′ (ks ++ at ∷ [])
-    passed-branch e targets′ r a = passed-more at starts′ targets′ r (inside && r) calls h m a refl (quiet (λ q. omega arith))
+    -- one that branches
+    pub passed-branch : (targets′ : Bytes) (r : Bool) → Adds (length code) (bitAt targets) targets′ r (targetsAt code at) → Passed code (inside && r)
+        (calls || eqb f 1) starts′ targets′ (ks ++ at ∷ [])
+    passed-branch targets′ r a = passed-more at starts′ targets′ r (inside && r) (calls || eqb f 1) h m a refl called-more
 
 -- what is known where a turn begins: the starts before it are passed
 pub record Walking (code : Bytes) (at last : ℕ) (inside calls : Bool) (starts targets : Bytes) : Type 0 where

@@ -3,6 +3,7 @@
 -- entryTargets w code at == where the entries of a switch go
 -- goesTo k z             == the integer is the offset k
 -- inCode n z             == the integer is an offset below n
+-- LandsAt n z r          == r is below n exactly where the integer is an offset below n, and is then that offset
 -- Marks set ks           == the bits of these offsets are set, and no other
 -- Adds n old new r zs    == r says whether these integers are all offsets below n; where they are, new has their bits beside those of old
 -- lastOf starts          == one more than the last of these offsets, 0 where there is none
@@ -12,7 +13,7 @@
 --                           where the set tells the starts
 -- codeNumber code hs     == the number of the first no of questions 16, 17 and 24 of one code and its handlers; 18 where all are yes and it
 --                           has a call, so that 18 and 19 are to be asked of it; else 0
-use Prim.Native.Nat.{ℕ, _+_, _≤_}
+use Prim.Native.Nat.{ℕ, _+_, _<_, _≤_}
 use mathlib.Core.Path.{_≡_}
 use mathlib.Core.Bool.{Bool, true, false, _||_, not}
 use mathlib.Core.List.{List, [], _∷_}
@@ -37,6 +38,10 @@ goesTo k (negsuc n) = false
 abbrev pub inCode : ℕ → ℤ → Bool
 inCode n (pos k) = ltb k n
 inCode n (negsuc k) = false
+
+pub record LandsAt (n : ℕ) (z : ℤ) (r : ℕ) : Type 0 where
+  pub below : ltb r n ≡ inCode n z
+  pub there : r < n → z ≡ pos r
 
 abbrev pub Marks : Bytes → List ℕ → Type 0
 Marks set ks = (k : ℕ) → bitAt set k ≡ any (eqb k) ks

@@ -4,13 +4,13 @@ use fields::u2_at;
 use fields::wide;
 use instructions::entries_of;
 ghost use mathlib.Core.List.{[], _∷_};
-ghost use Prim.Native.Nat.{_+_, _-_, _*_, _/_, _%_, _<_, _≤_};
+ghost use Prim.Native.Nat.{_+_, _-_, _*_, _/_, _%_, _^_, _<_, _≤_};
 ghost use lib.IntN.{pos, _+ℤ_};
 ghost use lib.ListN.{length};
 ghost use Rattle.bits.specs.Bits.{bitAt};
 ghost use Rattle.rules.specs.Code.{u1At, signed, targetsEach, targetsAt};
 ghost use Rattle.instructions.specs.Table.{Says, switchOf, Whole};
-ghost use Rattle.codes.specs.Marks.{entryTargets, Adds};
+ghost use Rattle.codes.specs.Marks.{entryTargets, LandsAt, Adds};
 
 // An offset of a code of n bytes.
 fn mark(targets: &mut [u8], n: usize, to: usize) -> bool
@@ -24,19 +24,28 @@ fn mark(targets: &mut [u8], n: usize, to: usize) -> bool
     false
 }
 
+// Where a branch at an offset by a field x goes, in a code of n bytes; n where that is before the code.
+fn target_of(n: usize, at: usize, half: usize, x: usize) -> usize
+    requires { ⌜ (x < half + half) × (at + (half + half) < 2 ^ 64) ⌝ }
+    ensures { λ r. ⌜ LandsAt n (pos at +ℤ signed half x) r ⌝ }
+{
+    let sum = at + x;
+    if x < half {
+        return sum;
+    }
+    if sum < half + half {
+        return n;
+    }
+    sum - (half + half)
+}
+
 // The target of a branch at an offset by a field x.
 fn mark_branch(code: &[u8], targets: &mut [u8], at: usize, half: usize, x: usize) -> bool
     requires { ⌜ (length (now code) ≤ 8 * length (now targets)) × (at < length (now code)) × (x < half + half) × (half ≤ 32768) ⌝ }
     ensures { λ r. ⌜ Adds (length (now (code .entry))) (bitAt (now (targets .entry))) (now (targets .exit)) r ((pos at +ℤ signed half x) ∷ []) ⌝ }
 {
-    let sum = at + x;
-    if x < half {
-        return mark(targets, code.len(), sum);
-    }
-    if sum < half + half {
-        return false;
-    }
-    mark(targets, code.len(), sum - (half + half))
+    let n = code.len();
+    mark(targets, n, target_of(n, at, half, x))
 }
 
 // The targets of n branches, the first field at an offset, each `step` bytes behind the one before.

@@ -76,10 +76,8 @@ fn walk(table: &[u8; 256], code: &[u8], starts: &mut [u8], targets: &mut [u8]) -
         }
         bits::set(starts, at);
         last = at + 1;
-        if entry < 16 {
-            at += n;
-        } else if entry < 32 {
-            calls = true;
+        calls = calls | (entry / 16 == 1);
+        if entry < 32 {
             at += n;
         } else {
             inside = inside & mark_targets(code, targets, at, entry);

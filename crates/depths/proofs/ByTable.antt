@@ -1,6 +1,7 @@
 -- The depth of a parent, as it is told by the own depths or by the table. Assumes nothing.
-use Prim.Native.Nat.{ℕ, zero, suc, _+_, _/_, _<_}
+use Prim.Native.Nat.{ℕ, zero, suc, _+_, _/_, _<_, _^_, _≤_, _*_}
 use native.Mathlib.Omega.{arith}
+use native.Mathlib.Nat.{mul-le-mul-right}
 use native.Mathlib.Decide.{decLe}
 use mathlib.Core.Path.{_≡_, refl, sym, _∙_, ap, subst}
 use mathlib.Core.Bool.{Bool}
@@ -10,8 +11,8 @@ use lib.Dec.{eqb}
 use lib.ListN.{length, getD}
 use borrow.Author.Tests.{eq-eqb, ne-eqb}
 use Rattle.rules.specs.Bytes.{Bytes, pick, at}
-use Rattle.rules.specs.Package.{storeLimits, ClassNumber, Class, readFile}
-use Rattle.rules.specs.Store.{Entry}
+use Rattle.rules.specs.Package.{ClassNumber, Class, readFile}
+use Rattle.rules.specs.Store.{Entry, storeLimits}
 use Rattle.rules.specs.Classes.{Installed}
 use Rattle.rules.specs.Questions.{own}
 use Rattle.rules.proofs.Tests.{none-some}
@@ -26,7 +27,7 @@ use Rattle.homes.specs.Found.{homeAt, ImportHomes}
 use Rattle.homes.specs.declared.Home.{Home}
 use Rattle.homes.proofs.Homes.{home-reads, stored-file}
 use Rattle.named.specs.Named.{homeOf, PackageThere, ClassFrom, Stands}
-use Rattle.depths.specs.Depths.{ClassIs, ClassThere, Kind0Is, depthOf, DepthIs, DepthsKept, toldDepth, depthField}
+use Rattle.depths.specs.Depths.{ClassIs, ClassThere, Kind0Is, depthOf, DepthIs, DepthsKept, toldDepth, depthWidth, depthField, depthsLength}
 use Rattle.depths.proofs.Records.{RecordBy, record-by}
 use Rattle.depths.proofs.ParentKinds.{kind-is}
 
@@ -45,15 +46,34 @@ depth-one s es x n k e z = rw (e, empty (k .parents) z)
     empty [] z = refl
     empty (x ∷ xs) z = absurd (omega (arith, z))
 
+-- a field of so few bits is small
+pub field-small : {w r : ℕ} → r < 2 ^ w → w ≤ 4 → r < 16
+field-small {w} {r} h l = go w h l
+  where
+    go : (w : ℕ) → r < 2 ^ w → w ≤ 4 → r < 16
+    go zero h l = omega arith
+    go (suc zero) h l = omega arith
+    go (suc (suc zero)) h l = omega arith
+    go (suc (suc (suc zero))) h l = omega arith
+    go (suc (suc (suc (suc zero)))) h l = h
+    go (suc (suc (suc (suc (suc w))))) h l = absurd (omega arith)
+
+-- the field of a place of the store lies in the table
+pub field-room : (s : Bytes) (w : ℕ) {p n : ℕ} → w ≡ depthWidth s → p < length s → depthsLength s ≤ n → p / 5 * w / 8 + 1 < n
+field-room s w {p} {n} e h r =
+    let m : p / 5 * depthWidth s ≤ length s / 5 * depthWidth s = mul-le-mul-right (depthWidth s) (omega (arith, h)) in
+    let z : p / 5 * w ≡ p / 5 * depthWidth s = ap (λ (v : ℕ). p / 5 * v) e in
+    omega (arith, z, m, r)
+
 -- what the code tells, by its cases
-module _ (ds tab : List ℕ) (from i c n : ℕ) where
-  pub told-own : (r : ℕ) → from ≡ 0 → r ≡ getD ds c 0 → r ≡ toldDepth ds tab from i c n
+module _ (w : ℕ) (ds tab : List ℕ) (from i c n : ℕ) where
+  pub told-own : (r : ℕ) → from ≡ 0 → r ≡ getD ds c 0 → r ≡ toldDepth w ds tab from i c n
   told-own r e z = rw (eq-eqb from 0 e) z
 
-  pub told-one : (from ≡ 0 → ⊥) → n ≡ 0 → 1 ≡ toldDepth ds tab from i c n
+  pub told-one : (from ≡ 0 → ⊥) → n ≡ 0 → 1 ≡ toldDepth w ds tab from i c n
   told-one e z = rw (ne-eqb from 0 e, eq-eqb n 0 z) refl
 
-  pub told-field : (r : ℕ) → (from ≡ 0 → ⊥) → (n ≡ 0 → ⊥) → r ≡ depthField tab ((from + i) / 5) → r + 1 ≡ toldDepth ds tab from i c n
+  pub told-field : (r : ℕ) → (from ≡ 0 → ⊥) → (n ≡ 0 → ⊥) → r ≡ depthField w tab ((from + i) / 5) → r + 1 ≡ toldDepth w ds tab from i c n
   told-field r e z q = rw (ne-eqb from 0 e, ne-eqb n 0 z, q) refl
 
 module _ (f s : Bytes) (end : ℕ) (t : List ℕ) (u : ImportHomes f s end t) where
@@ -110,11 +130,11 @@ module _ (f s : Bytes) (end : ℕ) (t : List ℕ) (u : ImportHomes f s end t) wh
         zero-own z = let w : h .from ≡ 0 = ap (λ (v : Home). v .from) (e ∙ ap (homeOf end t) z) in omega (arith, n, w)
 
     module _ (ds tab : List ℕ) (kept : DepthsKept s end tab) (low : p ≡ 0 → DepthIs f s end (ownHome end) c (getD ds c 0)) (v r : ℕ)
-        (zv : v ≡ getD b (i + 1) 0) (zr : r ≡ toldDepth ds tab (h .from) i c v) where
+        (zv : v ≡ getD b (i + 1) 0) (zr : r ≡ toldDepth (depthWidth s) ds tab (h .from) i c v) where
       own-case : p ≡ 0 → DepthIs f s end (homeOf end t p) c r
       own-case z =
           let w : h .from ≡ 0 = ap (λ (v : Home). v .from) (e ∙ ap (homeOf end t) z) in
-          let y : r ≡ getD ds c 0 = zr ∙ ap (λ (m : Bool). pick m (getD ds c 0) (pick (eqb v 0) 1 (depthField tab ((h .from + i) / 5) + 1)))
+          let y : r ≡ getD ds c 0 = zr ∙ ap (λ (m : Bool). pick m (getD ds c 0) (pick (eqb v 0) 1 (depthField (depthWidth s) tab ((h .from + i) / 5) + 1)))
           (eq-eqb (h .from) 0 w) in
           subst (λ (m : ℕ). DepthIs f s end (homeOf end t m) c r) (sym z) (subst (DepthIs f s end (ownHome end) c) (sym y) (low z))
 
@@ -130,11 +150,11 @@ module _ (f s : Bytes) (end : ℕ) (t : List ℕ) (u : ImportHomes f s end t) wh
           count : v ≡ length (k .parents)
           count = zv ∙ (parent-by es self x k d) .count
 
-          told : r ≡ pick (eqb v 0) 1 (depthField tab ((h .from + i) / 5) + 1)
-          told = zr ∙ ap (λ (m : Bool). pick m (getD ds c 0) (pick (eqb v 0) 1 (depthField tab ((h .from + i) / 5) + 1))) (ne-eqb (h .from) 0 from)
+          told : r ≡ pick (eqb v 0) 1 (depthField (depthWidth s) tab ((h .from + i) / 5) + 1)
+          told = zr ∙ ap (λ (m : Bool). pick m (getD ds c 0) (pick (eqb v 0) 1 (depthField (depthWidth s) tab ((h .from + i) / 5) + 1))) (ne-eqb (h .from) 0 from)
 
           none : v ≡ 0 → r ≡ depthOf s es (own x c)
-          none z = told ∙ ap (λ (m : Bool). pick m 1 (depthField tab ((h .from + i) / 5) + 1)) (eq-eqb v 0 z) ∙ depth-one s es x c k (d .is) (sym count ∙ z)
+          none z = told ∙ ap (λ (m : Bool). pick m 1 (depthField (depthWidth s) tab ((h .from + i) / 5) + 1)) (eq-eqb v 0 z) ∙ depth-one s es x c k (d .is) (sym count ∙ z)
 
           some′ : 0 < v → r ≡ depthOf s es (own x c)
           some′ z =
@@ -142,8 +162,8 @@ module _ (f s : Bytes) (end : ℕ) (t : List ℕ) (u : ImportHomes f s end t) wh
               let w = kept .told es (d .parents .imported .setting .size) (d .parents .imported .setting .stand) (d .parents .imported .setting .sound)
               (homeOf end t p) x st c k i (d .is) (omega (arith, z, count)) a in
               let j : h .from ≡ homeOf end t p .from = ap (λ (v : Home). v .from) e in
-              told ∙ ap (λ (m : Bool). pick m 1 (depthField tab ((h .from + i) / 5) + 1)) (ne-eqb v 0 (λ y. omega (arith, y, z))) ∙ ap
-              (λ (m : ℕ). depthField tab ((m + i) / 5) + 1) j ∙ w
+              told ∙ ap (λ (m : Bool). pick m 1 (depthField (depthWidth s) tab ((h .from + i) / 5) + 1)) (ne-eqb v 0 (λ y. omega (arith, y, z))) ∙ ap
+              (λ (m : ℕ). depthField (depthWidth s) tab ((m + i) / 5) + 1) j ∙ w
 
       pub told-is : DepthIs f s end (homeOf end t p) c r
       told-is = elim (decLe p 0) [ yes o ↦ own-case (omega arith) | no o ↦ stored-case (λ z. o (omega arith)) ]

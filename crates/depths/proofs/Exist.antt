@@ -8,8 +8,8 @@ use mathlib.Core.Option.{some}
 use lib.Dec.{eqb, ltb}
 use lib.ListN.{length, getD}
 use Rattle.rules.specs.Bytes.{Bytes, all, at, isSome, u1, aid}
-use Rattle.rules.specs.Package.{storeLimits, mostImports, mostClasses, ClassNumber, Class}
-use Rattle.rules.specs.Store.{Entry}
+use Rattle.rules.specs.Package.{mostImports, mostClasses, ClassNumber, Class}
+use Rattle.rules.specs.Store.{Entry, storeLimits}
 use Rattle.rules.specs.Classes.{Installed, installed, packageNumbered}
 use Rattle.rules.specs.Questions.{parentExists}
 use Rattle.rules.proofs.Lists.{at-below}

@@ -12,8 +12,8 @@ use lib.ListN.{length, drop, getD, set, length-set}
 use lib.Seq.{getD-set-same, getD-set-other}
 use borrow.Author.Tests.{le-leb, lt-leb, eqb-true, eqb-false}
 use Rattle.rules.specs.Bytes.{Bytes, all, allFrom, at}
-use Rattle.rules.specs.Package.{storeLimits, mostClasses, Class}
-use Rattle.rules.specs.Store.{Entry}
+use Rattle.rules.specs.Package.{mostClasses, Class}
+use Rattle.rules.specs.Store.{Entry, storeLimits}
 use Rattle.rules.specs.Classes.{Installed, installed}
 use Rattle.rules.specs.Questions.{parentExists, parentKinds, depthWithin, q14-parents}
 use Rattle.rules.specs.Operations.{deepestFrom}

@@ -7,15 +7,17 @@ use mathlib.Core.List.{List, [], _∷_, _++_}
 use mathlib.Core.Option.{some, Option·some-injective}
 use lib.Dec.{T, leb→le, eqb→eq}
 use lib.ListN.{length, getD, replicate, length-replicate, List·getD-eq-default}
+use borrow.Author.Tests.{le-leb, lt-leb}
 use Rattle.rules.specs.Bytes.{Bytes, Aid, at}
-use Rattle.rules.specs.Package.{standard, storeLimits, mostClasses, Class, Package, readFile}
-use Rattle.rules.specs.Store.{Entry, domain, loaded, openingLength}
+use Rattle.rules.specs.Package.{mostClasses, Class, Package, readFile}
+use Rattle.rules.specs.Store.{Entry, domain, loaded, firstEntry, storeLimits, storeOpening}
 use Rattle.rules.specs.Classes.{Installed, installed, depthUpTo}
 use Rattle.rules.specs.Questions.{own, depthWithin}
 use Rattle.rules.specs.Operations.{accepted, acceptedAll}
 use Rattle.rules.proofs.Tests.{and-l, and-r, of-true, allFrom-zero}
 use Rattle.rules.proofs.Asked.{LoadYes, load-yes, parents-yes}
 use Rattle.rules.proofs.Sound.{installed-domain}
+use Rattle.rules.proofs.Limits.{limits-range}
 use Rattle.rules.proofs.Step.{accepted-append}
 use Rattle.store.specs.Entries.{part, EntryAt, Entries, StandFrom}
 use Rattle.store.proofs.Parts.{part-length}
@@ -24,7 +26,7 @@ use Rattle.homes.specs.Homes.{Parents, ownHome, Stored}
 use Rattle.homes.specs.Homes as homes
 use Rattle.homes.specs.declared.Home.{Home}
 use Rattle.named.specs.Named.{Judged, Stands, ClassFrom}
-use Rattle.depths.specs.Depths.{ClassIs, DepthsKept, OwnDepths, DepthsFit, FileKept, ParentedIs, depthOf, depthWidth, depthField, depthsLength}
+use Rattle.depths.specs.Depths.{ClassIs, DepthsKept, OwnDepths, DepthsFit, FileKept, ParentedIs, depthOf, widthFor, depthWidth, depthField, depthsLength}
 use Rattle.depths.specs.declared.Parented.the-variants.{Yes}
 use Rattle.depths.proofs.Records.{RecordBy}
 use Rattle.depths.proofs.Exist.{judged-reads, own-at}
@@ -33,18 +35,28 @@ use Rattle.depths.proofs.Written.{stands-from}
 use Rattle.depths.proofs.Longer.{among-none, StoredOr, before, last, stored-or}
 use Rattle.depths.proofs.Later.{own-is, other-is, class-record}
 
+-- so many bits hold every depth up to the limit
+width-holds : (most : ℕ) → most ≤ 16 → most ≤ 2 ^ widthFor most
+width-holds most h = elim (decLe most 8) [
+  | yes l ↦ rw (le-leb most 8 l) l
+  | no l ↦ rw (lt-leb most 8 (omega arith)) h
+]
+
+-- and are few
+pub width-few : (most : ℕ) → widthFor most ≤ 4
+width-few most = elim (decLe most 8) [ yes l ↦ rw (le-leb most 8 l) (omega arith) | no l ↦ rw (lt-leb most 8 (omega arith)) (omega arith) ]
+
 -- nothing stands before the first entry
-pub depths-start : (s : Bytes) (n : ℕ) → depthsLength s ≤ n → DepthsKept s 7 (replicate n 0)
+pub depths-start : (s : Bytes) (n : ℕ) → depthsLength s ≤ n → DepthsKept s (firstEntry s) (replicate n 0)
 depths-start s n r = record {
   room = omega (arith, r, length-replicate {A = ℕ} n 0);
   told = λ es size stand sound h x t.
-      absurd (among-none (t .pre) (loaded (x .domain) (part s (h .from) (h .to))) (t .post) (sym (entries-over s 7 es 7 (omega arith) stand) ∙ t .are));
+      absurd (among-none (t .pre) (loaded (x .domain) (part s (h .from) (h .to))) (t .post) (sym (entries-over s (firstEntry s) es (firstEntry s) (omega arith) stand) ∙ t .are));
 }
 
 -- the depths of an accepted file's classes are within the limit
 pub depths-fit : (f s : Bytes) (end depth : ℕ) (ds : List ℕ) → Judged f s end → ParentedIs f s end (Yes depth) → OwnDepths f s end ds →
-    length ds ≡ mostClasses → DepthsFit f ds
-unfolding storeLimits standard
+    length ds ≡ mostClasses → DepthsFit (depthWidth s) f ds
 depths-fit f s end depth ds t p o e = record { size = e; fit = fit }
   where
     es : List Entry
@@ -56,8 +68,8 @@ depths-fit f s end depth ds t p o e = record { size = e; fit = fit }
     parents : Parents f s end es self
     parents = parented-parents f s end depth p es self (t .2)
 
-    fit : (n i : ℕ) → Stands f n i → 0 < getD f (i + 1) 0 → (1 ≤ getD ds n 0) × (getD ds n 0 ≤ 2 ^ depthWidth)
-    fit n i q h = (omega (arith, told), omega (arith, told, within))
+    fit : (n i : ℕ) → Stands f n i → 0 < getD f (i + 1) 0 → (1 ≤ getD ds n 0) × (getD ds n 0 ≤ 2 ^ depthWidth s)
+    fit n i q h = (omega (arith, told), omega (arith, told, within, width-holds (storeLimits s .depth) ((limits-range s) .0)))
       where
         inside : i < length f
         inside = elim (decLe (length f) i) [
@@ -83,38 +95,38 @@ depths-fit f s end depth ds t p o e = record { size = e; fit = fit }
 -- what the table tells of given entries
 abbrev Tells : Bytes → List Entry → List ℕ → Type 0
 Tells s es t = (h : Home) (x : Installed) → Stored s es h x → (n : ℕ) (k : Class) (i : ℕ) → at (x .pack .classes) n ≡ some k → 0 < length (k .parents) →
-    Stands (part s (h .from) (h .to)) n i → depthField t ((h .from + i) / 5) + 1 ≡ depthOf s es (own x n)
+    Stands (part s (h .from) (h .to)) n i → depthField (depthWidth s) t ((h .from + i) / 5) + 1 ≡ depthOf s es (own x n)
 
 -- entries and one more
-module _ (s : Bytes) (es : List Entry) (end : ℕ) (e : Entry) (next : ℕ) (stand : Entries s openingLength es end) (one : EntryAt s end e next) where
+module _ (s : Bytes) (es : List Entry) (end : ℕ) (e : Entry) (next : ℕ) (stand : Entries s (firstEntry s) es end) (one : EntryAt s end e next) where
   abbrev Sound : ℕ → List Entry → Type 0
-  Sound size zs = T (acceptedAll (storeLimits s) size [] zs)
+  Sound size zs = T (acceptedAll (storeOpening s) size [] zs)
 
   -- they are all that end there
   kept-by : (t : List ℕ) → depthsLength s ≤ length t → ((size : ℕ) → Sound size (es ++ e ∷ []) → Tells s (es ++ e ∷ []) t) → DepthsKept s next t
   kept-by t room q = record { room = room; told = told }
     where
-      told : (zs : List Entry) (size : ℕ) → Entries s openingLength zs next → Sound size zs → Tells s zs t
+      told : (zs : List Entry) (size : ℕ) → Entries s (firstEntry s) zs next → Sound size zs → Tells s zs t
       told zs size there sound =
-          let z : zs ≡ es ++ e ∷ [] = entries-one s openingLength zs (es ++ e ∷ []) next there (entries-more s openingLength es end e next stand one) in
+          let z : zs ≡ es ++ e ∷ [] = entries-one s (firstEntry s) zs (es ++ e ∷ []) next there (entries-more s (firstEntry s) es end e next stand one) in
           subst (λ (ys : List Entry). Tells s ys t) (sym z) (q size (subst (Sound size) z sound))
 
   -- the others were accepted, and it over them
-  both : (size : ℕ) → Sound size (es ++ e ∷ []) → Sound size es × T (accepted (storeLimits s) size es e)
+  both : (size : ℕ) → Sound size (es ++ e ∷ []) → Sound size es × T (accepted (storeOpening s) size es e)
   both size sound =
-      let h = subst T (accepted-append (storeLimits s) size [] es (e ∷ [])) sound in
-      let r = and-r (acceptedAll (storeLimits s) size [] es) _ h in
-      (and-l (acceptedAll (storeLimits s) size [] es) _ h, and-l (accepted (storeLimits s) size es e) _ r)
+      let h = subst T (accepted-append (storeOpening s) size [] es (e ∷ [])) sound in
+      let r = and-r (acceptedAll (storeOpening s) size [] es) _ h in
+      (and-l (acceptedAll (storeOpening s) size [] es) _ h, and-l (accepted (storeOpening s) size es e) _ r)
 
 -- a domain more
-pub depths-domain : (s : Bytes) (at next : ℕ) (a : Aid) (t : List ℕ) → DepthsKept s at t → EntryAt s at (domain a) next → StandFrom s 7 at →
+pub depths-domain : (s : Bytes) (at next : ℕ) (a : Aid) (t : List ℕ) → DepthsKept s at t → EntryAt s at (domain a) next → StandFrom s (firstEntry s) at →
     DepthsKept s next t
 depths-domain s end next a t kept one st = kept-by s es end (domain a) next (st .1) one t (kept .room) told
   where
     es : List Entry
     es = st .0
 
-    told : (size : ℕ) → T (acceptedAll (storeLimits s) size [] (es ++ domain a ∷ [])) → Tells s (es ++ domain a ∷ []) t
+    told : (size : ℕ) → T (acceptedAll (storeOpening s) size [] (es ++ domain a ∷ [])) → Tells s (es ++ domain a ∷ []) t
     told size sound h x y n k i is ps here = elim (stored-or s es end (domain a) next (st .1) one h x y) [
       | before p l ↦
           let z = kept .told es size (st .1) ((both s es end (domain a) next (st .1) one size sound) .0) h x p n k i is ps here in
@@ -124,8 +136,8 @@ depths-domain s end next a t kept one st = kept-by s es end (domain a) next (st 
 
 -- a package more: the earlier depths stay, since the records before it have fields before its own
 pub depths-next : (s : Bytes) (at from next : ℕ) (d : Aid) (t t′ ds : List ℕ) → DepthsKept s at t → EntryAt s at (loaded d (part s from next)) next →
-    at < from → from ≤ next → OwnDepths (part s from next) s at ds → FileKept (part s from next) from ds t′ →
-    ((j : ℕ) → j < from / 5 → depthField t′ j ≡ depthField t j) → length t′ ≡ length t → StandFrom s 7 at → DepthsKept s next t′
+    at < from → from ≤ next → OwnDepths (part s from next) s at ds → FileKept (depthWidth s) (part s from next) from ds t′ →
+    ((j : ℕ) → j < from / 5 → depthField (depthWidth s) t′ j ≡ depthField (depthWidth s) t j) → length t′ ≡ length t → StandFrom s (firstEntry s) at → DepthsKept s next t′
 depths-next s end from next d t t′ ds kept one l₁ l₂ o w same len st = kept-by s es end e next (st .1) one t′ (omega (arith, kept .room, len)) told
   where
     es : List Entry
@@ -134,14 +146,14 @@ depths-next s end from next d t t′ ds kept one l₁ l₂ o w same len st = kep
     e : Entry
     e = loaded d (part s from next)
 
-    told : (size : ℕ) → T (acceptedAll (storeLimits s) size [] (es ++ e ∷ [])) → Tells s (es ++ e ∷ []) t′
+    told : (size : ℕ) → T (acceptedAll (storeOpening s) size [] (es ++ e ∷ [])) → Tells s (es ++ e ∷ []) t′
     told size sound h x y n k i z ps here = go (stored-or s es end e next (st .1) one h x y)
       where
-        ok : T (acceptedAll (storeLimits s) size [] es) × T (accepted (storeLimits s) size es e)
+        ok : T (acceptedAll (storeOpening s) size [] es) × T (accepted (storeOpening s) size es e)
         ok = both s es end e next (st .1) one size sound
 
-        p : (p : Package) × LoadYes (storeLimits s) size es d (part s from next) p
-        p = load-yes (storeLimits s) size es d (part s from next) (eqb→eq _ 0 (ok .1))
+        p : (p : Package) × LoadYes (storeOpening s) size es d (part s from next) p
+        p = load-yes (storeOpening s) size es d (part s from next) (eqb→eq _ 0 (ok .1))
 
         by : RecordBy (part s (h .from) (h .to)) i k
         by = class-record s (h .from) (h .to) (x .pack) n i k (y .reads) z here
@@ -152,7 +164,7 @@ depths-next s end from next d t t′ ds kept one l₁ l₂ o w same len st = kep
             let r = (by .parent 0 (omega (arith, by .count, ps))) .to in
             omega (arith, b, r, l₁, part-length s (h .from) (h .to) (y .entry .to), y .order)
 
-        go : StoredOr s es end e next h x → depthField t′ ((h .from + i) / 5) + 1 ≡ depthOf s (es ++ e ∷ []) (own x n)
+        go : StoredOr s es end e next h x → depthField (depthWidth s) t′ ((h .from + i) / 5) + 1 ≡ depthOf s (es ++ e ∷ []) (own x n)
         go (before v b) =
             ap (λ (m : ℕ). m + 1) (same ((h .from + i) / 5) (earlier b))
             ∙ other-is s (part s from next) es end d (st .1) size (ok .0) (p .0) (p .1) t kept h x v n k i z ps here
@@ -171,6 +183,6 @@ depths-next s end from next d t t′ ds kept one l₁ l₂ o w same len st = kep
                 let c : x .pack ≡ p .0 = Option·some-injective _ _ (sym (y .reads) ∙ ap (readFile (storeLimits s)) file ∙ p .1 .q11) in
                 ap₂ (λ (u : Aid) (v : Package). record { domain = u; pack = v }) a c
 
-            w′ : depthField t′ ((h .from + i) / 5) + 1 ≡ getD ds n 0
-            w′ = ap (λ (m : ℕ). depthField t′ ((m + i) / 5) + 1) place
+            w′ : depthField (depthWidth s) t′ ((h .from + i) / 5) + 1 ≡ getD ds n 0
+            w′ = ap (λ (m : ℕ). depthField (depthWidth s) t′ ((m + i) / 5) + 1) place
                 ∙ w n i (subst (λ (g : Bytes). Stands g n i) file here) (omega (arith, ps, by .count, ap (λ (g : Bytes). getD g (i + 1) 0) file))

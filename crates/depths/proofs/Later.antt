@@ -6,8 +6,8 @@ use mathlib.Core.Option.{some}
 use lib.Dec.{T}
 use lib.ListN.{length, getD}
 use Rattle.rules.specs.Bytes.{Bytes, Aid, at}
-use Rattle.rules.specs.Package.{storeLimits, Class, Package, readFile}
-use Rattle.rules.specs.Store.{Entry, loaded, openingLength}
+use Rattle.rules.specs.Package.{Class, Package, readFile}
+use Rattle.rules.specs.Store.{Entry, loaded, firstEntry, storeLimits, storeOpening}
 use Rattle.rules.specs.Classes.{Installed, installedBy, installed, ClassAt, depthUpTo}
 use Rattle.rules.specs.Questions.{q13-imports, own}
 use Rattle.rules.specs.Operations.{acceptedAll, soundEntries}
@@ -19,14 +19,14 @@ use Rattle.homes.specs.Homes.{Setting, Parents, Stored}
 use Rattle.homes.specs.Homes as homes
 use Rattle.homes.specs.declared.Home.{Home}
 use Rattle.named.specs.Named.{Stands}
-use Rattle.depths.specs.Depths.{DepthsKept, OwnDepths, depthOf, depthField}
+use Rattle.depths.specs.Depths.{DepthsKept, OwnDepths, depthOf, depthWidth, depthField}
 use Rattle.depths.proofs.Records.{RecordBy, record-by}
 use Rattle.depths.proofs.Written.{stands-class}
 use Rattle.depths.proofs.Longer.{stored-mem, depth-more}
 
 -- a package more
-module _ (s f : Bytes) (es : List Entry) (end : ℕ) (d : Aid) (stand : Entries s openingLength es end) (size : ℕ)
-    (sound : T (acceptedAll (storeLimits s) size [] es)) (p : Package) (yes-of : LoadYes (storeLimits s) size es d f p) where
+module _ (s f : Bytes) (es : List Entry) (end : ℕ) (d : Aid) (stand : Entries s (firstEntry s) es end) (size : ℕ)
+    (sound : T (acceptedAll (storeOpening s) size [] es)) (p : Package) (yes-of : LoadYes (storeOpening s) size es d f p) where
   abbrev self : Installed
   self = record { domain = d; pack = p }
 
@@ -35,7 +35,7 @@ module _ (s f : Bytes) (es : List Entry) (end : ℕ) (d : Aid) (stand : Entries 
 
   sane : Sane (storeLimits s) is
   unfolding soundEntries
-  sane = sound-sane (storeLimits s) size es sound
+  sane = sound-sane (storeOpening s) size es sound
 
   -- what was told of a class is so with it
   same-depth : (c : ClassAt) → T (q13-imports is (c .home .pack)) → depthOf s es c ≡ depthOf s (es ++ loaded d f ∷ []) c
@@ -59,7 +59,7 @@ module _ (s f : Bytes) (es : List Entry) (end : ℕ) (d : Aid) (stand : Entries 
   -- of the classes of the others
   pub other-is : (t : List ℕ) → DepthsKept s end t → (h : Home) (x : Installed) → Stored s es h x → (n : ℕ) (k : Class) (i : ℕ) →
       at (x .pack .classes) n ≡ some k → 0 < length (k .parents) → Stands (part s (h .from) (h .to)) n i →
-      depthField t ((h .from + i) / 5) + 1 ≡ depthOf s (es ++ loaded d f ∷ []) (own x n)
+      depthField (depthWidth s) t ((h .from + i) / 5) + 1 ≡ depthOf s (es ++ loaded d f ∷ []) (own x n)
   other-is t kept h x y n k i z ps here =
       kept .told es size stand sound h x y n k i z ps here ∙ same-depth (own x n) (sane .imports x (stored-mem s es h x y))
 

@@ -7,8 +7,8 @@ use mathlib.Core.List.{List, [], _∷_, _++_, List·Memᴰ, List·Memᴰ·head, 
 use lib.Dec.{T}
 use lib.ListN.{length, length-append}
 use Rattle.rules.specs.Bytes.{Bytes, isSome}
-use Rattle.rules.specs.Package.{Limits, storeLimits}
-use Rattle.rules.specs.Store.{Entry, loaded, entryBytes, entriesBytes, openingLength}
+use Rattle.rules.specs.Package.{Limits}
+use Rattle.rules.specs.Store.{Entry, loaded, entryBytes, entriesBytes, firstEntry, storeLimits}
 use Rattle.rules.specs.Classes.{Installed, installedBy, installed, hasAid, byAid, ClassAt, depthUpTo}
 use Rattle.rules.specs.Questions.{q13-imports}
 use Rattle.rules.proofs.Tests.{all-mem, find-some}
@@ -51,7 +51,7 @@ pub data StoredOr (s : Bytes) (es : List Entry) (end : ℕ) (e : Entry) (next : 
   before : Stored s es h x → h .to ≤ end → StoredOr s es end e next h x
   last : loaded (x .domain) (part s (h .from) (h .to)) ≡ e → h .to ≡ next → StoredOr s es end e next h x
 
-pub stored-or : (s : Bytes) (es : List Entry) (end : ℕ) (e : Entry) (next : ℕ) → Entries s openingLength es end → EntryAt s end e next →
+pub stored-or : (s : Bytes) (es : List Entry) (end : ℕ) (e : Entry) (next : ℕ) → Entries s (firstEntry s) es end → EntryAt s end e next →
     (h : Home) (x : Installed) → Stored s (es ++ e ∷ []) h x → StoredOr s es end e next h x
 stored-or s es end e next stand one h x t = elim (last-or e o es (t .pre) (t .post) (t .are)) [
   | inl z ↦ last (z .1) (ends (z .0) (z .1))
@@ -68,8 +68,8 @@ stored-or s es end e next stand one h x t = elim (last-or e o es (t .pre) (t .po
     to : h .before + length (entryBytes o) ≡ h .to
     to = entry-next s (h .before) o (h .to) (t .entry)
 
-    places : (openingLength + length (entriesBytes es) ≡ end) × (openingLength + length (entriesBytes (t .pre)) ≡ h .before)
-    places = (entries-next s openingLength es end stand, entries-next s openingLength (t .pre) (h .before) (t .stand))
+    places : ((firstEntry s) + length (entriesBytes es) ≡ end) × ((firstEntry s) + length (entriesBytes (t .pre)) ≡ h .before)
+    places = (entries-next s (firstEntry s) es end stand, entries-next s (firstEntry s) (t .pre) (h .before) (t .stand))
 
     ends : t .pre ≡ es → o ≡ e → h .to ≡ next
     ends p q =

@@ -9,8 +9,8 @@ use lib.Dec.{T, leb, eqb}
 use lib.ListN.{length, drop, getD}
 use borrow.Author.Tests.{eqb-true, eqb-false}
 use Rattle.rules.specs.Bytes.{Bytes, Aid, pick, all, at, count, isSome, someAnd, _andThen_}
-use Rattle.rules.specs.Package.{storeLimits, ClassNumber, Class}
-use Rattle.rules.specs.Store.{Entry}
+use Rattle.rules.specs.Package.{ClassNumber, Class}
+use Rattle.rules.specs.Store.{Entry, storeLimits}
 use Rattle.rules.specs.Classes.{Installed, installed, byAid, packageNumbered, recordOf, classNamed}
 use Rattle.rules.specs.Questions.{own, parentExists, parentIsKind0}
 use Rattle.rules.proofs.Tests.{and-l, all-mem, allFrom-zero}

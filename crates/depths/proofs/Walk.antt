@@ -8,7 +8,8 @@ use mathlib.Core.Option.{some}
 use lib.ListN.{drop, getD}
 use borrow.Author.Tests.{le-leb, lt-leb}
 use Rattle.rules.specs.Bytes.{Bytes, listOf}
-use Rattle.rules.specs.Package.{storeLimits, ClassNumber, Class}
+use Rattle.rules.specs.Package.{ClassNumber, Class}
+use Rattle.rules.specs.Store.{storeLimits}
 use Rattle.rules.specs.Classes.{Installed, installed, ClassAt, classNamed, parentsNamed, parentsOf, greatest, depthUpTo}
 use Rattle.rules.specs.Questions.{own}
 use Rattle.rules.proofs.Limits.{limits-range}

@@ -47,11 +47,11 @@ pub three-inside : (g : Bytes) (i : ℕ) → ClassThere g i → i + 2 < length g
 three-inside g i t = omega (arith, class-five (formatOf (t .0) g) (t .1) g i (t .2 .0) (t .2 .1) (t .2 .2), t .2 .2 .to)
 
 -- what is written, by its cases
-module _ (t : List ℕ) (place parents depth j : ℕ) where
-  pub keep-none : parents ≡ 0 → depthField t j ≡ keptField t place parents depth j
+module _ (w : ℕ) (t : List ℕ) (place parents depth j : ℕ) where
+  pub keep-none : parents ≡ 0 → depthField w t j ≡ keptField w t place parents depth j
   keep-none e = rw (eq-eqb parents 0 e) refl
 
-  pub keep-some : (parents ≡ 0 → ⊥) → withField (depthField t) (place / 5) (depth - 1) j ≡ keptField t place parents depth j
+  pub keep-some : (parents ≡ 0 → ⊥) → withField (depthField w t) (place / 5) (depth - 1) j ≡ keptField w t place parents depth j
   keep-some e = rw (ne-eqb parents 0 e) refl
 
 module _ (g : Bytes) (r : Readable g) where
@@ -86,44 +86,44 @@ stands-class l g p n i k e q s = record { inside = inside; rest = rest }
       | no h ↦ omega arith
     ]
 
-module _ (g : Bytes) (from : ℕ) (ds : List ℕ) where
-  pub kept-start : (t : List ℕ) → FileKeptTo g from ds t 0
+module _ (w : ℕ) (g : Bytes) (from : ℕ) (ds : List ℕ) where
+  pub kept-start : (t : List ℕ) → FileKeptTo w g from ds t 0
   kept-start t m i h = absurd (omega arith)
 
-  module _ (r : Readable g) (fit : DepthsFit g ds) (old new : List ℕ) (n i : ℕ) (s : Stands g n i)
-      (w : (j : ℕ) → depthField new j ≡ keptField old (from + i) (getD g (i + 1) 0) (getD ds n 0) j) where
-    same : (j : ℕ) → (j ≡ (from + i) / 5 → ⊥) → depthField new j ≡ depthField old j
+  module _ (r : Readable g) (fit : DepthsFit w g ds) (old new : List ℕ) (n i : ℕ) (s : Stands g n i)
+      (put : (j : ℕ) → depthField w new j ≡ keptField w old (from + i) (getD g (i + 1) 0) (getD ds n 0) j) where
+    same : (j : ℕ) → (j ≡ (from + i) / 5 → ⊥) → depthField w new j ≡ depthField w old j
     unfolding withField
-    same j ne = w j ∙ go (eqb (getD g (i + 1) 0) 0)
+    same j ne = put j ∙ go (eqb (getD g (i + 1) 0) 0)
       where
-        go : (b : Bool) → pick b (depthField old j) (pick (eqb j ((from + i) / 5)) (getD ds n 0 - 1) (depthField old j)) ≡ depthField old j
+        go : (b : Bool) → pick b (depthField w old j) (pick (eqb j ((from + i) / 5)) (getD ds n 0 - 1) (depthField w old j)) ≡ depthField w old j
         go true = refl
         go false = rw (ne-eqb j ((from + i) / 5) ne) refl
 
-    here : 0 < getD g (i + 1) 0 → depthField new ((from + i) / 5) + 1 ≡ getD ds n 0
+    here : 0 < getD g (i + 1) 0 → depthField w new ((from + i) / 5) + 1 ≡ getD ds n 0
     unfolding withField
     here h =
         let z : getD g (i + 1) 0 ≡ 0 → ⊥ = λ e. omega (arith, e, h) in
-        let e : depthField new ((from + i) / 5) ≡ getD ds n 0 - 1 = w ((from + i) / 5) ∙ ap
-        (λ (b : Bool). pick b (depthField old ((from + i) / 5)) (pick (eqb ((from + i) / 5) ((from + i) / 5)) (getD ds n 0 - 1)
-        (depthField old ((from + i) / 5)))) (ne-eqb (getD g (i + 1) 0) 0 z) ∙ ap (λ (b : Bool). pick b (getD ds n 0 - 1) (depthField old ((from + i) / 5)))
+        let e : depthField w new ((from + i) / 5) ≡ getD ds n 0 - 1 = put ((from + i) / 5) ∙ ap
+        (λ (b : Bool). pick b (depthField w old ((from + i) / 5)) (pick (eqb ((from + i) / 5) ((from + i) / 5)) (getD ds n 0 - 1)
+        (depthField w old ((from + i) / 5)))) (ne-eqb (getD g (i + 1) 0) 0 z) ∙ ap (λ (b : Bool). pick b (getD ds n 0 - 1) (depthField w old ((from + i) / 5)))
         (eq-eqb ((from + i) / 5) ((from + i) / 5) refl) in
         omega (arith, e, (fit .fit n i s h) .0)
 
-    pub kept-more : FileKeptTo g from ds old n → FileKeptTo g from ds new (n + 1)
+    pub kept-more : FileKeptTo w g from ds old n → FileKeptTo w g from ds new (n + 1)
     kept-more k m a h q z = elim (decLe n m) [
       | yes o ↦ let e : n ≡ m = omega (arith, h) in let j : i ≡ a = stands-one g r m i a (subst (λ (v : ℕ). Stands g v i) e s) q in subst
-          (λ (v : ℕ). depthField new ((from + v) / 5) + 1 ≡ getD ds m 0) j (subst (λ (v : ℕ). depthField new ((from + i) / 5) + 1 ≡ getD ds v 0) e (here (rw j z)))
+          (λ (v : ℕ). depthField w new ((from + v) / 5) + 1 ≡ getD ds m 0) j (subst (λ (v : ℕ). depthField w new ((from + i) / 5) + 1 ≡ getD ds v 0) e (here (rw j z)))
       | no o ↦
           let p = stands-apart g r m a n i q s (omega arith) in
           ap (λ (v : ℕ). v + 1) (same ((from + a) / 5) (λ e. omega (arith, e, p, z))) ∙ k m a (omega arith) q z
     ]
 
-    pub below-more : (j : ℕ) → j < from / 5 → depthField new j ≡ depthField old j
+    pub below-more : (j : ℕ) → j < from / 5 → depthField w new j ≡ depthField w old j
     below-more j h = same j (λ e. omega (arith, e, h))
 
   -- behind the last class
-  pub kept-done : (t : List ℕ) (n i : ℕ) → Readable g → Stands g n i → length g ≤ i → FileKeptTo g from ds t n → FileKept g from ds t
+  pub kept-done : (t : List ℕ) (n i : ℕ) → Readable g → Stands g n i → length g ≤ i → FileKeptTo w g from ds t n → FileKept w g from ds t
   kept-done t n i r s h k m a q z = elim (decLe n m) [
     | yes o ↦ absurd (behind o)
     | no o ↦ k m a (omega arith) q z

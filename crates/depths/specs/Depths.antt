@@ -12,13 +12,13 @@
 -- capped most d                 == a number, or the limit where it is more
 -- depthOf s es c                == the depth of a class, told up to one more than the limit
 -- DepthIs, DeepestIs            == the depth of a class; the greatest of its parents'
--- depthWidth                    == the bits of a depth in the table, which holds one less: enough for the depth limit
--- depthField t j                == field j of the table; depthsLength s == how many bytes it takes
+-- widthFor most, depthWidth s   == the bits of a depth in the table, which holds one less: enough for a depth limit, for that of s
+-- depthField w t j              == field j, of w bits, of the table; depthsLength s == how many bytes it takes
 -- DepthsKept s end t            == field (place of its record in s) / 5 of t is one less than the depth, for each class with a parent of the entries before end
--- toldDepth own t from i c n    == the depth of class c with n parents whose record stands at i: by the own depths where from is 0, else by the table
+-- toldDepth w own t from i c n  == the depth of class c with n parents whose record stands at i: by the own depths where from is 0, else by the table
 -- OwnTo f s end n own           == the depths of the own classes below n are these; OwnDepths == of all own classes
 -- keptField, DepthsFit          == what a write does to the fields; the depths that a file may have
--- FileKept g from depths t      == the table has the depths of the classes of the file g that have a parent; FileKeptTo == below class n
+-- FileKept w g from depths t    == the table has the depths of the classes of the file g that have a parent; FileKeptTo == below class n
 -- ParentedIs                    == question 14 and the depth figure; LaterParts == its second and third part
 use Prim.Native.Nat.{ℕ, suc, _+_, _-_, _*_, _/_, _^_, _≤_, _<_}
 use mathlib.Core.Path.{_≡_}
@@ -28,8 +28,8 @@ use mathlib.Core.Option.{some}
 use lib.Dec.{T, leb, eqb}
 use lib.ListN.{length, getD}
 use Rattle.rules.specs.Bytes.{Bytes, pick, all, allFrom, at, count}
-use Rattle.rules.specs.Package.{Limits, storeLimits, mostClasses, ClassNumber, Class, Package, readFile}
-use Rattle.rules.specs.Store.{Entry, openingLength}
+use Rattle.rules.specs.Package.{Limits, mostClasses, ClassNumber, Class, Package, readFile}
+use Rattle.rules.specs.Store.{Entry, firstEntry, storeLimits, storeOpening}
 use Rattle.rules.specs.Classes.{Installed, installed, ClassAt, classNamed, parentsNamed, greatest, depthUpTo}
 use Rattle.rules.specs.Questions.{own, parentExists, parentIsKind0, parentKinds, depthWithin, q14-parents}
 use Rattle.rules.specs.Operations.{acceptedAll, deepestFrom}
@@ -124,27 +124,31 @@ DepthIs f s end h n r = OfClass f s end h n λ es self x k. r ≡ depthOf s es (
 abbrev pub DeepestIs : Bytes → Bytes → ℕ → Home → ℕ → ℕ → Type 0
 DeepestIs f s end h n r = OfClass f s end h n λ es self x k. r ≡ greatest (depthOf s es) (parentsNamed (installed (storeLimits s) es) x (k .parents))
 
--- the bits of a depth in the table, and the field with a number
-abbrev pub depthWidth : ℕ
-depthWidth = 3
+-- the bits of a depth in the table: three hold 1 to 8, four 1 to 16
+abbrev pub widthFor : ℕ → ℕ
+widthFor most = pick (leb most 8) 3 4
 
-abbrev pub depthField : List ℕ → ℕ → ℕ
-depthField t j = fieldAt depthWidth t j
+abbrev pub depthWidth : Bytes → ℕ
+depthWidth s = widthFor (storeLimits s .depth)
+
+-- the field with a number
+abbrev pub depthField : ℕ → List ℕ → ℕ → ℕ
+depthField w t j = fieldAt w t j
 
 -- how many bytes the table takes: a field for each five bytes of the store, and a byte to read two from any place
 abbrev pub depthsLength : Bytes → ℕ
-depthsLength s = length s / 5 * depthWidth / 8 + 2
+depthsLength s = length s / 5 * depthWidth s / 8 + 2
 
 -- the table of the depths of the classes of sound entries that end at a place
 pub record DepthsKept (s : Bytes) (end : ℕ) (t : List ℕ) : Type 0 where
   pub room : depthsLength s ≤ length t
-  pub told : (es : List Entry) (size : ℕ) → Entries s openingLength es end → T (acceptedAll (storeLimits s) size [] es) →
+  pub told : (es : List Entry) (size : ℕ) → Entries s (firstEntry s) es end → T (acceptedAll (storeOpening s) size [] es) →
       (h : Home) (x : Installed) → Stored s es h x → (n : ℕ) (k : Class) (i : ℕ) → at (x .pack .classes) n ≡ some k → 0 < length (k .parents) →
-      Stands (part s (h .from) (h .to)) n i → depthField t ((h .from + i) / 5) + 1 ≡ depthOf s es (own x n)
+      Stands (part s (h .from) (h .to)) n i → depthField (depthWidth s) t ((h .from + i) / 5) + 1 ≡ depthOf s es (own x n)
 
 -- the depth that is told of a class
-abbrev pub toldDepth : List ℕ → List ℕ → ℕ → ℕ → ℕ → ℕ → ℕ
-toldDepth own t from i c n = pick (eqb from 0) (getD own c 0) (pick (eqb n 0) 1 (depthField t ((from + i) / 5) + 1))
+abbrev pub toldDepth : ℕ → List ℕ → List ℕ → ℕ → ℕ → ℕ → ℕ → ℕ
+toldDepth w own t from i c n = pick (eqb from 0) (getD own c 0) (pick (eqb n 0) 1 (depthField w t ((from + i) / 5) + 1))
 
 -- the depths of the own classes below n
 pub record OwnTo (f s : Bytes) (end n : ℕ) (depths : List ℕ) : Type 0 where
@@ -184,18 +188,18 @@ OwnTold f s end depths No = Unit {0}
 OwnTold f s end depths (Yes d) = OwnDepths f s end depths
 
 -- field j after the depth of a class was written, where it has parents
-abbrev pub keptField : List ℕ → ℕ → ℕ → ℕ → ℕ → ℕ
-keptField t place parents depth j = pick (eqb parents 0) (depthField t j) (withField (depthField t) (place / 5) (depth - 1) j)
+abbrev pub keptField : ℕ → List ℕ → ℕ → ℕ → ℕ → ℕ → ℕ
+keptField w t place parents depth j = pick (eqb parents 0) (depthField w t j) (withField (depthField w t) (place / 5) (depth - 1) j)
 
 -- of each class of a file that has a parent, a depth that the table can hold; and one for each class
-pub record DepthsFit (g : Bytes) (depths : List ℕ) : Type 0 where
+pub record DepthsFit (w : ℕ) (g : Bytes) (depths : List ℕ) : Type 0 where
   pub size : length depths ≡ mostClasses
-  pub fit : (n i : ℕ) → Stands g n i → 0 < getD g (i + 1) 0 → (1 ≤ getD depths n 0) × (getD depths n 0 ≤ 2 ^ depthWidth)
+  pub fit : (n i : ℕ) → Stands g n i → 0 < getD g (i + 1) 0 → (1 ≤ getD depths n 0) × (getD depths n 0 ≤ 2 ^ w)
 
 -- the table has the depths of the classes of a file that have a parent, below class n; the file starts at a place of the store
-abbrev pub FileKeptTo : Bytes → ℕ → List ℕ → List ℕ → ℕ → Type 0
-FileKeptTo g from depths t n = (m i : ℕ) → m < n → Stands g m i → 0 < getD g (i + 1) 0 → depthField t ((from + i) / 5) + 1 ≡ getD depths m 0
+abbrev pub FileKeptTo : ℕ → Bytes → ℕ → List ℕ → List ℕ → ℕ → Type 0
+FileKeptTo w g from depths t n = (m i : ℕ) → m < n → Stands g m i → 0 < getD g (i + 1) 0 → depthField w t ((from + i) / 5) + 1 ≡ getD depths m 0
 
 -- of all its classes
-abbrev pub FileKept : Bytes → ℕ → List ℕ → List ℕ → Type 0
-FileKept g from depths t = (m i : ℕ) → Stands g m i → 0 < getD g (i + 1) 0 → depthField t ((from + i) / 5) + 1 ≡ getD depths m 0
+abbrev pub FileKept : ℕ → Bytes → ℕ → List ℕ → List ℕ → Type 0
+FileKept w g from depths t = (m i : ℕ) → Stands g m i → 0 < getD g (i + 1) 0 → depthField w t ((from + i) / 5) + 1 ≡ getD depths m 0

@@ -5,16 +5,14 @@ use files::Spot;
 ghost use mathlib.Core.Path.{_≡_};
 ghost use Prim.Native.Nat.{ℕ, suc, max, _+_, _*_, _/_, _^_, _≤_, _<_};
 ghost use lib.ListN.{length, getD};
-ghost use Rattle.rules.specs.Package.{storeLimits, mostClasses};
+ghost use Rattle.rules.specs.Package.{mostClasses};
+ghost use Rattle.rules.specs.Store.{storeLimits};
 ghost use Rattle.files.specs.Say.{Readable};
 ghost use Rattle.store.specs.Entries.{part};
 ghost use Rattle.homes.specs.Homes.{ownHome};
 ghost use Rattle.homes.specs.Found.{ImportHomes};
 ghost use Rattle.named.specs.Named.{Judged, homeOf, PackageThere, ClassFrom, RowsTrue};
-ghost use Rattle.depths.specs.Depths.{ParentsThere, ImportCount, ExistsIs, AllExist, ParentsExist, ClassThere, Kind0Is, Kind0Count, capped, DepthIs, DeepestIs, depthWidth, depthField, depthsLength, DepthsKept, toldDepth, OwnTo, OwnIs, LaterParts, ParentedIs, OwnTold, keptField, DepthsFit, FileKept};
-
-// The bits of a depth in the table, which holds one less: enough for the depth limit.
-const WIDTH: usize = 3;
+ghost use Rattle.depths.specs.Depths.{ParentsThere, ImportCount, ExistsIs, AllExist, ParentsExist, ClassThere, Kind0Is, Kind0Count, capped, DepthIs, DeepestIs, widthFor, depthWidth, depthField, depthsLength, DepthsKept, toldDepth, OwnTo, OwnIs, LaterParts, ParentedIs, OwnTold, keptField, DepthsFit, FileKept};
 
 // The answer to question 14: no, or yes with the depth of the deepest class, 0 where there is none.
 pub enum Parented {
@@ -37,9 +35,10 @@ pub struct Own {
     pub place: usize,
 }
 
-// A class as it is listed: where the earlier entries end, its package number and its class number.
+// A class as it is listed: where the earlier entries end, the bits of a depth in the table, its package number and its class number.
 pub struct Listed {
     pub end: usize,
+    pub width: usize,
     pub pack: usize,
     pub class: usize,
 }
@@ -54,6 +53,13 @@ pub struct Parent {
 pub struct Told {
     pub kind0: usize,
     pub depth: usize,
+}
+
+// The bits of a depth in the table, which holds one less: enough for a depth limit.
+fn width_of(most: usize) -> usize
+    ensures { λ r. ⌜ r ≡ widthFor most ⌝ }
+{
+    if most <= 8 { 3 } else { 4 }
 }
 
 // The import count of a file.
@@ -191,9 +197,18 @@ fn flag(kind: usize) -> usize
 }
 
 // The depth that is told of class c with so many parents, whose record stands at a place of the file that starts at `from`.
-fn depth_told(t: &[u8], depths: &[u8], from: usize, place: usize, c: usize, parents: usize) -> usize
-    requires { ⌜ (from ≡ 0 → c < length (now depths)) × (0 < from → (from + place < 65536) × ((from + place) / 5 * depthWidth / 8 + 1 < length (now t))) ⌝ }
-    ensures { λ r. ⌜ (r ≡ toldDepth (now (depths .entry)) (now (t .entry)) from place c parents) × (r < 256) ⌝ }
+fn depth_told(
+    t: &[u8],
+    width: usize,
+    depths: &[u8],
+    from: usize,
+    place: usize,
+    c: usize,
+    parents: usize,
+) -> usize
+    requires { ⌜ (from ≡ 0 → c < length (now depths)) × (0 < from → (from + place < 65536) × ((from + place) / 5 * width / 8 + 1 < length (now t))) ⌝ }
+    requires { ⌜ width ≤ 4 ⌝ }
+    ensures { λ r. ⌜ (r ≡ toldDepth width (now (depths .entry)) (now (t .entry)) from place c parents) × (r < 256) ⌝ }
 {
     if from == 0 {
         return wide(depths[c]);
@@ -201,7 +216,7 @@ fn depth_told(t: &[u8], depths: &[u8], from: usize, place: usize, c: usize, pare
     if parents == 0 {
         return 1;
     }
-    bits::field_get(t, WIDTH, (from + place) / 5) + 1
+    bits::field_get(t, width, (from + place) / 5) + 1
 }
 
 // Kind and depth of a class that an own class lists as a parent.
@@ -217,7 +232,7 @@ fn parent_told<'a>(
     requires { ⌜ ImportHomes (now f) (now s) (x .end) (now homes) × PackageThere (now f) (x .pack) ⌝ }
     requires { ⌜ ClassThere (now f) (now s) (x .end) (homeOf (x .end) (now homes) (x .pack)) (x .class) ⌝ }
     requires { ⌜ RowsTrue (now f) (now s) (x .end) (now homes) (now rows) ⌝ }
-    requires { ⌜ DepthsKept (now s) (x .end) (now t) × (length (now s) ≤ 65535) ⌝ }
+    requires { ⌜ DepthsKept (now s) (x .end) (now t) × (length (now s) ≤ 65535) × (x .width ≡ depthWidth (now s)) ⌝ }
     requires { ⌜ (x .pack ≡ 0 → (x .class < length (now depths)) × DepthIs (now f) (now s) (x .end) (ownHome (x .end)) (x .class) (getD (now depths) (x .class) 0)) ⌝ }
     ensures { λ r. ⌜ Kind0Is (now (f .entry)) (now (s .entry)) (x .end) (homeOf (x .end) (now (homes .entry)) (x .pack)) (x .class) (r .kind0) × (r .kind0 ≤ 1) ⌝ }
     ensures { λ r. ⌜ DepthIs (now (f .entry)) (now (s .entry)) (x .end) (homeOf (x .end) (now (homes .entry)) (x .pack)) (x .class) (r .depth) × (r .depth < 256) ⌝ }
@@ -228,7 +243,7 @@ fn parent_told<'a>(
     match named::stands_at(g, rows, 32 * x.pack, x.class) {
         Spot::At(i) => Told {
             kind0: flag(wide(g[i])),
-            depth: depth_told(t, depths, h.from, i, x.class, wide(g[i + 1])),
+            depth: depth_told(t, x.width, depths, h.from, i, x.class, wide(g[i + 1])),
         },
         Spot::Nothing => Told { kind0: 0, depth: 0 },
     }
@@ -266,11 +281,13 @@ fn own_parents<'a>(
     requires { ⌜ ImportCount (now f) (o .imports) × ClassFrom (now f) (o .number) (o .place) ⌝ }
     requires { ⌜ RowsTrue (now f) (now s) (o .end) (now homes) (now rows) ⌝ }
     requires { ⌜ DepthsKept (now s) (o .end) (now t) × (length (now s) ≤ 65535) × OwnTo (now f) (now s) (o .end) (o .number) (now depths) ⌝ }
+    requires { ⌜ o .most ≡ storeLimits (now s) .depth ⌝ }
     ensures { λ r. ⌜ Kind0Count (now (f .entry)) (now (s .entry)) (o .end) (ownHome (o .end)) (o .number) (r .kind0) ⌝ }
     ensures { λ r. ⌜ DeepestIs (now (f .entry)) (now (s .entry)) (o .end) (ownHome (o .end)) (o .number) (r .depth) ⌝ }
     ensures { λ _. ⌜ RowsTrue (now (f .entry)) (now (s .entry)) (o .end) (now (homes .entry)) (now (rows .exit)) ⌝ }
 {
     let k = parent_count(f, o.place);
+    let width = width_of(o.most);
     let mut i = 0;
     let mut found = 0;
     let mut deepest = 0;
@@ -278,6 +295,7 @@ fn own_parents<'a>(
         let x = parent_at(f, o.place, i);
         let y = Listed {
             end: o.end,
+            width: width,
             pack: x.pack,
             class: x.class,
         };
@@ -399,28 +417,30 @@ pub fn parents_ok<'a>(
 }
 
 // Writes the depth of a class whose record stands at a place of the store to the table, where it has parents.
-fn keep(t: &mut [u8], place: usize, parents: usize, depth: u8)
-    requires { ⌜ (0 < parents → (1 ≤ depth) × (depth ≤ 2 ^ depthWidth) × (place < 65536) × (place / 5 * depthWidth / 8 + 1 < length (now t))) ⌝ }
-    ensures { λ _. ⌜ ((j : ℕ) → depthField (now (t .exit)) j ≡ keptField (now (t .entry)) place parents depth j) ⌝ }
+fn keep(t: &mut [u8], width: usize, place: usize, parents: usize, depth: u8)
+    requires { ⌜ (0 < parents → (1 ≤ depth) × (depth ≤ 2 ^ width) × (place < 65536) × (place / 5 * width / 8 + 1 < length (now t))) × (width ≤ 4) ⌝ }
+    ensures { λ _. ⌜ ((j : ℕ) → depthField width (now (t .exit)) j ≡ keptField width (now (t .entry)) place parents depth j) ⌝ }
 {
     if parents == 0 {
         return;
     }
-    bits::field_put(t, WIDTH, place / 5, depth as usize - 1);
+    bits::field_put(t, width, place / 5, depth as usize - 1);
 }
 
 // Writes the depths of the classes of the file between two places of the store to the table; no field before the file is changed.
 pub fn keep_depths(s: &[u8], t: &mut [u8], depths: &[u8], from: usize, to: usize)
     requires { ⌜ (from ≤ to) × (to ≤ length (now s)) × (depthsLength (now s) ≤ length (now t)) × (length (now s) ≤ 65535) ⌝ }
-    requires { ⌜ Readable (part (now s) from to) × DepthsFit (part (now s) from to) (now depths) ⌝ }
-    ensures { λ _. ⌜ FileKept (part (now (s .entry)) from to) from (now (depths .entry)) (now (t .exit)) ⌝ }
-    ensures { λ _. ⌜ ((j : ℕ) → j < from / 5 → depthField (now (t .exit)) j ≡ depthField (now (t .entry)) j) ⌝ }
+    requires { ⌜ Readable (part (now s) from to) × DepthsFit (depthWidth (now s)) (part (now s) from to) (now depths) ⌝ }
+    ensures { λ _. ⌜ FileKept (depthWidth (now (s .entry))) (part (now (s .entry)) from to) from (now (depths .entry)) (now (t .exit)) ⌝ }
+    ensures { λ _. ⌜ ((j : ℕ) → j < from / 5 → depthField (depthWidth (now (s .entry))) (now (t .exit)) j ≡ depthField (depthWidth (now (s .entry))) (now (t .entry)) j) ⌝ }
 {
     let g = &s[from..to];
+    let limits = store::openings::limits_of(s);
+    let width = width_of(limits.depth);
     let mut n = 0;
     let mut i = files::classes_at(g) + 1;
     while i < g.len() {
-        keep(t, from + i, wide(g[i + 1]), depths[n]);
+        keep(t, width, from + i, wide(g[i + 1]), depths[n]);
         i = files::after_class(g, i);
         n += 1;
     }

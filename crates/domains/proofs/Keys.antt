@@ -11,10 +11,11 @@ use lib.Seq.{getD-set-same}
 use borrow.Author.Tests.{le-leb, lt-leb}
 use Rattle.rules.specs.Bytes.{Bytes, Aid, any, same, aidLength}
 use Rattle.rules.specs.Code.{u2At}
-use Rattle.rules.specs.Store.{Entry, domain, loaded, openingLength}
+use Rattle.rules.specs.Store.{Entry, domain, loaded, firstEntry}
 use Rattle.rules.specs.Questions.{q3-lengths, q4-new, q5-created}
 use Rattle.rules.specs.Operations.{isDomain}
 use Rattle.rules.proofs.Tests.{none-some, and-l, and-r, of-true, is-true, same-eq, same-refl}
+use Rattle.rules.proofs.Limits.{first-entry}
 use Rattle.store.specs.Entries.{part, EntryAt, Entries, StandFrom}
 use Rattle.store.proofs.Parts.{part-length}
 use Rattle.store.proofs.Stand.{EntryBy, KindBy, kind1, kind2, entry-by, kind-by, entry-next, entry-later, entries-to}
@@ -36,7 +37,7 @@ key-is a (loaded d f) h = absurd (none-some h)
 
 -- 5 by the test
 created-any : (es : List Entry) (a : Aid) → q5-created es a ≡ any (isDomain a) es
-created-any es a = created-place openingLength es a ∙ place-any (isDomain a) openingLength es
+created-any es a = created-place 0 es a ∙ place-any (isDomain a) 0 es
 
 -- 3 of one AID
 pub one-length : (a : Aid) → q3-lengths (a ∷ []) ≡ aidLength (length a)
@@ -99,9 +100,9 @@ module _ (s : Bytes) (at next : ℕ) (a : Aid) (t : EntryAt s at (domain a) next
         let f : at + 2 + 1 + (next - (at + 3)) ≡ next = omega (arith, entry-later s at (domain a) next t) in
         sym (key-part s at (at + 2) (next - (at + 3)) (sym place) (sym low)) ∙ ap₂ (part s) e f ∙ sym (domain-by .1)
 
-    pub domain-keyed : openingLength ≤ at → Keyed s at
+    pub domain-keyed : (firstEntry s) ≤ at → Keyed s at
     domain-keyed g = record {
-      real = omega arith;
+      real = omega (arith, (first-entry s) .0);
       head = omega (arith, domain-long, range .0, t .to);
       whole = omega (arith, place, ap (λ (i : ℕ). getD s i 0) place, low, domain-long, range .0, t .to);
     }
@@ -111,15 +112,15 @@ module _ (s : Bytes) (at next : ℕ) (a : Aid) (t : EntryAt s at (domain a) next
 
 module _ (s : Bytes) (at : ℕ) (l : List ℕ) (d : DomainsIs s at l) where
   -- looking for an AID
-  pub found-created : (a : Aid) (q : ℕ) → Found s l a q → (pre : List Entry) → Entries s openingLength pre at →
+  pub found-created : (a : Aid) (q : ℕ) → Found s l a q → (pre : List Entry) → Entries s (firstEntry s) pre at →
       (0 < q → q5-created pre a ≡ true) × (q ≡ 0 → q5-created pre a ≡ false)
   found-created a q w pre r = (
     λ h. let x = w .there h in created-any pre a ∙ found-any domainKey s at l (d .table) a (isDomain a) (key-is a) q (x .0) (x .1) pre r,
     λ h. created-any pre a ∙ found-none domainKey s at l (d .table) a (isDomain a) (is-key a) (w .missing h) pre r,
   )
 
-  behind : openingLength ≤ at
-  behind = (entries-to s openingLength (d .table .behind .0) at (d .table .behind .1)) .0
+  behind : (firstEntry s) ≤ at
+  behind = (entries-to s (firstEntry s) (d .table .behind .0) at (d .table .behind .1)) .0
 
   -- entering a domain
   module _ (next : ℕ) (a : Aid) (t : EntryAt s at (domain a) next) (h : aidLength (length a) ≡ true) where
@@ -127,7 +128,7 @@ module _ (s : Bytes) (at : ℕ) (l : List ℕ) (d : DomainsIs s at l) where
     enter-keyed = domain-keyed s at next a t h behind
 
     enter-room : (count l + 1 < length l) × (count l + 1 ≤ length s)
-    enter-room = (omega (arith, domain-room s at next a t h, d .room, d .few, t .to), omega (arith, domain-room s at next a t h, d .few, t .to))
+    enter-room = (omega (arith, domain-room s at next a t h, d .room, d .few, t .to, (first-entry s) .0), omega (arith, domain-room s at next a t h, d .few, t .to))
 
     -- it may be entered
     pub enter-ready : length s ≤ 65535 → (Sorted s l × Keyed s at × (at < 65536)) × ((count l + 1 < length l) × (count l < 65535))
@@ -169,17 +170,17 @@ module _ (s : Bytes) (at : ℕ) (l : List ℕ) (d : DomainsIs s at l) where
   )
 
 -- the table before the first entry
-pub domains-start : (s : Bytes) (l : List ℕ) → 7 ≤ length s → length s ≤ 8 * length l → count l ≡ 0 → DomainsIs s openingLength l
-domains-start s l h g e = record { table = table-start domainKey s l h (omega arith) e; room = g; few = omega arith }
+pub domains-start : (s : Bytes) (l : List ℕ) → firstEntry s ≤ length s → length s ≤ 8 * length l → count l ≡ 0 → DomainsIs s (firstEntry s) l
+domains-start s l h g e = record { table = table-start domainKey s l h (omega (arith, (first-entry s) .0)) e; room = g; few = omega arith }
 
 -- the first number of a table set to 0
-module _ (s : Bytes) (end : ℕ) (l : List ℕ) (t : StandFrom s 7 end) (g : length s ≤ 8 * length l) where
+module _ (s : Bytes) (end : ℕ) (l : List ℕ) (t : StandFrom s (firstEntry s) end) (g : length s ≤ 8 * length l) where
   pub table-room : 0 < length l
-  table-room = let b = entries-to s 7 (t .0) end (t .1) in omega (arith, b .0, b .1)
+  table-room = let b = entries-to s (firstEntry s) (t .0) end (t .1) in omega (arith, b .0, b .1, (first-entry s) .0)
 
-  pub domains-zero : DomainsIs s openingLength (set l 0 0)
+  pub domains-zero : DomainsIs s (firstEntry s) (set l 0 0)
   domains-zero =
-      let b = entries-to s 7 (t .0) end (t .1) in
+      let b = entries-to s (firstEntry s) (t .0) end (t .1) in
       domains-start s (set l 0 0) (omega (arith, b .0, b .1)) (omega (arith, length-set l 0 0)) (getD-set-same l 0 0 0 table-room)
 
 -- and behind a package's entry

@@ -6,7 +6,7 @@ use mathlib.Core.Bool.{Bool, true, false, _&&_}
 use mathlib.Core.List.{List, [], _∷_, _++_, append-assoc}
 use lib.ListN.{length}
 use Rattle.rules.specs.Bytes.{Bytes}
-use Rattle.rules.specs.Store.{Entry, domain, loaded}
+use Rattle.rules.specs.Store.{Entry, domain, loaded, firstEntry}
 use Rattle.store.specs.Entries.{part, EntryAt, Entries, StandFrom, FirstIs}
 use Rattle.store.specs.Answers.{PartAt}
 use Rattle.store.specs.declared.EntryPart.the-variants as parts
@@ -20,17 +20,17 @@ pub record Passed (s : Bytes) (end at : ℕ) (es : List Entry) : Type 0 where
   pub pre : List Entry
   pub rest : List Entry
   pub are : es ≡ pre ++ rest
-  pub stand : Entries s 7 pre at
+  pub stand : Entries s (firstEntry s) pre at
   pub domains : domainsAccepted [] pre ≡ true
   pub behind : Entries s at rest end
 
 abbrev pub Passing : Bytes → ℕ → ℕ → Type 0
-Passing s end at = (es : List Entry) → Entries s 7 es end → Passed s end at es
+Passing s end at = (es : List Entry) → Entries s (firstEntry s) es end → Passed s end at es
 
-pub passing-start : (s : Bytes) (end : ℕ) → Passing s end 7
+pub passing-start : (s : Bytes) (end : ℕ) → Passing s end (firstEntry s)
 passing-start s end es r =
-    let t = entries-to s 7 es end r in
-    record { pre = []; rest = es; are = refl; stand = Entries.over {i = 7} (omega (arith, t .0, t .1)); domains = refl; behind = r }
+    let t = entries-to s (firstEntry s) es end r in
+    record { pre = []; rest = es; are = refl; stand = Entries.over {i = firstEntry s} (omega (arith, t .0, t .1)); domains = refl; behind = r }
 
 module _ (s : Bytes) (end at : ℕ) (es : List Entry) (g : Passed s end at es) where
   -- what is left of the whole
@@ -44,7 +44,7 @@ module _ (s : Bytes) (end at : ℕ) (es : List Entry) (g : Passed s end at es) w
       pre = g .pre ++ e ∷ [];
       rest = f .rest;
       are = g .are ∙ ap (λ (zs : List Entry). g .pre ++ zs) (f .are) ∙ sym (append-assoc (g .pre) (e ∷ []) (f .rest));
-      stand = entries-more s 7 (g .pre) at e next (g .stand) (f .stands);
+      stand = entries-more s (firstEntry s) (g .pre) at e next (g .stand) (f .stands);
       domains = domains-append [] (g .pre) (e ∷ []) ∙ ap (λ (b : Bool). b && (domainAccepted (g .pre) e && true)) (g .domains) ∙ ap (λ (b : Bool). b && true) a;
       behind = f .after;
     }
@@ -55,12 +55,12 @@ module _ (s : Bytes) (end at : ℕ) (es : List Entry) (g : Passed s end at es) w
 
 -- a turn
 module _ (s : Bytes) (end at : ℕ) (g : Passing s end at) where
-  pub passing-from : StandFrom s 7 end → StandFrom s at end
+  pub passing-from : StandFrom s (firstEntry s) end → StandFrom s at end
   passing-from t = let r = g (t .0) (t .1) in (r .rest, r .behind)
 
   -- at a domain
   module _ (a j : ℕ) (p : PartAt s at end (parts.Domain a j)) where
-    pub domain-first : StandFrom s 7 end → EntryAt s at (domain (part s a j)) j × (a ≤ j) × (at < j) × (j ≤ end)
+    pub domain-first : StandFrom s (firstEntry s) end → EntryAt s at (domain (part s a j)) j × (a ≤ j) × (at < j) × (j ≤ end)
     domain-first t =
         let r = g (t .0) (t .1) in
         let q = p (r .rest) (r .behind) in
@@ -75,7 +75,7 @@ module _ (s : Bytes) (end at : ℕ) (g : Passing s end at) where
 
   -- at a package
   module _ (a m j : ℕ) (p : PartAt s at end (parts.Package a m j)) where
-    pub package-first : StandFrom s 7 end → EntryAt s at (loaded (part s a m) (part s m j)) j × (a ≤ m) × (m ≤ j) × (at < j) × (j ≤ end)
+    pub package-first : StandFrom s (firstEntry s) end → EntryAt s at (loaded (part s a m) (part s m j)) j × (a ≤ m) × (m ≤ j) × (at < j) × (j ≤ end)
     package-first t =
         let r = g (t .0) (t .1) in
         let q = p (r .rest) (r .behind) in

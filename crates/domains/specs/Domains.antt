@@ -5,8 +5,8 @@
 -- DomainsIs s end table  == the domains of the entries that end at place end have been entered, and nothing else
 -- domainAccepted pre e   == 3 and 4 of a domain, 3 and 5 of a package's domain, over the entries pre
 -- domainsAccepted pre es == of each entry, over pre and the earlier ones
--- restAccepted l n pre e == what else is asked of an entry over pre: 21 of a domain, 10 to 17, 24 and 18 to 21 of a package
--- restsAccepted l n pre es == of each entry, over pre and the earlier ones
+-- restAccepted v n pre e == what else is asked of an entry over pre: 21 of a domain, 10 to 17, 24 and 18 to 21 of a package
+-- restsAccepted v n pre es == of each entry, over pre and the earlier ones
 -- EntrySays s at e r     == domainAccepted, over whatever entries end at place at
 -- PackageSays s at d r   == of a package with the domain d
 -- AllSay s end r         == domainsAccepted, of whatever entries end at place end
@@ -18,8 +18,8 @@ use mathlib.Core.Option.{Option, none, some}
 use lib.Dec.{eqb}
 use lib.ListN.{length}
 use Rattle.rules.specs.Bytes.{Bytes, Aid}
-use Rattle.rules.specs.Package.{Limits, readFile}
-use Rattle.rules.specs.Store.{Entry, domain, loaded, openingLength}
+use Rattle.rules.specs.Package.{readFile}
+use Rattle.rules.specs.Store.{Opening, openingLimits, Entry, domain, loaded, firstEntry}
 use Rattle.rules.specs.Questions.{q3-lengths, q4-new, q5-created, q10-marked, q21-fits}
 use Rattle.rules.specs.Operations.{Question, firstNo, packageQuestions}
 use Rattle.store.specs.Entries.{Entries}
@@ -38,7 +38,7 @@ leastDomain = 8
 pub record DomainsIs (s : Bytes) (end : ℕ) (l : List ℕ) : Type 0 where
   pub table : TableOf domainKey s end l
   pub room : length s ≤ leastDomain * length l
-  pub few : leastDomain * count l + openingLength ≤ end
+  pub few : leastDomain * count l + (firstEntry s) ≤ end
 
 -- 3, 4 and 5 of an entry over others
 abbrev pub domainAccepted : List Entry → Entry → Bool
@@ -51,22 +51,22 @@ domainsAccepted pre [] = true
 domainsAccepted pre (e ∷ es) = domainAccepted pre e && domainsAccepted (pre ++ e ∷ []) es
 
 -- a load's questions from 10 on
-abbrev pub from10 : Limits → ℕ → List Entry → Aid → Bytes → List Question
-from10 l n pre d f = (10, q10-marked f) ∷ packageQuestions l n pre d f (readFile l f)
+abbrev pub from10 : Opening → ℕ → List Entry → Aid → Bytes → List Question
+from10 v n pre d f = (10, q10-marked f) ∷ packageQuestions v n pre d f (readFile (openingLimits v) f)
 
 -- what else is asked of an entry over others
-abbrev pub restAccepted : Limits → ℕ → List Entry → Entry → Bool
-restAccepted l n pre (domain a) = q21-fits n pre (domain a)
-restAccepted l n pre (loaded d f) = eqb (firstNo (from10 l n pre d f)) 0
+abbrev pub restAccepted : Opening → ℕ → List Entry → Entry → Bool
+restAccepted v n pre (domain a) = q21-fits v n pre (domain a)
+restAccepted v n pre (loaded d f) = eqb (firstNo (from10 v n pre d f)) 0
 
 -- of each entry, over others and the earlier ones
-abbrev pub restsAccepted : Limits → ℕ → List Entry → List Entry → Bool
-restsAccepted l n pre [] = true
-restsAccepted l n pre (e ∷ es) = restAccepted l n pre e && restsAccepted l n (pre ++ e ∷ []) es
+abbrev pub restsAccepted : Opening → ℕ → List Entry → List Entry → Bool
+restsAccepted v n pre [] = true
+restsAccepted v n pre (e ∷ es) = restAccepted v n pre e && restsAccepted v n (pre ++ e ∷ []) es
 
 -- of an entry, over whatever entries end at a place
 abbrev pub EntrySays : Bytes → ℕ → Entry → Bool → Type 0
-EntrySays s at e r = (pre : List Entry) → Entries s openingLength pre at → r ≡ domainAccepted pre e
+EntrySays s at e r = (pre : List Entry) → Entries s (firstEntry s) pre at → r ≡ domainAccepted pre e
 
 -- of a package with a domain, whatever its file
 abbrev pub PackageSays : Bytes → ℕ → Aid → Bool → Type 0
@@ -74,4 +74,4 @@ PackageSays s at d r = (f : Bytes) → EntrySays s at (loaded d f) r
 
 -- of whatever entries end at a place
 abbrev pub AllSay : Bytes → ℕ → Bool → Type 0
-AllSay s end r = (es : List Entry) → Entries s openingLength es end → r ≡ domainsAccepted [] es
+AllSay s end r = (es : List Entry) → Entries s (firstEntry s) es end → r ≡ domainsAccepted [] es

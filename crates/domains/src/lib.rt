@@ -5,7 +5,7 @@ ghost use mathlib.Core.Bool.{true};
 ghost use Prim.Native.Nat.{_*_, _≤_};
 ghost use lib.ListN.{length};
 ghost use Rattle.rules.specs.Bytes.{aidLength};
-ghost use Rattle.rules.specs.Store.{domain};
+ghost use Rattle.rules.specs.Store.{domain, firstEntry};
 ghost use Rattle.store.specs.Entries.{part, EntryAt, StandFrom};
 ghost use Rattle.domains.specs.Domains.{DomainsIs, EntrySays, PackageSays, AllSay};
 
@@ -50,12 +50,12 @@ fn package_ok(s: &[u8], at: usize, from: usize, file: usize, table: &[u16]) -> b
 
 // Is the domain of each entry up to a place as questions 3 to 5 ask, over the earlier entries?
 pub fn domains_ok(s: &[u8], end: usize, table: &mut [u16]) -> bool
-    requires { ⌜ StandFrom (now s) 7 end ⌝ }
+    requires { ⌜ StandFrom (now s) (firstEntry (now s)) end ⌝ }
     requires { ⌜ (length (now s) ≤ 65535) × (length (now s) ≤ 8 * length (now table)) ⌝ }
     ensures { λ r. ⌜ AllSay (now (s .entry)) end r ⌝ }
 {
     table[0] = 0;
-    let mut at = 7;
+    let mut at = store::openings::first_entry(s);
     loop {
         match store::entry_at(s, at, end) {
             EntryPart::Domain(from, next) => {

@@ -8,8 +8,7 @@ use mathlib.Core.Option.{Option, none, some}
 use lib.Dec.{T}
 use lib.ListN.{length}
 use Rattle.rules.specs.Bytes.{Bytes, Aid, pick, any, isSome}
-use Rattle.rules.specs.Package.{storeLimits}
-use Rattle.rules.specs.Store.{Entry, entryBytes, openingLength}
+use Rattle.rules.specs.Store.{Entry, entryBytes, firstEntry, storeLimits}
 use Rattle.rules.specs.Classes.{Installed, installedBy, installed, byAid}
 use Rattle.rules.specs.Operations.{isPackage}
 use Rattle.rules.proofs.Lists.{flat-append}
@@ -33,10 +32,10 @@ place-front q i (e ∷ es) fs h = go (q e) h (place-front q (i + length (entryBy
     go false k r = r k
 
 -- of the entries es that end at a place, those in front end at another
-module _ (s : Bytes) (end before : ℕ) (a : Aid) (es pre : List Entry) (stand : Entries s openingLength es end)
-    (front : Entries s openingLength pre before) (h : before ≤ end) (here : T (isSome (byAid (installed (storeLimits s) pre) a))) where
+module _ (s : Bytes) (end before : ℕ) (a : Aid) (es pre : List Entry) (stand : Entries s (firstEntry s) es end)
+    (front : Entries s (firstEntry s) pre before) (h : before ≤ end) (here : T (isSome (byAid (installed (storeLimits s) pre) a))) where
   rest : Split s es pre before end
-  rest = entries-split s openingLength es pre before end h front stand
+  rest = entries-split s (firstEntry s) es pre before end h front stand
 
   package-here : any (isPackage (storeLimits s) a) pre ≡ true
   package-here = go (any (isPackage (storeLimits s) a) pre) refl
@@ -57,8 +56,8 @@ module _ (s : Bytes) (end before : ℕ) (a : Aid) (es pre : List Entry) (stand :
 
   pub earlier : (r : HomeFound) → HomeSays s es a r → HomeSays s pre a r
   earlier (At v) p = record {
-    place = sym (place-front (isPackage (storeLimits s) a) openingLength pre (rest .rest) package-here) ∙ ap
-        (placeOf (isPackage (storeLimits s) a) openingLength) (sym (rest .are)) ∙ p .place;
+    place = sym (place-front (isPackage (storeLimits s) a) (firstEntry s) pre (rest .rest) package-here) ∙ ap
+        (placeOf (isPackage (storeLimits s) a) (firstEntry s)) (sym (rest .are)) ∙ p .place;
     home = p .home;
     stands = p .stands;
     inside = p .inside;

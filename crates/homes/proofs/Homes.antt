@@ -9,8 +9,8 @@ use lib.Dec.{T, ltb, eqb, eqb→eq, ltb→lt}
 use lib.ListN.{length, length-append}
 use borrow.Author.Tests.{ne-eqb}
 use Rattle.rules.specs.Bytes.{Bytes, Aid, at, isSome, someAnd}
-use Rattle.rules.specs.Package.{Limits, storeLimits, ClassNumber, Class, readFile}
-use Rattle.rules.specs.Store.{Entry, domain, loaded, entryBytes, entriesBytes, openingLength}
+use Rattle.rules.specs.Package.{ClassNumber, Class, readFile}
+use Rattle.rules.specs.Store.{Opening, openingLimits, Entry, domain, loaded, entryBytes, entriesBytes, firstEntry, storeLimits, storeOpening}
 use Rattle.rules.specs.Classes.{Installed, installedBy, installed, byAid, classNamed, recordOf}
 use Rattle.rules.specs.Questions.{q13-imports, parentExists}
 use Rattle.rules.specs.Operations.{isPackage, accepted, acceptedAll}
@@ -27,13 +27,13 @@ use Rattle.homes.specs.declared.Home.{Home}
 use Rattle.homes.specs.declared.HomeFound.the-variants.{At}
 
 -- the file of each accepted entry reads
-pub all-read : (l : Limits) (n : ℕ) (pre es : List Entry) → T (acceptedAll l n pre es) → AllRead l es
-all-read l n pre [] h = tt
-all-read l n pre (e ∷ es) h = (one e (and-l (accepted l n pre e) _ h), all-read l n (pre ++ e ∷ []) es (and-r (accepted l n pre e) _ h))
+pub all-read : (v : Opening) (n : ℕ) (pre es : List Entry) → T (acceptedAll v n pre es) → AllRead (openingLimits v) es
+all-read v n pre [] h = tt
+all-read v n pre (e ∷ es) h = (one e (and-l (accepted v n pre e) _ h), all-read v n (pre ++ e ∷ []) es (and-r (accepted v n pre e) _ h))
   where
-    one : (e : Entry) → T (accepted l n pre e) → FileReads l e
+    one : (e : Entry) → T (accepted v n pre e) → FileReads (openingLimits v) e
     one (domain a) h = tt
-    one (loaded d f) h = let y = load-yes l n pre d f (eqb→eq _ 0 h) in (y .0, y .1 .q11)
+    one (loaded d f) h = let y = load-yes v n pre d f (eqb→eq _ 0 h) in (y .0, y .1 .q11)
 
 -- a parent that exists and is an own one has a smaller number
 smaller : (is : List Installed) (y : Installed) (n : ℕ) (p : ClassNumber) → T (parentExists is y n p) → p .pack ≡ 0 → p .class < n
@@ -62,27 +62,27 @@ module _ (f s : Bytes) (end : ℕ) (es : List Entry) (self : Installed) where
       let l : length (entriesBytes es) ≡ length (entriesBytes (t .pre)) + length (entriesBytes (e ∷ t .post)) =
       ap (λ (zs : List Entry). length (entriesBytes zs)) (t .are) ∙ ap length (flat-append entryBytes (t .pre) (e ∷ t .post)) ∙ length-append
       (entriesBytes (t .pre)) (entriesBytes (e ∷ t .post)) in
-      omega (arith, entries-next s openingLength es end (g .stand), entries-next s openingLength (t .pre) (h .before) (t .stand), l)
+      omega (arith, entries-next s (firstEntry s) es end (g .stand), entries-next s (firstEntry s) (t .pre) (h .before) (t .stand), l)
 
   -- a stored package was accepted over the entries before it
-  pub stored-yes : (g : Setting f s end es self) (h : Home) (x : Installed) (t : Stored s es h x) → LoadYes (storeLimits s) (g .size) (t .pre) (x .domain)
+  pub stored-yes : (g : Setting f s end es self) (h : Home) (x : Installed) (t : Stored s es h x) → LoadYes (storeOpening s) (g .size) (t .pre) (x .domain)
       (part s (h .from) (h .to)) (x .pack)
   stored-yes g h x t =
       let e : Entry = loaded (x .domain) (part s (h .from) (h .to)) in
-      let a : T (acceptedAll (storeLimits s) (g .size) [] (t .pre ++ e ∷ t .post)) = subst
-      (λ (zs : List Entry). T (acceptedAll (storeLimits s) (g .size) [] zs)) (t .are) (g .sound) in
-      let b = and-r (acceptedAll (storeLimits s) (g .size) [] (t .pre)) _ (subst T (accepted-append (storeLimits s) (g .size) [] (t .pre) (e ∷ t .post)) a) in
-      let c : T (accepted (storeLimits s) (g .size) (t .pre) e) = and-l (accepted (storeLimits s) (g .size) (t .pre) e) _ b in
-      let y = load-yes (storeLimits s) (g .size) (t .pre) (x .domain) (part s (h .from) (h .to)) (eqb→eq _ 0 c) in
+      let a : T (acceptedAll (storeOpening s) (g .size) [] (t .pre ++ e ∷ t .post)) = subst
+      (λ (zs : List Entry). T (acceptedAll (storeOpening s) (g .size) [] zs)) (t .are) (g .sound) in
+      let b = and-r (acceptedAll (storeOpening s) (g .size) [] (t .pre)) _ (subst T (accepted-append (storeOpening s) (g .size) [] (t .pre) (e ∷ t .post)) a) in
+      let c : T (accepted (storeOpening s) (g .size) (t .pre) e) = and-l (accepted (storeOpening s) (g .size) (t .pre) e) _ b in
+      let y = load-yes (storeOpening s) (g .size) (t .pre) (x .domain) (part s (h .from) (h .to)) (eqb→eq _ 0 c) in
       let z : y .0 ≡ x .pack = Option·some-injective _ _ (sym (y .1 .q11) ∙ t .reads) in
-      subst (LoadYes (storeLimits s) (g .size) (t .pre) (x .domain) (part s (h .from) (h .to))) z (y .1)
+      subst (LoadYes (storeOpening s) (g .size) (t .pre) (x .domain) (part s (h .from) (h .to))) z (y .1)
 
   -- the entries before a home
   pub record Before (h : Home) (x : Installed) : Type 0 where
     pub pre : List Entry
     pub post : List Entry
     pub are : es ≡ pre ++ post
-    pub stand : Entries s openingLength pre (h .before)
+    pub stand : Entries s (firstEntry s) pre (h .before)
     pub reads : AllRead (storeLimits s) pre
     pub imports : T (q13-imports (installed (storeLimits s) pre) (x .pack))
 
@@ -94,22 +94,22 @@ module _ (f s : Bytes) (end : ℕ) (es : List Entry) (self : Installed) where
         post = [];
         are = sym (append-nil es);
         stand = g .stand;
-        reads = all-read (storeLimits s) (g .size) [] es (g .sound);
+        reads = all-read (storeOpening s) (g .size) [] es (g .sound);
         imports =
             i .imports;
       }
   home-before i h x (stored t) =
       let g = i .setting in
       let e : Entry = loaded (x .domain) (part s (h .from) (h .to)) in
-      let a : T (acceptedAll (storeLimits s) (g .size) [] (t .pre ++ e ∷ t .post)) = subst
-      (λ (zs : List Entry). T (acceptedAll (storeLimits s) (g .size) [] zs)) (t .are) (g .sound) in
-      let b = and-l (acceptedAll (storeLimits s) (g .size) [] (t .pre)) _ (subst T (accepted-append (storeLimits s) (g .size) [] (t .pre) (e ∷ t .post)) a) in
+      let a : T (acceptedAll (storeOpening s) (g .size) [] (t .pre ++ e ∷ t .post)) = subst
+      (λ (zs : List Entry). T (acceptedAll (storeOpening s) (g .size) [] zs)) (t .are) (g .sound) in
+      let b = and-l (acceptedAll (storeOpening s) (g .size) [] (t .pre)) _ (subst T (accepted-append (storeOpening s) (g .size) [] (t .pre) (e ∷ t .post)) a) in
       record {
         pre = t .pre;
         post = e ∷ t .post;
         are = t .are;
         stand = t .stand;
-        reads = all-read (storeLimits s) (g .size) [] (t .pre) b;
+        reads = all-read (storeOpening s) (g .size) [] (t .pre) b;
         imports =
             (stored-yes g h x t) .q13;
       }
@@ -119,7 +119,7 @@ module _ (f s : Bytes) (end : ℕ) (es : List Entry) (self : Installed) where
       FoundIs f s end es self h (byAid (installed (storeLimits s) es) a) (At (record { from = j; to = k; before = i }))
   unfolding q13-imports
   import-found h x b a m i j k p =
-      let r = found-at (isPackage (storeLimits s) a) s openingLength (b .pre) (h .before) i k (b .stand) (p .place) in
+      let r = found-at (isPackage (storeLimits s) a) s (firstEntry s) (b .pre) (h .before) i k (b .stand) (p .place) in
       let z = entry-one s i (r .one) (loaded (p .home .domain) (part s j k)) k k (r .stands) (p .stands) in
       let more = byAid-more (installed (storeLimits s) (b .pre)) (installed (storeLimits s) (b .post)) a
       (all-mem (λ c. isSome (byAid (installed (storeLimits s) (b .pre)) c)) (b .imports) m) in

@@ -8,7 +8,8 @@ use lib.ListN.{length, take, drop, length-drop}
 use lib.Seq.{take-all}
 use borrow.Author.Tests.{eq-eqb, ne-eqb}
 use Rattle.rules.specs.Bytes.{Bytes, Aid, at, isSome, aid}
-use Rattle.rules.specs.Package.{storeLimits, class, readFile}
+use Rattle.rules.specs.Package.{class, readFile}
+use Rattle.rules.specs.Store.{storeLimits}
 use Rattle.rules.specs.Classes.{Installed, installed, byAid, packageNumbered}
 use Rattle.rules.specs.Questions.{q13-imports}
 use Rattle.rules.proofs.Tests.{all-mem}

@@ -20,8 +20,8 @@ use mathlib.Core.Option.{Option, none, some}
 use lib.Dec.{T, eqb}
 use lib.ListN.{take, drop, getD}
 use Rattle.rules.specs.Bytes.{Bytes, Aid, pick, all, allFrom, at, aid}
-use Rattle.rules.specs.Package.{Limits, Format, formatOf, storeLimits, Package, class, readFile}
-use Rattle.rules.specs.Store.{Entry, loaded, openingLength}
+use Rattle.rules.specs.Package.{Limits, Format, formatOf, Package, class, readFile}
+use Rattle.rules.specs.Store.{Entry, loaded, firstEntry, storeLimits, storeOpening}
 use Rattle.rules.specs.Classes.{Installed, installed, byAid, packageNumbered}
 use Rattle.rules.specs.Questions.{q13-imports, parentExists}
 use Rattle.rules.specs.Operations.{acceptedAll}
@@ -37,9 +37,9 @@ use Rattle.homes.specs.declared.HomeFound.the-variants.{At, Nothing}
 
 -- the file being judged, over sound entries that end at a place
 pub record Setting (f s : Bytes) (end : ℕ) (es : List Entry) (self : Installed) : Type 0 where
-  pub stand : Entries s openingLength es end
+  pub stand : Entries s (firstEntry s) es end
   pub size : ℕ
-  pub sound : T (acceptedAll (storeLimits s) size [] es)
+  pub sound : T (acceptedAll (storeOpening s) size [] es)
   pub reads : readFile (storeLimits s) f ≡ some (self .pack)
 
 -- each import is installed
@@ -81,7 +81,7 @@ pub record Stored (s : Bytes) (es : List Entry) (h : Home) (x : Installed) : Typ
   pub pre : List Entry
   pub post : List Entry
   pub are : es ≡ pre ++ loaded (x .domain) (part s (h .from) (h .to)) ∷ post
-  pub stand : Entries s openingLength pre (h .before)
+  pub stand : Entries s (firstEntry s) pre (h .before)
   pub entry : EntryAt s (h .before) (loaded (x .domain) (part s (h .from) (h .to))) (h .to)
   pub reads : readFile (storeLimits s) (part s (h .from) (h .to)) ≡ some (x .pack)
   pub inside : h .before < h .from
@@ -123,7 +123,7 @@ HomeSays s es a (At h) = PackageAt s es a (h .before) (h .from) (h .to)
 HomeSays s es a Nothing = byAid (installed (storeLimits s) es) a ≡ none
 
 abbrev pub ByAid : Bytes → ℕ → Aid → HomeFound → Type 0
-ByAid s end a r = (es : List Entry) → Entries s openingLength es end → AllRead (storeLimits s) es → HomeSays s es a r
+ByAid s end a r = (es : List Entry) → Entries s (firstEntry s) es end → AllRead (storeLimits s) es → HomeSays s es a r
 
 -- the package that a package number stands for in the file at home h: 0 the same home, else an earlier one
 abbrev pub NumberedIs : Bytes → Bytes → Home → ℕ → HomeFound → Type 0

@@ -8,7 +8,8 @@ use mathlib.Core.List.{List, [], _∷_}
 use mathlib.Core.Option.{none, some}
 use lib.ListN.{length, getD}
 use Rattle.rules.specs.Bytes.{Bytes, Aid, all, at, u1, aid}
-use Rattle.rules.specs.Package.{storeLimits, mostImports}
+use Rattle.rules.specs.Package.{mostImports}
+use Rattle.rules.specs.Store.{storeLimits, storeOpening}
 use Rattle.rules.specs.Questions.{q12-new}
 use Rattle.places.specs.Reads.{Ends}
 use Rattle.places.proofs.Steady.{steady-u1, steady-aid}
@@ -48,7 +49,7 @@ module _ (f s : Bytes) (end : ℕ) where
   setting-reads t = (storeLimits s, t .1 .pack, t .2 .reads)
 
   pub setting-stands : SettingThere f s end → FilesStand s end
-  setting-stands t = (t .0, t .2 .stand, all-read (storeLimits s) (t .2 .size) [] (t .0) (t .2 .sound))
+  setting-stands t = (t .0, t .2 .stand, all-read (storeOpening s) (t .2 .size) [] (t .0) (t .2 .sound))
 
   pub indexed : (index : List ℕ) → SettingThere f s end → IndexIs s end index → Indexed s end index
   indexed index t i = record { files = setting-stands t; is = i }
@@ -59,14 +60,14 @@ module _ (f s : Bytes) (end : ℕ) where
     unfolding q12-new
     new-no i j k e es self g =
         let z = o (storeLimits s) (self .pack) (g .reads) in
-        let p = subst (λ (x : FileSpot). FileSays s es a x) e (q es (g .stand) (all-read (storeLimits s) (g .size) [] es (g .sound))) in
+        let p = subst (λ (x : FileSpot). FileSays s es a x) e (q es (g .stand) (all-read (storeOpening s) (g .size) [] es (g .sound))) in
         rw (← z, p .is)
 
     pub new-yes : r ≡ Missing → NewIs f s end true
     unfolding q12-new
     new-yes e es self g =
         let z = o (storeLimits s) (self .pack) (g .reads) in
-        let p = subst (λ (x : FileSpot). FileSays s es a x) e (q es (g .stand) (all-read (storeLimits s) (g .size) [] es (g .sound))) in
+        let p = subst (λ (x : FileSpot). FileSays s es a x) e (q es (g .stand) (all-read (storeOpening s) (g .size) [] es (g .sound))) in
         rw (← z, p .1)
 
   -- 13: the list of imports
@@ -106,7 +107,7 @@ module _ (f s : Bytes) (end : ℕ) where
         let z : b ≡ y .0 = q (y .0) (y .1) (y .3) in
         let v : some (y .0) ≡ some a = sym (y .2) ∙ e in
         let u : y .0 ≡ a = cc in
-        subst (λ (d : Aid). HomeSays s es d r) (z ∙ u) (w es (g .stand) (all-read (storeLimits s) (g .size) [] es (g .sound)))
+        subst (λ (d : Aid). HomeSays s es d r) (z ∙ u) (w es (g .stand) (all-read (storeOpening s) (g .size) [] es (g .sound)))
 
     pub import-never : AidNth f i k spots.Nothing → ImportHomeIs f s end k Nothing
     import-never n es self g a e =

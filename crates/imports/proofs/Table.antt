@@ -10,8 +10,7 @@ use lib.Dec.{T}
 use lib.ListN.{length, getD, set, length-set}
 use lib.Seq.{getD-set-same, getD-set-other}
 use Rattle.rules.specs.Bytes.{Bytes, Aid, at, isSome}
-use Rattle.rules.specs.Package.{storeLimits}
-use Rattle.rules.specs.Store.{Entry}
+use Rattle.rules.specs.Store.{Entry, storeLimits, storeOpening}
 use Rattle.rules.specs.Classes.{Installed, installed, byAid, packageNumbered}
 use Rattle.rules.specs.Questions.{q13-imports}
 use Rattle.rules.proofs.Lists.{at-mem, at-below, at-there, same-or-not}
@@ -124,7 +123,7 @@ module _ (f s : Bytes) (end : ℕ) where
               post = [];
               are = sym (append-nil es);
               stand = g .setting .stand;
-              reads = all-read (storeLimits s) (g .setting .size) [] es
+              reads = all-read (storeOpening s) (g .setting .size) [] es
                   (g .setting .sound);
               imports = g .imports;
             } in

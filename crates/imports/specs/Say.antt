@@ -10,8 +10,7 @@ use mathlib.Core.Bool.{Bool}
 use mathlib.Core.List.{List}
 use mathlib.Core.Option.{some}
 use Rattle.rules.specs.Bytes.{Bytes, Aid, at}
-use Rattle.rules.specs.Package.{storeLimits}
-use Rattle.rules.specs.Store.{Entry}
+use Rattle.rules.specs.Store.{Entry, storeLimits}
 use Rattle.rules.specs.Classes.{Installed, installed}
 use Rattle.rules.specs.Questions.{q12-new, q13-imports}
 use Rattle.files.specs.Say.{ImportsAt}

@@ -7,12 +7,13 @@ use mathlib.Core.List.{List}
 use mathlib.Core.Option.{some, Option·some-injective}
 use lib.ListN.{length, getD, replicate, length-replicate}
 use Rattle.rules.specs.Bytes.{Bytes, Aid, any, same, isSome}
-use Rattle.rules.specs.Package.{Limits, storeLimits, Package}
-use Rattle.rules.specs.Store.{Entry, domain, loaded, openingLength}
+use Rattle.rules.specs.Package.{Limits, Package}
+use Rattle.rules.specs.Store.{Entry, domain, loaded, firstEntry, storeLimits}
 use Rattle.rules.specs.Classes.{installed, byAid}
 use Rattle.rules.specs.Questions.{q7-installed, q12-new}
 use Rattle.rules.specs.Operations.{isPackage}
 use Rattle.rules.proofs.Tests.{none-some, is-true, of-true, same-refl, same-eq}
+use Rattle.rules.proofs.Limits.{first-entry}
 use Rattle.store.specs.Entries.{part, EntryAt, AllRead, FilesStand, ownAid}
 use Rattle.store.proofs.Stand.{entry-later, entries-to}
 use Rattle.store.proofs.Walk.{place-any}
@@ -32,9 +33,9 @@ zeros (suc k) zero = refl
 zeros (suc k) (suc i) = zeros k i
 
 -- zeros are an index of no entries
-pub index-start : (s : Bytes) (n : ℕ) → 7 ≤ length s → length s ≤ 27 * n → IndexIs s openingLength (replicate n 0)
+pub index-start : (s : Bytes) (n : ℕ) → firstEntry s ≤ length s → length s ≤ 27 * n → IndexIs s (firstEntry s) (replicate n 0)
 index-start s n h g = record {
-  table = table-start packageKey s (replicate n 0) h (omega (arith, length-replicate {A = ℕ} n 0)) (zeros n 0);
+  table = table-start packageKey s (replicate n 0) h (omega (arith, length-replicate {A = ℕ} n 0, (first-entry s) .0)) (zeros n 0);
   room = omega (arith, length-replicate {A = ℕ} n 0);
   few = omega (arith, zeros n 0);
 }
@@ -50,7 +51,7 @@ index-domain s at next a index i u = record {
 -- the tests of an AID in a file and of the package read say the same
 pub named-any : (l : Limits) (a : Aid) (es : List Entry) → AllRead l es → any (namedBy a) es ≡ any (isPackage l a) es
 named-any l a es h =
-    sym (place-any (namedBy a) openingLength es) ∙ ap isSome (named-place l a openingLength es h) ∙ place-any (isPackage l a) openingLength es
+    sym (place-any (namedBy a) 0 es) ∙ ap isSome (named-place l a 0 es h) ∙ place-any (isPackage l a) 0 es
 
 -- 12. a package that is not installed
 not-installed : (l : Limits) (es : List Entry) (p : Package) → q12-new (installed l es) p ≡ true → any (isPackage l (p .aid)) es ≡ false
@@ -77,12 +78,12 @@ module _ (s : Bytes) (at file next : ℕ) (index : List ℕ) (i : IndexIs s at i
   enough = package-least (storeLimits s) s at next (x .home) (part s file next) (x .pack) (x .stands) (x .long) (x .reads)
 
   enter-room : (count index + 1 < length index) × (count index + 1 ≤ length s)
-  enter-room = (omega (arith, enough, i .room, i .few, x .stands .to), omega (arith, enough, i .few, x .stands .to))
+  enter-room = (omega (arith, enough, i .room, i .few, x .stands .to, (first-entry s) .0), omega (arith, enough, i .few, x .stands .to))
 
   enter-keyed : Keyed s at
   enter-keyed =
       package-keyed (storeLimits s) s at (x .home) (part s file next) next (x .pack) (x .stands) (x .reads)
-      (entries-to s openingLength (i .table .behind .0) at (i .table .behind .1) .0)
+      (entries-to s (firstEntry s) (i .table .behind .0) at (i .table .behind .1) .0)
 
   -- it may be entered
   pub enter-ready : length s ≤ 65535 → (Sorted s index × Keyed s at × (at < 65536)) × ((count index + 1 < length index) × (count index < 65535))

@@ -7,7 +7,8 @@ use lib.ListN.{length, getD, take, drop}
 use lib.Seq.{getD-take, getD-drop}
 use Rattle.rules.specs.Bytes.{Bytes, Aid}
 use Rattle.rules.specs.Package.{Limits, Package, readFile}
-use Rattle.rules.specs.Store.{Entry, domain, loaded, openingLength}
+use Rattle.rules.specs.Store.{Entry, domain, loaded, firstEntry}
+use Rattle.rules.proofs.Limits.{first-entry}
 use Rattle.store.specs.Entries.{part, EntryAt, ownAid}
 use Rattle.store.proofs.Stand.{EntryBy, KindBy, kind1, kind2, kind-by, entry-by}
 use Rattle.store.proofs.Parts.{part-length, part-drop, part-take}
@@ -82,6 +83,6 @@ module _ (l : Limits) (s : Bytes) (p : ℕ) (d f : Bytes) (j : ℕ) (x : Package
       ∙ sym (own .is)
       ∙ ap ownAid (sym (by .file))
 
-  pub package-keyed : openingLength ≤ p → Keyed s p
+  pub package-keyed : (firstEntry s) ≤ p → Keyed s p
   package-keyed h =
-      record { real = omega arith; head = omega (arith, by .head, t .to); whole = omega (arith, place, ap (λ (i : ℕ). getD s i 0) place, own .to, t .to) }
+      record { real = omega (arith, (first-entry s) .0); head = omega (arith, by .head, t .to); whole = omega (arith, place, ap (λ (i : ℕ). getD s i 0) place, own .to, t .to) }

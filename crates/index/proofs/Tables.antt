@@ -8,7 +8,7 @@ use mathlib.Core.Logic.{_⊎_, inl, inr}
 use mathlib.Core.Option.{Option, none, some, Option·some-injective}
 use lib.ListN.{length}
 use Rattle.rules.specs.Bytes.{Bytes, Aid, any}
-use Rattle.rules.specs.Store.{Entry, openingLength}
+use Rattle.rules.specs.Store.{Entry, firstEntry}
 use Rattle.rules.proofs.Tests.{none-some}
 use Rattle.store.specs.Entries.{EntryAt, Entries, over}
 use Rattle.store.proofs.Stand.{entry-one, entry-later, entries-more}
@@ -17,7 +17,7 @@ use Rattle.index.specs.Index.{Stood, KeyedOf, TableOf}
 use Rattle.index.proofs.Entered.{FoundThere, stood-inside, stood-more, stood-cases, stood-any, any-stood}
 
 -- a table of no places, before the first entry
-pub table-start : (key : Entry → Option Aid) (s : Bytes) (l : List ℕ) → 7 ≤ length s → 0 < length l → count l ≡ 0 → TableOf key s openingLength l
+pub table-start : (key : Entry → Option Aid) (s : Bytes) (l : List ℕ) → firstEntry s ≤ length s → 0 < length l → count l ≡ 0 → TableOf key s (firstEntry s) l
 table-start key s l h g e = record {
   behind = ([], over h);
   sorted = record { size = omega arith; keyed = λ k m. absurd (omega arith); order = λ i j m n. absurd (omega arith) };
@@ -28,7 +28,7 @@ table-start key s l h g e = record {
     nothing : (k : ℕ) → k < count l → ⊥
     nothing k m = omega arith
 
-    never : {p : ℕ} {o : Entry} {j : ℕ} → Stood s openingLength p o j → ⊥
+    never : {p : ℕ} {o : Entry} {j : ℕ} → Stood s (firstEntry s) p o j → ⊥
     never t = let m = stood-inside t in omega (arith, m .0, m .1, m .2)
 
 module _ (key : Entry → Option Aid) (s : Bytes) (at next : ℕ) (one : Entry) (l : List ℕ) (t : TableOf key s at l) (u : EntryAt s at one next) where
@@ -44,7 +44,7 @@ module _ (key : Entry → Option Aid) (s : Bytes) (at next : ℕ) (one : Entry) 
   -- behind an entry without an AID under the key it is the same table
   pub table-other : key one ≡ none → TableOf key s next l
   table-other h = record {
-    behind = (t .behind .0 ++ one ∷ [], entries-more s openingLength (t .behind .0) at one next (t .behind .1) u);
+    behind = (t .behind .0 ++ one ∷ [], entries-more s (firstEntry s) (t .behind .0) at one next (t .behind .1) u);
     sorted = t .sorted;
     only = λ p x. keyed-more (t .only p x);
     all = λ p e j a w k. all p e j a k (stood-cases at next one (t .behind) u w);
@@ -57,7 +57,7 @@ module _ (key : Entry → Option Aid) (s : Bytes) (at next : ℕ) (one : Entry) 
   -- one with an AID is entered
   pub table-more : (m : List ℕ) → key one ≡ some (keyAt s at) → EnteredNew s l m at → TableOf key s next m
   table-more m h n = record {
-    behind = (t .behind .0 ++ one ∷ [], entries-more s openingLength (t .behind .0) at one next (t .behind .1) u);
+    behind = (t .behind .0 ++ one ∷ [], entries-more s (firstEntry s) (t .behind .0) at one next (t .behind .1) u);
     sorted = n .sorted;
     only = λ p x. only p (n .from p x);
     all = λ p e j a w k. all p e j a k (stood-cases at next one (t .behind) u w);
@@ -92,7 +92,7 @@ module _ (key : Entry → Option Aid) (s : Bytes) (end : ℕ) (l : List ℕ) (t 
 
   -- none is in the table
   pub found-none : ((e : Entry) → q e ≡ true → key e ≡ some a) → ((p : ℕ) → Has l p → keyAt s p ≡ a → ⊥) → (es : List Entry) →
-      Entries s openingLength es end → any q es ≡ false
+      Entries s (firstEntry s) es end → any q es ≡ false
   found-none finds miss es r = go (any q es) refl
     where
       go : (b : Bool) → any q es ≡ b → any q es ≡ false
@@ -100,6 +100,6 @@ module _ (key : Entry → Option Aid) (s : Bytes) (end : ℕ) (l : List ℕ) (t 
       go true e = let y = any-stood q s end es r e in let h = found-has finds es y in absurd (miss (y .from) (h .0) (h .1))
 
   -- one is
-  pub found-any : ((e : Entry) → key e ≡ some a → q e ≡ true) → (p : ℕ) → Has l p → keyAt s p ≡ a → (es : List Entry) → Entries s openingLength es end →
+  pub found-any : ((e : Entry) → key e ≡ some a → q e ≡ true) → (p : ℕ) → Has l p → keyAt s p ≡ a → (es : List Entry) → Entries s (firstEntry s) es end →
       any q es ≡ true
   found-any has p h e es r = let o = t .only p h in stood-any q es r (o .stood) (has (o .one) (o .named ∙ ap some e))

@@ -17,8 +17,8 @@ use mathlib.Core.Option.{Option, none, some}
 use lib.ListN.{length, getD}
 use Rattle.rules.specs.Bytes.{Bytes, Aid, leastAid}
 use Rattle.rules.specs.Code.{u2At}
-use Rattle.rules.specs.Package.{storeLimits, Package, readFile}
-use Rattle.rules.specs.Store.{Entry, domain, loaded, openingLength}
+use Rattle.rules.specs.Package.{Package, readFile}
+use Rattle.rules.specs.Store.{Entry, domain, loaded, firstEntry, storeLimits}
 use Rattle.rules.specs.Classes.{installed}
 use Rattle.rules.specs.Questions.{q12-new}
 use Rattle.store.specs.Entries.{part, EntryAt, Entries, StandFrom, AllRead, ownAid}
@@ -34,7 +34,7 @@ entryTo s p = p + 3 + u2At s (p + 1)
 
 -- the entry e stands from place p up to place j, behind others and not past place end
 pub record Stood (s : Bytes) (end p : ℕ) (e : Entry) (j : ℕ) : Type 0 where
-  pub behind : StandFrom s openingLength p
+  pub behind : StandFrom s (firstEntry s) p
   pub stands : EntryAt s p e j
   pub to : j ≤ end
 
@@ -47,7 +47,7 @@ pub record KeyedOf (key : Entry → Option Aid) (s : Bytes) (end p : ℕ) : Type
 
 -- the entries that end at a place and have an AID under a key have been entered, and nothing else
 pub record TableOf (key : Entry → Option Aid) (s : Bytes) (end : ℕ) (l : List ℕ) : Type 0 where
-  pub behind : StandFrom s openingLength end
+  pub behind : StandFrom s (firstEntry s) end
   pub sorted : Sorted s l
   pub only : (p : ℕ) → Has l p → KeyedOf key s end p
   pub all : (p : ℕ) (e : Entry) (j : ℕ) (a : Aid) → Stood s end p e j → key e ≡ some a → Has l p
@@ -64,7 +64,7 @@ leastPackage = 27
 pub record IndexIs (s : Bytes) (end : ℕ) (index : List ℕ) : Type 0 where
   pub table : TableOf packageKey s end index
   pub room : length s ≤ leastPackage * length index
-  pub few : leastPackage * count index + openingLength ≤ end
+  pub few : leastPackage * count index + (firstEntry s) ≤ end
 
 -- a package's entry stands from place p up to place j, its file from place i on: the file reads, the domain's AID has 5 bytes or more,
 -- and question 12 answers yes
@@ -75,4 +75,4 @@ pub record PackageStands (s : Bytes) (p i j : ℕ) : Type 0 where
   pub from : i ≤ j
   pub long : leastAid ≤ length home
   pub reads : readFile (storeLimits s) (part s i j) ≡ some pack
-  pub new : (es : List Entry) → Entries s openingLength es p → AllRead (storeLimits s) es → q12-new (installed (storeLimits s) es) pack ≡ true
+  pub new : (es : List Entry) → Entries s (firstEntry s) es p → AllRead (storeLimits s) es → q12-new (installed (storeLimits s) es) pack ≡ true

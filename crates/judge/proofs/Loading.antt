@@ -8,8 +8,8 @@ use mathlib.Core.Option.{Option, none, some}
 use lib.Dec.{T}
 use lib.ListN.{length}
 use Rattle.rules.specs.Bytes.{Bytes, Aid, aidLength, aid}
-use Rattle.rules.specs.Package.{Limits, storeLimits, Package, readFile}
-use Rattle.rules.specs.Store.{Entry, domain, loaded}
+use Rattle.rules.specs.Package.{Limits, Package, readFile}
+use Rattle.rules.specs.Store.{Entry, domain, loaded, storeLimits, storeOpening, firstEntry}
 use Rattle.rules.specs.Classes.{Installed, installed}
 use Rattle.rules.specs.Questions.{q3-lengths, q5-created, q10-marked, q11-reads, q12-new, q13-imports, q14-parents}
 use Rattle.rules.specs.Operations.{firstNo, packageQuestions, loadQuestions, deepest, deepestOf, isDomain}
@@ -42,14 +42,14 @@ module _ (s : Bytes) (end : ℕ) (f : Bytes) where
   -- 10 and 11 answered no
   pub parents-10 : q10-marked f ≡ false → ParentsAnswer s end f (Refused 10)
   unfolding loadQuestions
-  parents-10 h d es o = (omega arith, number-no 10 (q10-marked f) (packageQuestions (storeLimits s) (length s) es d f (readFile (storeLimits s) f)) h)
+  parents-10 h d es o = (omega arith, number-no 10 (q10-marked f) (packageQuestions (storeOpening s) (length s) es d f (readFile (storeLimits s) f)) h)
 
   module _ (ten : q10-marked f ≡ true) where
     pub parents-11 : readFile (storeLimits s) f ≡ none → ParentsAnswer s end f (Refused 11)
     unfolding loadQuestions packageQuestions q11-reads
     parents-11 e d es o = (
       omega arith,
-      number-yes 10 (q10-marked f) (packageQuestions (storeLimits s) (length s) es d f (readFile (storeLimits s) f)) 11
+      number-yes 10 (q10-marked f) (packageQuestions (storeOpening s) (length s) es d f (readFile (storeLimits s) f)) 11
           ten (rw e),
     )
 
@@ -57,7 +57,7 @@ module _ (s : Bytes) (end : ℕ) (f : Bytes) where
       -- a number from 12 on is one from 10 on
       read-number : (d : Aid) (es : List Entry) (n : ℕ) → n ≡ firstNo (from 12 (asks s es d f p)) → n ≡ firstNo (fileAsks s es d f)
       unfolding loadQuestions packageQuestions q11-reads
-      read-number d es n h = number-yes 10 (q10-marked f) (packageQuestions (storeLimits s) (length s) es d f (readFile (storeLimits s) f)) n ten (rw eleven h)
+      read-number d es n h = number-yes 10 (q10-marked f) (packageQuestions (storeOpening s) (length s) es d f (readFile (storeLimits s) f)) n ten (rw eleven h)
 
       -- the file that is read
       read : (es : List Entry) → Over s end es → FileRead s end f es p
@@ -132,35 +132,35 @@ module _ (s : Bytes) (end : ℕ) (d : Aid) (f : Bytes) (es : List Entry) where
       let from-14 = number-yes 14 (q14-parents (storeLimits s) is (selfOf s end d f p)) (from 15 (asks s es d f p)) n (is-true _ (a .q14)) h in
       let from-13 = number-yes 13 (q13-imports is p) (from 14 (asks s es d f p)) n (is-true _ (a .q13)) from-14 in
       let from-12 = number-yes 12 (q12-new is p) (from 13 (asks s es d f p)) n (is-true _ (a .q12)) from-13 in
-      number-yes 10 (q10-marked f) (packageQuestions (storeLimits s) (length s) es d f (readFile (storeLimits s) f)) n ten (rw (a .read .reads) from-12)
+      number-yes 10 (q10-marked f) (packageQuestions (storeOpening s) (length s) es d f (readFile (storeLimits s) f)) n ten (rw (a .read .reads) from-12)
 
   -- a number from 10 on is a load's, where 3 and 5 were answered yes
   pub behind-5 : q3-lengths (d ∷ []) ≡ true → q5-created es d ≡ true → (n : ℕ) → n ≡ firstNo (fileAsks s es d f) → n ≡ firstNo
-      (loadQuestions (storeLimits s) (length s) es d f)
+      (loadQuestions (storeOpening s) (length s) es d f)
   unfolding loadQuestions
-  behind-5 three five n h = number-yes 3 (q3-lengths (d ∷ [])) (from 5 (loadQuestions (storeLimits s) (length s) es d f)) n three
+  behind-5 three five n h = number-yes 3 (q3-lengths (d ∷ [])) (from 5 (loadQuestions (storeOpening s) (length s) es d f)) n three
       (number-yes 5 (q5-created es d) (fileAsks s es d f) n five h)
 
 module _ (s : Bytes) (end : ℕ) (d : Aid) (f : Bytes) where
   -- 3 and 5 answered no
   pub load-3 : aidLength (length d) ≡ false → LoadSays s end d f (Refused 3)
   unfolding loadQuestions
-  load-3 h es o = answer-refused (loadQuestions (storeLimits s) (length s) es d f) _ 3
-      (number-no 3 (q3-lengths (d ∷ [])) (from 5 (loadQuestions (storeLimits s) (length s) es d f)) (one-length d ∙ h)) (λ z. omega (arith, z))
+  load-3 h es o = answer-refused (loadQuestions (storeOpening s) (length s) es d f) _ 3
+      (number-no 3 (q3-lengths (d ∷ [])) (from 5 (loadQuestions (storeOpening s) (length s) es d f)) (one-length d ∙ h)) (λ z. omega (arith, z))
 
   module _ (three : aidLength (length d) ≡ true) where
     pub load-5 : ((es : List Entry) → Over s end es → false ≡ q5-created es d) → LoadSays s end d f (Refused 5)
     unfolding loadQuestions
     load-5 c es o =
-        answer-refused (loadQuestions (storeLimits s) (length s) es d f) _ 5
-        (number-yes 3 (q3-lengths (d ∷ [])) (from 5 (loadQuestions (storeLimits s) (length s) es d f)) 5 (one-length d ∙ three)
+        answer-refused (loadQuestions (storeOpening s) (length s) es d f) _ 5
+        (number-yes 3 (q3-lengths (d ∷ [])) (from 5 (loadQuestions (storeOpening s) (length s) es d f)) 5 (one-length d ∙ three)
         (number-no 5 (q5-created es d) (fileAsks s es d f) (sym (c es o)))) (λ z. omega (arith, z))
 
     -- both answered yes
     pub load-file : ((es : List Entry) → Over s end es → true ≡ q5-created es d) → (r : LoadAnswer) → FileSays s end d f r → LoadSays s end d f r
     unfolding loadQuestions
     load-file five r a es o =
-        answer-yes 3 (q3-lengths (d ∷ [])) (from 5 (loadQuestions (storeLimits s) (length s) es d f)) _ r (one-length d ∙ three)
+        answer-yes 3 (q3-lengths (d ∷ [])) (from 5 (loadQuestions (storeOpening s) (length s) es d f)) _ r (one-length d ∙ three)
         (answer-yes 5 (q5-created es d) (fileAsks s es d f) _ r (sym (five es o)) (a es o))
 
   module _ (r : LoadAnswer) (first : ParentsAnswer s end f r) where
@@ -276,8 +276,8 @@ pub domain-place : (s : Bytes) (end : ℕ) (a : Aid) (r : Spot) (i j : ℕ) → 
     aidLength (length a) ≡ true → Ends aid s (i + 2) × (a ≡ aidAt s (i + 2))
 domain-place s end a r i j h e o l = go (x .one) (x .stands) (of-true (x .found))
   where
-    x : FoundAt (isDomain a) s 7 (o .0) end i j
-    x = found-at (isDomain a) s 7 (o .0) end i j (o .1 .stand) (sym (h (o .0) (o .1 .stand)) ∙ ap spot e)
+    x : FoundAt (isDomain a) s (firstEntry s) (o .0) end i j
+    x = found-at (isDomain a) s (firstEntry s) (o .0) end i j (o .1 .stand) (sym (h (o .0) (o .1 .stand)) ∙ ap spot e)
 
     go : (y : Entry) → EntryAt s i y j → T (isDomain a y) → Ends aid s (i + 2) × (a ≡ aidAt s (i + 2))
     go (domain b) t q =

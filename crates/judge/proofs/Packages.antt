@@ -8,8 +8,8 @@ use lib.Dec.{T, eqb, leb, leb→le}
 use lib.ListN.{length, length-append}
 use borrow.Author.Tests.{le-leb, eq-eqb, ne-eqb}
 use Rattle.rules.specs.Bytes.{Bytes, Aid}
-use Rattle.rules.specs.Package.{storeLimits, Package}
-use Rattle.rules.specs.Store.{Entry, domain, loaded, entryBytes, used}
+use Rattle.rules.specs.Package.{Package}
+use Rattle.rules.specs.Store.{Entry, domain, loaded, entryBytes, used, firstEntry, storeLimits, storeOpening}
 use Rattle.rules.specs.Classes.{installed}
 use Rattle.rules.specs.Questions.{q3-lengths, q4-new, q5-created, q12-new, q21-fits}
 use Rattle.rules.specs.Operations.{firstNo, createQuestions, accepted, acceptedAll, soundEntries}
@@ -27,7 +27,7 @@ use Rattle.homes.specs.Found.{Indexed}
 use Rattle.homes.specs.Homes.{aidAt}
 use Rattle.homes.proofs.Homes.{all-read}
 use Rattle.homes.proofs.Domains.{entry-domain, entry-there}
-use Rattle.depths.specs.Depths.{DepthsKept, DepthsFit, OwnDepths, FileKept, depthField}
+use Rattle.depths.specs.Depths.{DepthsKept, DepthsFit, OwnDepths, FileKept, depthWidth, depthField}
 use Rattle.depths.proofs.Kept.{depths-next}
 use Rattle.judge.specs.Says.{DomainYes, DomainsYes, Asked14, fileAsks, InsideAnswer, entryOf, PackageThere, EntrySays, PackagesSay}
 use Rattle.judge.specs.declared.PackageEntry.{PackageEntry}
@@ -44,57 +44,57 @@ pub record Reached (s : Bytes) (end at : ℕ) (es : List Entry) : Type 0 where
   pub behind : Entries s at rest end
 
 abbrev pub Going : Bytes → ℕ → ℕ → Type 0
-Going s end at = (es : List Entry) → Entries s 7 es end → Reached s end at es
+Going s end at = (es : List Entry) → Entries s (firstEntry s) es end → Reached s end at es
 
-pub going-start : (s : Bytes) (end : ℕ) → Going s end 7
+pub going-start : (s : Bytes) (end : ℕ) → Going s end (firstEntry s)
 going-start s end es r =
-    let t = entries-to s 7 es end r in
-    let h : 7 ≤ length s = omega (arith, t .0, t .1) in
+    let t = entries-to s (firstEntry s) es end r in
+    let h : firstEntry s ≤ length s = omega (arith, t .0, t .1) in
     record { pre = []; rest = es; are = refl; over = record { stand = Entries.over h; sound = tt }; behind = r }
 
 module _ (s : Bytes) (end at : ℕ) (es : List Entry) (g : Reached s end at es) where
   -- what the whole list's soundness is, where a turn begins
-  whole : soundEntries (storeLimits s) (length s) es ≡ acceptedAll (storeLimits s) (length s) (g .pre) (g .rest)
+  whole : soundEntries (storeOpening s) (length s) es ≡ acceptedAll (storeOpening s) (length s) (g .pre) (g .rest)
   unfolding soundEntries
   whole =
-      ap (acceptedAll (storeLimits s) (length s) []) (g .are) ∙ accepted-append (storeLimits s) (length s) [] (g .pre) (g .rest)
-      ∙ ap (λ (b : Bool). b && acceptedAll (storeLimits s) (length s) (g .pre) (g .rest))
-      (is-true (acceptedAll (storeLimits s) (length s) [] (g .pre)) (g .over .sound))
+      ap (acceptedAll (storeOpening s) (length s) []) (g .are) ∙ accepted-append (storeOpening s) (length s) [] (g .pre) (g .rest)
+      ∙ ap (λ (b : Bool). b && acceptedAll (storeOpening s) (length s) (g .pre) (g .rest))
+      (is-true (acceptedAll (storeOpening s) (length s) [] (g .pre)) (g .over .sound))
 
   -- an entry that is accepted
-  pub going-on : (e : Entry) (next : ℕ) → FirstIs s at e next end (g .rest) → accepted (storeLimits s) (length s) (g .pre) e ≡ true → Reached s end next es
+  pub going-on : (e : Entry) (next : ℕ) → FirstIs s at e next end (g .rest) → accepted (storeOpening s) (length s) (g .pre) e ≡ true → Reached s end next es
   going-on e next f a = record {
     pre = g .pre ++ e ∷ [];
     rest = f .rest;
     are = g .are ∙ ap (λ (zs : List Entry). g .pre ++ zs) (f .are) ∙ sym (append-assoc (g .pre) (e ∷ []) (f .rest));
     over = record {
-      stand = entries-more s 7 (g .pre) at e next (g .over .stand) (f .stands);
-      sound = subst⁻¹ T (accepted-append (storeLimits s) (length s) [] (g .pre) (e ∷ []))
-          (and-i (acceptedAll (storeLimits s) (length s) [] (g .pre)) _ (g .over .sound)
-          (and-i (accepted (storeLimits s) (length s) (g .pre) e) true (of-true a) tt));
+      stand = entries-more s (firstEntry s) (g .pre) at e next (g .over .stand) (f .stands);
+      sound = subst⁻¹ T (accepted-append (storeOpening s) (length s) [] (g .pre) (e ∷ []))
+          (and-i (acceptedAll (storeOpening s) (length s) [] (g .pre)) _ (g .over .sound)
+          (and-i (accepted (storeOpening s) (length s) (g .pre) e) true (of-true a) tt));
     };
     behind = f .after;
   }
 
   -- one that is not
-  pub going-bad : (e : Entry) (next : ℕ) → FirstIs s at e next end (g .rest) → accepted (storeLimits s) (length s) (g .pre) e ≡ false → soundEntries
-      (storeLimits s) (length s) es ≡ false
-  going-bad e next f a = whole ∙ ap (acceptedAll (storeLimits s) (length s) (g .pre)) (f .are) ∙ ap
-      (λ (b : Bool). b && acceptedAll (storeLimits s) (length s) (g .pre ++ e ∷ []) (f .rest)) a
+  pub going-bad : (e : Entry) (next : ℕ) → FirstIs s at e next end (g .rest) → accepted (storeOpening s) (length s) (g .pre) e ≡ false →
+      soundEntries (storeOpening s) (length s) es ≡ false
+  going-bad e next f a = whole ∙ ap (acceptedAll (storeOpening s) (length s) (g .pre)) (f .are) ∙ ap
+      (λ (b : Bool). b && acceptedAll (storeOpening s) (length s) (g .pre ++ e ∷ []) (f .rest)) a
 
   -- the end
-  pub going-done : g .rest ≡ [] → soundEntries (storeLimits s) (length s) es ≡ true
-  going-done e = whole ∙ ap (acceptedAll (storeLimits s) (length s) (g .pre)) e
+  pub going-done : g .rest ≡ [] → soundEntries (storeOpening s) (length s) es ≡ true
+  going-done e = whole ∙ ap (acceptedAll (storeOpening s) (length s) (g .pre)) e
 
 -- a domain that questions 3 and 4 pass is accepted: it stands there, so it fits
 domain-accepted : (s : Bytes) (at j : ℕ) (a : Aid) (pre : List Entry) → Over s at pre → EntryAt s at (domain a) j → DomainYes pre (domain a) →
-    accepted (storeLimits s) (length s) pre (domain a) ≡ true
+    accepted (storeOpening s) (length s) pre (domain a) ≡ true
 unfolding createQuestions q21-fits
 domain-accepted s at j a pre o t y =
     let n = entry-next s at (domain a) j t in
-    let u : used pre ≡ at = over-used s at pre o in
-    let fits : leb (used pre + length (entryBytes (domain a))) (length s) ≡ true = le-leb (used pre + length (entryBytes (domain a))) (length s)
-    (omega (arith, u, n, t .to)) in
+    let u : used (storeOpening s) pre ≡ at = over-used s at pre o in
+    let m : ℕ = used (storeOpening s) pre + length (entryBytes (domain a)) in
+    let fits : leb m (length s) ≡ true = le-leb m (length s) (omega (arith, u, n, t .to)) in
     rw (is-true (q3-lengths (a ∷ [])) (y .0), is-true (q4-new pre a) (y .1), fits)
 
 -- n is the number of the questions of a package's entry from 10 on
@@ -130,20 +130,20 @@ module _ (s : Bytes) (x : PackageEntry) (there : PackageThere s x) where
     long = leb→le 5 (length d) (and-l (leb 5 (length d)) (leb (length d) 16) (of-true (sym (one-length d) ∙ (there .known es (a .read .over)) .0)));
     reads = a .read .reads;
     new = λ fs r all.
-        let same : es ≡ fs = entries-one s 7 es fs (x .at) (a .read .over .stand) r in
+        let same : es ≡ fs = entries-one s (firstEntry s) es fs (x .at) (a .read .over .stand) r in
         is-true _ (subst (λ (zs : List Entry). T (q12-new (installed (storeLimits s) zs) p)) same (a .q12));
   }
 
   -- the depths of its classes are kept behind it
-  pub depths-behind : OverSome s (x .at) → {t t′ ds : List ℕ} → DepthsKept s (x .at) t → DepthsFit f ds → OwnDepths f s (x .at) ds → FileKept f (x .file)
-      ds t′ →
-      ((j : ℕ) → j < x .file / 5 → depthField t′ j ≡ depthField t j) → length t′ ≡ length t → DepthsKept s (x .next) t′
+  pub depths-behind : OverSome s (x .at) → {t t′ ds : List ℕ} → DepthsKept s (x .at) t → DepthsFit (depthWidth s) f ds → OwnDepths f s (x .at) ds →
+      FileKept (depthWidth s) f (x .file) ds t′ →
+      ((j : ℕ) → j < x .file / 5 → depthField (depthWidth s) t′ j ≡ depthField (depthWidth s) t j) → length t′ ≡ length t → DepthsKept s (x .next) t′
   depths-behind o {t} {t′} {ds} k fit own file same len =
       depths-next s (x .at) (x .file) (x .next) d t t′ ds k (there .stands) (there .inside) (there .file) own file same len (o .0, o .1 .stand)
 
 -- the files of sound entries read
 pub files-stand : (s : Bytes) (at : ℕ) → OverSome s at → FilesStand s at
-files-stand s at o = (o .0, o .1 .stand, all-read (storeLimits s) (length s) [] (o .0) (o .1 .sound))
+files-stand s at o = (o .0, o .1 .stand, all-read (storeOpening s) (length s) [] (o .0) (o .1 .sound))
 
 pub indexed : (s : Bytes) (at : ℕ) (index : List ℕ) → OverSome s at → IndexIs s at index → Indexed s at index
 indexed s at index o i = record { files = files-stand s at o; is = i }
@@ -157,10 +157,10 @@ first-number s end d f r n first e some =
 
 -- a turn at a domain and at a package
 module _ (s : Bytes) (end at : ℕ) (g : Going s end at) where
-  pub going-over : StandFrom s 7 end → OverSome s at
+  pub going-over : StandFrom s (firstEntry s) end → OverSome s at
   going-over t = let r = g (t .0) (t .1) in (r .pre, r .over)
 
-  pub going-from : StandFrom s 7 end → StandFrom s at end
+  pub going-from : StandFrom s (firstEntry s) end → StandFrom s at end
   going-from t = let r = g (t .0) (t .1) in (r .rest, r .behind)
 
   pub first-in : (e : Entry) (j : ℕ) (rest : List Entry) → FirstIs s at e j end rest → (j ≤ length s) × (at < j) × (j ≤ end)
@@ -170,13 +170,13 @@ module _ (s : Bytes) (end at : ℕ) (g : Going s end at) where
       (f .stands .to, omega arith, b .0)
 
   module _ (a j : ℕ) (p : PartAt s at end (parts.Domain a j)) where
-    pub domain-in : StandFrom s 7 end → (at < j) × (j ≤ end)
+    pub domain-in : StandFrom s (firstEntry s) end → (at < j) × (j ≤ end)
     domain-in t =
         let r = g (t .0) (t .1) in
         let b = first-in (domain (part s a j)) j (r .rest) ((p (r .rest) (r .behind)) .1) in
         (b .1, b .2)
 
-    pub domain-entry : StandFrom s 7 end → EntryAt s at (domain (part s a j)) j
+    pub domain-entry : StandFrom s (firstEntry s) end → EntryAt s at (domain (part s a j)) j
     domain-entry t = let r = g (t .0) (t .1) in (p (r .rest) (r .behind)) .1 .stands
 
     pub domain-on : DomainsYes s end → Going s end j
@@ -188,21 +188,21 @@ module _ (s : Bytes) (end at : ℕ) (g : Going s end at) where
         going-on s end at es r (domain (part s a j)) j q (domain-accepted s at j (part s a j) (r .pre) (r .over) (q .stands) yes)
 
   module _ (a m j : ℕ) (p : PartAt s at end (parts.Package a m j)) where
-    pub package-in : StandFrom s 7 end → (at < j) × (j ≤ end)
+    pub package-in : StandFrom s (firstEntry s) end → (at < j) × (j ≤ end)
     package-in t =
         let r = g (t .0) (t .1) in
         let b = first-in (loaded (part s a m) (part s m j)) j (r .rest) ((p (r .rest) (r .behind)) .2) in
         (b .1, b .2)
 
     -- questions 3 and 5 were answered yes
-    package-domain : DomainsYes s end → StandFrom s 7 end → (pre : List Entry) → Over s at pre →
+    package-domain : DomainsYes s end → StandFrom s (firstEntry s) end → (pre : List Entry) → Over s at pre →
         (q3-lengths (part s a m ∷ []) ≡ true) × (q5-created pre (part s a m) ≡ true)
     package-domain y t pre o =
         let r = g (t .0) (t .1) in
         let q = (p (r .rest) (r .behind)) .2 in
         let are = r .are ∙ ap (λ (zs : List Entry). r .pre ++ zs) (q .are) in
         let yes = y (t .0) (r .pre) (q .rest) (loaded (part s a m) (part s m j)) (t .1) are in
-        let same : r .pre ≡ pre = entries-one s 7 (r .pre) pre at (r .over .stand) (o .stand) in
+        let same : r .pre ≡ pre = entries-one s (firstEntry s) (r .pre) pre at (r .over .stand) (o .stand) in
         (is-true _ (yes .0), is-true _ (subst (λ (zs : List Entry). T (q5-created zs (part s a m))) same (yes .1)))
 
     -- its places
@@ -210,13 +210,13 @@ module _ (s : Bytes) (end at : ℕ) (g : Going s end at) where
     places = record { at = at; file = m; next = j }
 
     -- its domain stands behind kind and body length
-    package-named : StandFrom s 7 end → part s a m ≡ aidAt s (at + 3)
+    package-named : StandFrom s (firstEntry s) end → part s a m ≡ aidAt s (at + 3)
     package-named t =
         let r = g (t .0) (t .1) in
         entry-domain s at (part s a m) (part s m j) j ((p (r .rest) (r .behind)) .2 .stands)
 
     -- the entry stands there
-    pub package-there : DomainsYes s end → StandFrom s 7 end → PackageThere s places
+    pub package-there : DomainsYes s end → StandFrom s (firstEntry s) end → PackageThere s places
     package-there y t =
         let r = g (t .0) (t .1) in
         let q = p (r .rest) (r .behind) in
@@ -237,7 +237,7 @@ module _ (s : Bytes) (end at : ℕ) (g : Going s end at) where
         }
 
     -- what is said of the entry by its places is said of it
-    package-says : StandFrom s 7 end → (r : Bool) → EntrySays s at (entryOf s places) r → EntrySays s at (loaded (part s a m) (part s m j)) r
+    package-says : StandFrom s (firstEntry s) end → (r : Bool) → EntrySays s at (entryOf s places) r → EntrySays s at (loaded (part s a m) (part s m j)) r
     package-says t r y = subst (λ (z : Aid). EntrySays s at (loaded z (part s m j)) r) (sym (package-named t)) y
 
     pub package-on : EntrySays s at (entryOf s places) true → Going s end j
@@ -254,5 +254,5 @@ module _ (s : Bytes) (end at : ℕ) (g : Going s end at) where
   pub all-done : PartAt s at end parts.AtEnd → PackagesSay s end true
   all-done p es t = let v = g es t in sym (going-done s end at es v ((p (v .rest) (v .behind)) .0))
 
-  pub done-at : PartAt s at end parts.AtEnd → StandFrom s 7 end → at ≡ end
+  pub done-at : PartAt s at end parts.AtEnd → StandFrom s (firstEntry s) end → at ≡ end
   done-at p t = let v = g (t .0) (t .1) in (p (v .rest) (v .behind)) .1

@@ -1,5 +1,5 @@
 -- A load's questions from 12 on: each stage from the answers of its questions. Assumes nothing.
-use Prim.Native.Nat.{ℕ, _≤_}
+use Prim.Native.Nat.{ℕ, _≤_, _<_}
 use native.Mathlib.Omega.{arith}
 use mathlib.Core.Path.{_≡_, refl, sym, _∙_, ap}
 use mathlib.Core.Bool.{Bool, true, false}
@@ -7,15 +7,16 @@ use mathlib.Core.List.{List, [], _∷_}
 use mathlib.Core.Option.{some}
 use lib.ListN.{length}
 use Rattle.rules.specs.Bytes.{Bytes, Aid, pick, aid}
-use Rattle.rules.specs.Package.{Limits, standard, storeLimits, Package, readFile}
-use Rattle.rules.specs.Store.{Entry, loaded}
+use Rattle.rules.specs.Package.{Limits, Package, readFile}
+use Rattle.rules.specs.Store.{Entry, loaded, storeLimits, storeOpening, firstEntry}
 use Rattle.rules.specs.Classes.{Installed, installed}
 use Rattle.rules.specs.Questions.{q15-names, q16-splits, q17-targets, q24-handlers, q18-calls, q19-allowed, q20-running, q21-fits}
 use Rattle.rules.specs.Operations.{Question, firstNo, packageQuestions}
 use Rattle.rules.proofs.Asked.{parents-yes}
-use Rattle.rules.proofs.Limits.{store-limits}
 use Rattle.store.specs.Answers.{Fits}
 use Rattle.store.specs.Sound.{OverSome}
+use Rattle.rules.proofs.Limits.{first-entry}
+use Rattle.store.proofs.Stand.{entries-to}
 use Rattle.store.proofs.Sound.{over-used}
 use Rattle.imports.specs.Say.{SettingThere}
 use Rattle.files.specs.Say.{Readable}
@@ -28,7 +29,7 @@ use Rattle.calls.specs.Calls.{CodesSplit, CallsNumberIs}
 use Rattle.rules.proofs.Tests.{of-true}
 use Rattle.named.specs.Named.{Judged}
 use Rattle.running.specs.Say.{JudgedThere, RunningIs}
-use Rattle.judge.specs.Says.{FileRead, Asked14, ReadSome, Asked14Some, NumberFrom, NumberBefore, from, asks}
+use Rattle.judge.specs.Says.{usedAt, FileRead, Asked14, ReadSome, Asked14Some, NumberFrom, NumberBefore, from, asks}
 use Rattle.judge.proofs.Answers.{number-no, number-yes, joined-no, joined-yes}
 
 module _ (s : Bytes) (end : ℕ) (d : Aid) (f : Bytes) where
@@ -58,7 +59,8 @@ module _ (s : Bytes) (end : ℕ) (d : Aid) (f : Bytes) where
   readable t = (storeLimits s, t .1, t .2 .read .reads)
 
   -- 21
-  last : (b : Bool) (es : List Entry) → b ≡ q21-fits (length s) es (loaded d f) → pick b 0 21 ≡ firstNo ((21, q21-fits (length s) es (loaded d f)) ∷ [])
+  last : (b : Bool) (es : List Entry) → b ≡ q21-fits (storeOpening s) (length s) es (loaded d f) →
+      pick b 0 21 ≡ firstNo ((21, q21-fits (storeOpening s) (length s) es (loaded d f)) ∷ [])
   last true es q = rw (sym q)
   last false es q = rw (sym q)
 
@@ -165,12 +167,13 @@ module _ (s : Bytes) (end : ℕ) (d : Aid) (f : Bytes) where
     pub codes-split : Asked14Some s end d f → c ≡ 18 → CodesSplit f
     codes-split t e l p r = of-true ((codes.number-18 p (sym (number l p r) ∙ e)) .0)
 
--- 512 bytes have a bit for each byte of a code within the limits of a store
-pub code-room : (s f : Bytes) → ReadSome s f → (l : Limits) × (p : Package) × (readFile l f ≡ some p) × ((l .code ≤ 4096) × (l .code ≤ 4096))
-unfolding standard
-code-room s f t =
-    let z : storeLimits s .code ≡ 4096 = ap (λ (x : Limits). x .code) (store-limits s) in
-    (storeLimits s, t .0, t .1, (omega (arith, z), omega (arith, z)))
+-- sets of so many bits have one for each byte of a code within the limits of a store
+pub code-room : (s f : Bytes) (n : ℕ) → ReadSome s f → storeLimits s .code ≤ n → (l : Limits) × (p : Package) × (readFile l f ≡ some p) × ((l .code ≤ n) × (l .code ≤ n))
+code-room s f n t h = (storeLimits s, t .0, t .1, (h, h))
+
+-- the used field of a store lies inside it
+pub used-inside : (s : Bytes) → OverSome s (usedAt s) → 6 < length s
+used-inside s o = let t = entries-to s (firstEntry s) (o .0) (usedAt s) (o .1 .stand) in omega (arith, t .0, t .1, (first-entry s) .0)
 
 -- what questions 12 and 13 are asked over, whatever domain loads the file
 pub setting-there : (s : Bytes) (end : ℕ) (f : Bytes) → OverSome s end → ReadSome s f → SettingThere f s end

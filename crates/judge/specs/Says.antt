@@ -24,20 +24,31 @@ use mathlib.Core.Option.{some}
 use lib.Dec.{T, eqb}
 use lib.ListN.{length}
 use Rattle.rules.specs.Bytes.{Bytes, Aid, pick, aid}
-use Rattle.rules.specs.Package.{storeLimits, Package, readFile}
-use Rattle.rules.specs.Store.{Entry, domain, loaded, openingLength}
+use Rattle.rules.specs.Package.{Package, readFile}
+use Rattle.rules.specs.Store.{Entry, domain, loaded, firstEntry, storeLimits, storeOpening}
 use Rattle.rules.specs.Classes.{installed}
 use Rattle.rules.specs.Operations.{Question, firstNo, packageQuestions, loadQuestions, accepted, soundEntries, deepest, deepestOf}
+use Rattle.rules.specs.Code.{u2At}
 use Rattle.rules.specs.Questions.{q3-lengths, q4-new, q5-created, q10-marked, q12-new, q13-imports, q14-parents}
 use Rattle.store.specs.Entries.{part, EntryAt, Entries}
 use Rattle.store.specs.Sound.{Over}
 use Rattle.places.specs.Reads.{Ends}
 use Rattle.homes.specs.Homes.{aidAt}
 use Rattle.homes.specs.Found.{ImportHomes}
-use Rattle.depths.specs.Depths.{OwnDepths, DepthsFit}
+use Rattle.chains.specs.Names.{namesLength}
+use Rattle.running.specs.Walk.{seenLength}
+use Rattle.depths.specs.Depths.{OwnDepths, DepthsFit, depthWidth}
 use Rattle.judge.specs.declared.LoadAnswer.{LoadAnswer}
 use Rattle.judge.specs.declared.LoadAnswer.the-variants.{Refused, Accepted}
 use Rattle.judge.specs.declared.PackageEntry.{PackageEntry}
+
+-- the used field of a store
+abbrev pub usedAt : Bytes → ℕ
+usedAt s = u2At s 5
+
+-- the tables of question 20 have room for the names of a chain and for every class of the store
+abbrev pub HasRoom : Bytes → List ℕ → List ℕ → Type 0
+HasRoom s names seen = (namesLength s ≤ length names) × (seenLength s ≤ length seen)
 
 -- the number of a load's answer, and its depth figure
 abbrev pub numberOf : LoadAnswer → ℕ
@@ -55,7 +66,7 @@ from k (q ∷ qs) = pick (eqb (q .0) k) (q ∷ qs) (from k qs)
 
 -- a load's questions from 11 on, of a file that reads as p
 abbrev pub asks : Bytes → List Entry → Aid → Bytes → Package → List Question
-asks s es d f p = packageQuestions (storeLimits s) (length s) es d f (some p)
+asks s es d f p = packageQuestions (storeOpening s) (length s) es d f (some p)
 
 -- a file that reads, over sound entries that end at a place
 pub record FileRead (s : Bytes) (end : ℕ) (f : Bytes) (es : List Entry) (p : Package) : Type 0 where
@@ -92,7 +103,7 @@ NumberBefore k m s end d f r = ((r ≡ 0 → ⊥) → NumberFrom k s end d f r) 
 
 -- a load's questions from 10 on, whatever the file
 abbrev pub fileAsks : Bytes → List Entry → Aid → Bytes → List Question
-fileAsks s es d f = from 10 (loadQuestions (storeLimits s) (length s) es d f)
+fileAsks s es d f = from 10 (loadQuestions (storeOpening s) (length s) es d f)
 
 -- questions 10 to 14: the number of the first no, or that all are answered yes, with the depth of the deepest class
 abbrev pub ParentsSay : Bytes → ℕ → Aid → Bytes → List Entry → LoadAnswer → Type 0
@@ -106,7 +117,7 @@ ParentsAnswer s end f r = (d : Aid) (es : List Entry) → Over s end es → Pare
 -- with a yes: the homes of the imports, and the depths of the own classes
 abbrev pub ParentsTold : Bytes → ℕ → Bytes → List ℕ → List ℕ → LoadAnswer → Type 0
 ParentsTold s end f homes own (Refused n) = Unit {0}
-ParentsTold s end f homes own (Accepted depth) = ImportHomes f s end homes × OwnDepths f s end own × DepthsFit f own
+ParentsTold s end f homes own (Accepted depth) = ImportHomes f s end homes × OwnDepths f s end own × DepthsFit (depthWidth s) f own
 
 -- questions 10 to 19 of a file that d loads: the number of the first no, or what 10 to 14 say, and that the number from 20 on is the one from 15 on
 abbrev pub InsideAnswer : Bytes → ℕ → Aid → Bytes → LoadAnswer → Type 0
@@ -116,7 +127,7 @@ InsideAnswer s end d f (Accepted depth) = ParentsAnswer s end f (Accepted depth)
 -- with a yes: the depths of the own classes
 abbrev pub DepthsTold : Bytes → ℕ → Bytes → List ℕ → LoadAnswer → Type 0
 DepthsTold s end f own (Refused n) = Unit {0}
-DepthsTold s end f own (Accepted depth) = OwnDepths f s end own × DepthsFit f own
+DepthsTold s end f own (Accepted depth) = OwnDepths f s end own × DepthsFit (depthWidth s) f own
 
 -- a load's answer from 10 on, and whole
 abbrev pub FileSays : Bytes → ℕ → Aid → Bytes → LoadAnswer → Type 0
@@ -124,7 +135,7 @@ FileSays s end d f r = (es : List Entry) → Over s end es → AnswerIs (fileAsk
 
 abbrev pub LoadSays : Bytes → ℕ → Aid → Bytes → LoadAnswer → Type 0
 LoadSays s end d f r = (es : List Entry) → Over s end es →
-    AnswerIs (loadQuestions (storeLimits s) (length s) es d f) (deepestOf (storeLimits s) es d (readFile (storeLimits s) f)) r
+    AnswerIs (loadQuestions (storeOpening s) (length s) es d f) (deepestOf (storeLimits s) es d (readFile (storeLimits s) f)) r
 
 -- 3 and 4 of a domain behind these entries, 3 and 5 of a package's
 abbrev pub DomainYes : List Entry → Entry → Type 0
@@ -133,11 +144,11 @@ DomainYes pre (loaded d f) = T (q3-lengths (d ∷ [])) × T (q5-created pre d)
 
 -- of every entry of those that end at a place
 abbrev pub DomainsYes : Bytes → ℕ → Type 0
-DomainsYes s end = (es pre post : List Entry) (e : Entry) → Entries s openingLength es end → es ≡ pre ++ e ∷ post → DomainYes pre e
+DomainsYes s end = (es pre post : List Entry) (e : Entry) → Entries s (firstEntry s) es end → es ≡ pre ++ e ∷ post → DomainYes pre e
 
 -- whether an entry would have been accepted over those that end at a place
 abbrev pub EntrySays : Bytes → ℕ → Entry → Bool → Type 0
-EntrySays s at e r = (es : List Entry) → Over s at es → r ≡ accepted (storeLimits s) (length s) es e
+EntrySays s at e r = (es : List Entry) → Over s at es → r ≡ accepted (storeOpening s) (length s) es e
 
 -- the entry of a package by its places
 abbrev pub entryOf : Bytes → PackageEntry → Entry
@@ -153,4 +164,4 @@ pub record PackageThere (s : Bytes) (x : PackageEntry) : Type 0 where
 
 -- whether each entry up to a place would have been accepted
 abbrev pub PackagesSay : Bytes → ℕ → Bool → Type 0
-PackagesSay s end r = (es : List Entry) → Entries s openingLength es end → r ≡ soundEntries (storeLimits s) (length s) es
+PackagesSay s end r = (es : List Entry) → Entries s (firstEntry s) es end → r ≡ soundEntries (storeOpening s) (length s) es

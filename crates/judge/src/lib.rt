@@ -1,16 +1,20 @@
 // A load judged over the entries that end at a place, and the packages of a store one after the other: the same functions for question 2
-// and for the call.
+// and for the call. `codes_long` calls itself where the store has more than 65,535 bytes, which it never has: so the compiler does not make
+// it a part of its caller, and its large sets stand on the stack only where the store's code limit asks for them.
 use depths::Bounds;
 use depths::Parented;
+use fields::u2_at;
 use reader::Read;
 use store::EntryPart;
 use store::Spot;
+use store::openings;
 ghost use mathlib.Core.Path.{_≡_};
 ghost use mathlib.Core.Bool.{true};
 ghost use Prim.Native.Nat.{_≤_};
 ghost use lib.ListN.{length};
 ghost use Rattle.rules.specs.Bytes.{aid};
 ghost use Rattle.rules.specs.Package.{mostClasses};
+ghost use Rattle.rules.specs.Store.{storeLimits, firstEntry};
 ghost use Rattle.rules.specs.Questions.{q10-marked};
 ghost use Rattle.store.specs.Entries.{StandFrom};
 ghost use Rattle.store.specs.Sound.{OverSome};
@@ -23,8 +27,7 @@ ghost use Rattle.places.specs.Reads.{Ends};
 ghost use Rattle.homes.specs.Homes.{aidAt};
 ghost use Rattle.homes.specs.Found.{Indexed, ImportHomes};
 ghost use Rattle.depths.specs.Depths.{DepthsKept};
-ghost use Rattle.running.specs.Walk.{seenLength};
-ghost use Rattle.judge.specs.Says.{ReadSome, Asked14Some, NumberFrom, NumberBefore, ParentsAnswer, ParentsTold, InsideAnswer, DepthsTold, FileSays, LoadSays, DomainsYes, entryOf, PackageThere, EntrySays, PackagesSay};
+ghost use Rattle.judge.specs.Says.{usedAt, HasRoom, ReadSome, Asked14Some, NumberFrom, NumberBefore, ParentsAnswer, ParentsTold, InsideAnswer, DepthsTold, FileSays, LoadSays, DomainsYes, entryOf, PackageThere, EntrySays, PackagesSay};
 
 // A load: the number of the first no, or the depth of the deepest own class.
 pub enum LoadAnswer {
@@ -46,13 +49,14 @@ fn running_number<'a>(
     domain: usize,
     file: &'a [u8],
     index: &[u16],
+    names: &mut [u16],
     seen: &mut [u8],
 ) -> u32
     requires { ⌜ Asked14Some (now s) end (aidAt (now s) domain) (now file) × Indexed (now s) end (now index) × Ends aid (now s) domain ⌝ }
-    requires { ⌜ (length (now s) ≤ 65535) × (seenLength (now s) ≤ length (now seen)) ⌝ }
+    requires { ⌜ (length (now s) ≤ 65535) × HasRoom (now s) (now names) (now seen) ⌝ }
     ensures { λ r. ⌜ NumberFrom 20 (now (s .entry)) end (aidAt (now (s .entry)) domain) (now (file .entry)) r ⌝ }
 {
-    if !running::running_ok(file, s, end, domain, index, seen) {
+    if !running::running_ok(file, s, end, domain, index, names, seen) {
         return 20;
     }
     if !store::package_fits(s, end, files::aid_bytes(s, domain), file) {
@@ -77,11 +81,30 @@ fn calls_number<'a>(
     calls::calls_ok(file, s, end, domain, &table, homes) as u32
 }
 
-// 16, 17 and 24 of a file: the number of the first no; 18 where there is none and the file has calls, 0 where it has none.
-fn codes_number(s: &[u8], file: &[u8]) -> u8
-    requires { ⌜ ReadSome (now s) (now file) ⌝ }
+// 16, 17 and 24 of a file: the number of the first no; 18 where there is none and the file has calls, 0 where it has none. With sets for
+// every code limit, in a frame of its own.
+fn codes_long(s: &[u8], file: &[u8]) -> u8
+    requires { ⌜ ReadSome (now s) (now file) × (length (now s) ≤ 65535) ⌝ }
     ensures { λ r. ⌜ FileNumberIs (now (file .entry)) r ⌝ }
 {
+    if 65535 < s.len() {
+        return codes_long(s, file);
+    }
+    let table = instructions::table();
+    let mut starts = [0u8; 4096];
+    let mut targets = [0u8; 4096];
+    file_codes::codes_ok(file, &table, &mut starts, &mut targets)
+}
+
+// The same, with smaller sets where the code limit is 4,096 or less.
+fn codes_number(s: &[u8], file: &[u8]) -> u8
+    requires { ⌜ ReadSome (now s) (now file) × (length (now s) ≤ 65535) ⌝ }
+    ensures { λ r. ⌜ FileNumberIs (now (file .entry)) r ⌝ }
+{
+    let limits = openings::limits_of(s);
+    if 4096 < limits.code {
+        return codes_long(s, file);
+    }
     let table = instructions::table();
     let mut starts = [0u8; 512];
     let mut targets = [0u8; 512];
@@ -97,7 +120,7 @@ fn inside_number<'a>(
     homes: &[usize; 48],
 ) -> u32
     requires { ⌜ Asked14Some (now s) end (aidAt (now s) domain) (now file) × Ends aid (now s) domain ⌝ }
-    requires { ⌜ ImportHomes (now file) (now s) end (now homes) ⌝ }
+    requires { ⌜ ImportHomes (now file) (now s) end (now homes) × (length (now s) ≤ 65535) ⌝ }
     ensures { λ r. ⌜ NumberBefore 15 20 (now (s .entry)) end (aidAt (now (s .entry)) domain) (now (file .entry)) r ⌝ }
 {
     if !names::names_ok(file) {
@@ -134,7 +157,7 @@ fn package_answer<'a>(
         return LoadAnswer::Refused(13);
     }
     let mut rows = [0u16; 512];
-    let limits = store::limits_of(s);
+    let limits = openings::limits_of(s);
     let bounds = Bounds {
         end: end,
         most: limits.depth,
@@ -161,7 +184,7 @@ fn parents_answer<'a>(
     ensures { λ r. ⌜ ParentsAnswer (now (s .entry)) end (now (file .entry)) r ⌝ }
     ensures { λ r. ⌜ ParentsTold (now (s .entry)) end (now (file .entry)) (now (homes .exit)) (now (own .exit)) r ⌝ }
 {
-    match reader::read_package(file, store::limits_of(s)) {
+    match reader::read_package(file, openings::limits_of(s)) {
         Read::Unmarked => LoadAnswer::Refused(10),
         Read::Unreadable => LoadAnswer::Refused(11),
         Read::Package(_) => package_answer(s, end, file, index, homes, depths, own),
@@ -198,26 +221,27 @@ fn inside_answer<'a>(
     }
 }
 
-// Load, from 10 on.
+// Load, from 10 on, over all entries of a store.
 fn file_answer<'a>(
     s: &'a [u8],
-    end: usize,
     domain: usize,
     file: &'a [u8],
     index: &[u16],
     depths: &[u8],
+    names: &mut [u16],
     seen: &mut [u8],
 ) -> LoadAnswer
-    requires { ⌜ OverSome (now s) end × Ends aid (now s) domain ⌝ }
-    requires { ⌜ Indexed (now s) end (now index) × DepthsKept (now s) end (now depths) ⌝ }
-    requires { ⌜ (length (now s) ≤ 65535) × (seenLength (now s) ≤ length (now seen)) ⌝ }
-    ensures { λ r. ⌜ FileSays (now (s .entry)) end (aidAt (now (s .entry)) domain) (now (file .entry)) r ⌝ }
+    requires { ⌜ OverSome (now s) (usedAt (now s)) × Ends aid (now s) domain ⌝ }
+    requires { ⌜ Indexed (now s) (usedAt (now s)) (now index) × DepthsKept (now s) (usedAt (now s)) (now depths) ⌝ }
+    requires { ⌜ (length (now s) ≤ 65535) × HasRoom (now s) (now names) (now seen) ⌝ }
+    ensures { λ r. ⌜ FileSays (now (s .entry)) (usedAt (now (s .entry))) (aidAt (now (s .entry)) domain) (now (file .entry)) r ⌝ }
 {
+    let end = u2_at(s, 5);
     let mut own = [0u8; 32];
     match inside_answer(s, end, domain, file, index, depths, &mut own) {
         LoadAnswer::Refused(n) => LoadAnswer::Refused(n),
         LoadAnswer::Accepted(depth) => {
-            let later = running_number(s, end, domain, file, index, seen);
+            let later = running_number(s, end, domain, file, index, names, seen);
             if later != 0 {
                 return LoadAnswer::Refused(later);
             }
@@ -226,26 +250,27 @@ fn file_answer<'a>(
     }
 }
 
-// Load: 3, 5, 10 to 17, 24, 18 to 21. In a domain's entry the AID stands behind the low byte of its length, two bytes behind the entry's start.
+// Load, over all entries of a store: 3, 5, 10 to 17, 24, 18 to 21. In a domain's entry the AID stands behind the low byte of its length, two
+// bytes behind the entry's start.
 pub fn load_answer<'a>(
     s: &'a [u8],
-    end: usize,
     domain: &[u8],
     file: &'a [u8],
     index: &[u16],
     depths: &[u8],
+    names: &mut [u16],
     seen: &mut [u8],
 ) -> LoadAnswer
-    requires { ⌜ OverSome (now s) end ⌝ }
-    requires { ⌜ Indexed (now s) end (now index) × DepthsKept (now s) end (now depths) ⌝ }
-    requires { ⌜ (length (now s) ≤ 65535) × (seenLength (now s) ≤ length (now seen)) ⌝ }
-    ensures { λ r. ⌜ LoadSays (now (s .entry)) end (now (domain .entry)) (now (file .entry)) r ⌝ }
+    requires { ⌜ OverSome (now s) (usedAt (now s)) ⌝ }
+    requires { ⌜ Indexed (now s) (usedAt (now s)) (now index) × DepthsKept (now s) (usedAt (now s)) (now depths) ⌝ }
+    requires { ⌜ (length (now s) ≤ 65535) × HasRoom (now s) (now names) (now seen) ⌝ }
+    ensures { λ r. ⌜ LoadSays (now (s .entry)) (usedAt (now (s .entry))) (now (domain .entry)) (now (file .entry)) r ⌝ }
 {
     if !cursor::length_ok(domain) {
         return LoadAnswer::Refused(3);
     }
-    match store::find_domain(s, end, domain) {
-        Spot::At(at, _) => file_answer(s, end, at + 2, file, index, depths, seen),
+    match store::find_domain(s, u2_at(s, 5), domain) {
+        Spot::At(at, _) => file_answer(s, at + 2, file, index, depths, names, seen),
         Spot::Nothing => LoadAnswer::Refused(5),
     }
 }
@@ -257,23 +282,25 @@ fn package_sound(
     x: PackageEntry,
     index: &mut [u16],
     depths: &mut [u8],
+    names: &mut [u16],
     seen: &mut [u8],
 ) -> bool
     requires { ⌜ OverSome (now s) (x .at) × PackageThere (now s) x ⌝ }
     requires { ⌜ IndexIs (now s) (x .at) (now index) × DepthsKept (now s) (x .at) (now depths) ⌝ }
-    requires { ⌜ (length (now s) ≤ 65535) × (seenLength (now s) ≤ length (now seen)) ⌝ }
+    requires { ⌜ (length (now s) ≤ 65535) × HasRoom (now s) (now names) (now seen) ⌝ }
     ensures { λ r. ⌜ EntrySays (now (s .entry)) (x .at) (entryOf (now (s .entry)) x) r ⌝ }
     ensures { λ r. ⌜ (r ≡ true → IndexIs (now (s .entry)) (x .next) (now (index .exit)) × DepthsKept (now (s .entry)) (x .next) (now (depths .exit))) ⌝ }
 {
     let at = x.at;
     let file = x.file;
     let next = x.next;
+    let g = &s[file..next];
     let mut own = [0u8; 32];
-    match inside_answer(s, at, at + 3, &s[file..next], index, depths, &mut own) {
+    match inside_answer(s, at, at + 3, g, index, depths, &mut own) {
         LoadAnswer::Refused(_) => false,
         LoadAnswer::Accepted(_) => {
             depths::keep_depths(s, depths, &own, file, next);
-            if running_number(s, at, at + 3, &s[file..next], index, seen) != 0 {
+            if running_number(s, at, at + 3, g, index, names, seen) != 0 {
                 return false;
             }
             index::enter_package(s, at, file, next, index);
@@ -289,15 +316,16 @@ pub fn packages_sound(
     end: usize,
     index: &mut [u16],
     depths: &mut [u8],
+    names: &mut [u16],
     seen: &mut [u8],
 ) -> bool
-    requires { ⌜ StandFrom (now s) 7 end × DomainsYes (now s) end ⌝ }
-    requires { ⌜ IndexIs (now s) 7 (now index) × DepthsKept (now s) 7 (now depths) ⌝ }
-    requires { ⌜ (length (now s) ≤ 65535) × (seenLength (now s) ≤ length (now seen)) ⌝ }
+    requires { ⌜ StandFrom (now s) (firstEntry (now s)) end × DomainsYes (now s) end ⌝ }
+    requires { ⌜ IndexIs (now s) (firstEntry (now s)) (now index) × DepthsKept (now s) (firstEntry (now s)) (now depths) ⌝ }
+    requires { ⌜ (length (now s) ≤ 65535) × HasRoom (now s) (now names) (now seen) ⌝ }
     ensures { λ r. ⌜ PackagesSay (now (s .entry)) end r ⌝ }
     ensures { λ r. ⌜ (r ≡ true → IndexIs (now (s .entry)) end (now (index .exit)) × DepthsKept (now (s .entry)) end (now (depths .exit))) ⌝ }
 {
-    let mut at = 7;
+    let mut at = openings::first_entry(s);
     loop {
         match store::entry_at(s, at, end) {
             EntryPart::Domain(_, next) => {
@@ -309,7 +337,7 @@ pub fn packages_sound(
                     file: file,
                     next: next,
                 };
-                if !package_sound(s, x, index, depths, seen) {
+                if !package_sound(s, x, index, depths, names, seen) {
                     return false;
                 }
                 at = next;

@@ -1,13 +1,14 @@
 -- What the simulated card answers to an input (document 01, "The simulated card"). Assumes nothing.
 --
 -- Print        == a line's number, with its answer and used, or bad
--- cardOf input == the prints of an input, over a store of 8,192 bytes that is fresh at the start
+-- cardOf input == the prints of an input, over a store of version 1 and 8,192 bytes that is fresh at the start
 use Prim.Native.Nat.{ℕ, suc}
 use mathlib.Core.List.{List, [], _∷_}
 use mathlib.Core.Option.{Option, none, some}
 use lib.ListN.{replicate}
 use Rattle.rules.specs.Bytes.{Bytes}
 use Rattle.rules.specs.Code.{u2At}
+use Rattle.rules.specs.Store.{version1}
 use Rattle.rules.specs.Operations.{Operation, number, after, freshBytes}
 use Rattle.lines.specs.Line.{lineOf, linesOf}
 
@@ -39,4 +40,4 @@ abbrev pub zeros : Bytes
 zeros = replicate 8192 0
 
 unfoldable pub cardOf : Bytes → List Print
-cardOf input = printsFrom 1 (freshBytes zeros) (linesOf input)
+cardOf input = printsFrom 1 (freshBytes zeros version1) (linesOf input)

@@ -5,7 +5,7 @@ use mathlib.Core.Path.{_≡_, _∙_, subst}
 use mathlib.Core.Bool.{false}
 use lib.ListN.{length}
 use Rattle.rules.specs.Bytes.{Bytes, Aid}
-use Rattle.rules.specs.Package.{standard}
+use Rattle.rules.specs.Store.{storeOpening, storeLimits}
 use Rattle.rules.specs.Operations.{entries, Operation, questions, number, after, queryQuestions, queryNumber, queryYes}
 use Rattle.store.proofs.Sound.{kept, refused-after}
 use Rattle.sound.specs.Says.{OpenedSays}
@@ -17,7 +17,7 @@ pub refused-number : (s : Bytes) (o : Operation) (r : Opened) (n : ℕ) → r �
 unfolding number
 refused-number s o r n z q =
     let p = subst (OpenedSays s) z q in
-    let e : n ≡ number s o = p .1 (questions (length s) (entries s) o) in
+    let e : n ≡ number s o = p .1 (questions (storeOpening s) (length s) (entries s) o) in
     (e, refused-after s o n (p .0) e)
 
 -- a refused query says no
@@ -25,6 +25,6 @@ pub refused-query : (s : Bytes) (d a : Aid) (c n : ℕ) (r : Opened) (k : ℕ) �
 unfolding queryNumber queryYes
 refused-query s d a c n r k z q =
     let p = subst (OpenedSays s) z q in
-    let e : k ≡ queryNumber s d a c n = p .1 (queryQuestions standard (entries s) d a c n) in
+    let e : k ≡ queryNumber s d a c n = p .1 (queryQuestions (storeLimits s) (entries s) d a c n) in
     let no : queryYes s d a c n ≡ false = kept (queryNumber s d a c n) _ false (λ y. p .0 (e ∙ y)) in
     rw no (omega (arith, e))

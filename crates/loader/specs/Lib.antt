@@ -1,2 +1,2 @@
--- What the six operations promise.
+-- What the operations promise.
 pub mod Promises

@@ -1,10 +1,12 @@
-// The six operations that the card's operating system calls. Each result is number + 256 × figure.
+// The operations that the card's operating system calls. Each result is number + 256 × figure.
 use services::Cut;
 use sound::Loading;
 use sound::Opened;
 ghost use mathlib.Core.Path.{_≡_};
+ghost use Rattle.rules.specs.Store.{version1, version2};
 ghost use Rattle.rules.specs.Operations.{create, delete, load, remove, number, after, freshNumber, freshBytes};
 ghost use Rattle.store.specs.Sound.{SoundAt};
+ghost use Rattle.writing.specs.Changes.{limitsGiven};
 ghost use Rattle.judge.specs.Says.{LoadSays};
 ghost use Rattle.judge.specs.declared.LoadAnswer.the-variants.{Accepted};
 ghost use Rattle.loader.specs.Promises.{LoadPromise, QueryPromise};
@@ -67,14 +69,29 @@ fn load_on(store: &mut [u8], used: usize, domain: &[u8], file: &[u8], depth: usi
 // Makes an empty store of a buffer of 64 to 65,535 bytes, whatever it held.
 #[no_mangle]
 pub extern "C" fn loader_fresh(store: &mut [u8]) -> u32
-    ensures { λ r. ⌜ r ≡ freshNumber (now (store .entry)) ⌝ }
-    ensures { λ _. ⌜ now (store .exit) ≡ freshBytes (now (store .entry)) ⌝ }
+    ensures { λ r. ⌜ r ≡ freshNumber (now (store .entry)) version1 ⌝ }
+    ensures { λ _. ⌜ now (store .exit) ≡ freshBytes (now (store .entry)) version1 ⌝ }
 {
     if !store::size_ok(store) {
         return 1;
     }
     writing::write_fresh(store);
     0
+}
+
+// The second fresh call: makes an empty store with these limits of such a buffer, where each limit lies in its range.
+#[no_mangle]
+pub extern "C" fn loader_fresh_limits(store: &mut [u8], depth: u8, parents: u8, code: u16) -> u32
+    ensures { λ r. ⌜ r ≡ freshNumber (now (store .entry)) (version2 (limitsGiven depth parents code)) ⌝ }
+    ensures { λ _. ⌜ now (store .exit) ≡ freshBytes (now (store .entry)) (version2 (limitsGiven depth parents code)) ⌝ }
+{
+    if store::size_ok(store) {
+        if writing::write_fresh_limits(store, depth, parents, code) {
+            return 0;
+        }
+        return 30;
+    }
+    1
 }
 
 // Creates a domain.

@@ -9,7 +9,8 @@ use lib.Dec.{eqb, ltb}
 use lib.ListN.{length, getD}
 use borrow.Author.Tests.{eqb-true, eqb-false, ltb-true, ltb-false}
 use Rattle.rules.specs.Bytes.{Bytes, u1, aid}
-use Rattle.rules.specs.Package.{Limits, storeLimits, mostImports, mostClasses, Package, readFile}
+use Rattle.rules.specs.Package.{Limits, mostImports, mostClasses, Package, readFile}
+use Rattle.rules.specs.Store.{storeLimits}
 use Rattle.rules.specs.Classes.{Installed, installed, packageNumbered}
 use Rattle.places.proofs.Steady.{steady-u1, steady-aid}
 use Rattle.places.proofs.Inverse.{reads-counted}

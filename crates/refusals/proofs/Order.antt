@@ -10,8 +10,8 @@ use lib.Dec.{T, eqb, ltb}
 use lib.ListN.{length}
 use borrow.Author.Tests.{ne-eqb, lt-ltb, le-ltb, ltb-true}
 use Rattle.rules.specs.Bytes.{Bytes, Aid, pick, all}
-use Rattle.rules.specs.Package.{Limits, Package}
-use Rattle.rules.specs.Store.{Entry}
+use Rattle.rules.specs.Package.{Package}
+use Rattle.rules.specs.Store.{Opening, Entry}
 use Rattle.rules.specs.Operations.{Question, firstNo, packageQuestions}
 use Rattle.rules.proofs.Tests.{and-l, and-r, is-true}
 use Rattle.refusals.specs.Order.{asked, rankIn, rank, firstOf, Asks, answers, answersAll, noOf, noOfAll, numbers, rising}
@@ -165,6 +165,6 @@ within (n ∷ ns) [] = false
 within (n ∷ ns) (q ∷ qs) = pick (eqb n (q .0)) (within ns qs) (within (n ∷ ns) qs)
 
 -- the order is that of a load's list
-pub asked-by-load : (l : Limits) (n : ℕ) (es : List Entry) (d : Aid) (f : Bytes) (p : Package) → T (within asked (packageQuestions l n es d f (some p)))
+pub asked-by-load : (v : Opening) (n : ℕ) (es : List Entry) (d : Aid) (f : Bytes) (p : Package) → T (within asked (packageQuestions v n es d f (some p)))
 unfolding packageQuestions
-asked-by-load l n es d f p = tt
+asked-by-load v n es d f p = tt

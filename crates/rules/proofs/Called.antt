@@ -12,7 +12,7 @@ use lib.Dec.{T, eqb, eqb-refl, leb→le}
 use Rattle.rules.specs.Bytes.{pick, at, listOf}
 use Rattle.rules.specs.Code.{Call, CallKind, virtual, special, static, interface, callsOf}
 use Rattle.rules.specs.Package.{Limits, ClassNumber, Method, Class}
-use Rattle.rules.specs.Store.{Entry}
+use Rattle.rules.specs.Store.{Opening, openingLimits, Entry}
 use Rattle.rules.specs.Classes.{Installed, installed, hasAid, packageNumbered, ClassAt, recordOf, classNamed, parentsOf, depthUpTo, ancestorsUpTo, declared, MethodAt, runsUpTo}
 use Rattle.rules.specs.Questions.{own, Named, callNames, methodNamed}
 use Rattle.rules.specs.Operations.{soundEntries}
@@ -176,13 +176,16 @@ module _ (l : Limits) (is : List Installed) (sane : Sane l is) (distinct : Disti
       rw z c
 
 -- of installed methods of a sound store
-module _ (l : Limits) (n : ℕ) (es : List Entry) (h : T (soundEntries l n es)) (m o : InstalledMethod l es) where
+module _ (v : Opening) (n : ℕ) (es : List Entry) (h : T (soundEntries v n es)) (m o : InstalledMethod (openingLimits v) es) where
+  abbrev l : Limits
+  l = openingLimits v
+
   there : (x : InstalledMethod l es) → There (installed l es) (located x)
   there x = record { class = x .class; home = home-installed l es x; there = x .classIs; member = x .methodIn }
 
   pub installed-calls-yes : Calls (installed l es) (located m) (located o) → T (callsB l (installed l es) (located m) (located o))
-  installed-calls-yes c = calls-yes l (installed l es) (sound-sane l n es h) (sound-distinct l n es h) (located m) (located o) c
+  installed-calls-yes c = calls-yes l (installed l es) (sound-sane v n es h) (sound-distinct v n es h) (located m) (located o) c
 
   pub installed-yes-calls : T (callsB l (installed l es) (located m) (located o)) → Calls (installed l es) (located m) (located o)
   installed-yes-calls t =
-      yes-calls l (installed l es) (sound-sane l n es h) (sound-distinct l n es h) (located m) (located o) (home-installed l es m) (there o) t
+      yes-calls l (installed l es) (sound-sane v n es h) (sound-distinct v n es h) (located m) (located o) (home-installed l es m) (there o) t

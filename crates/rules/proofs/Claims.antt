@@ -7,9 +7,9 @@ use mathlib.Core.Option.{Option, none, some}
 use lib.Dec.{T, eqb}
 use lib.ListN.{length}
 use Rattle.rules.specs.Bytes.{Bytes, Aid, any}
-use Rattle.rules.specs.Package.{standard, Package, readFile}
-use Rattle.rules.specs.Store.{write}
-use Rattle.rules.specs.Operations.{createQuestions, deleteQuestions, packageQuestions, loadQuestions, removeQuestions, queryQuestions, entries, Operation, create, delete, load, remove, number, change, ifDone, after, freshNumber, freshBytes, queryNumber, queryYes}
+use Rattle.rules.specs.Package.{Package, readFile}
+use Rattle.rules.specs.Store.{Opening, version1, version2, storeOpening, storeLimits}
+use Rattle.rules.specs.Operations.{createQuestions, deleteQuestions, packageQuestions, loadQuestions, removeQuestions, queryQuestions, entries, Operation, create, delete, load, remove, number, ifDone, after, freshNumber, freshBytes, queryNumber, queryYes}
 use Rattle.rules.specs.Demands.{refusalsOf, freshRefusals, queryRefusals, withDone, asked, askedFresh, askedQuery, numbersIn, HasFile, allYes, FirstNo, storedAllows}
 use Rattle.rules.proofs.Answers.{numberedBy, positive, first-listed, zero-yes, yes-zero, first-no}
 use Rattle.rules.proofs.Results.{if-refused}
@@ -19,9 +19,9 @@ asked-numbers : (s : Bytes) (o : Operation) → T (numberedBy (refusalsOf o) (as
 unfolding createQuestions deleteQuestions packageQuestions loadQuestions removeQuestions
 asked-numbers s (create a) = tt
 asked-numbers s (delete a) = tt
-asked-numbers s (load d f) = of-file (readFile standard f)
+asked-numbers s (load d f) = of-file (readFile (storeLimits s) f)
   where
-    of-file : (o : Option Package) → T (numberedBy (refusalsOf (load d f)) (packageQuestions standard (length s) (entries s) d f o))
+    of-file : (o : Option Package) → T (numberedBy (refusalsOf (load d f)) (packageQuestions (storeOpening s) (length s) (entries s) d f o))
     of-file none = tt
     of-file (some p) = tt
 asked-numbers s (remove a) = tt
@@ -41,9 +41,21 @@ pub number-listed : (s : Bytes) (o : Operation) → T (any (eqb (number s o)) (w
 unfolding number
 number-listed s o = first-listed (refusalsOf o) (asked s o) (asked-numbers s o)
 
-pub fresh-listed : (s : Bytes) → T (any (eqb (freshNumber s)) (withDone freshRefusals))
+fresh-numbers : (s : Bytes) (v : Opening) → T (numberedBy (freshRefusals v) (askedFresh s v))
+fresh-numbers s version1 = tt
+fresh-numbers s (version2 l) = tt
+
+fresh-positive : (v : Opening) → T (positive (freshRefusals v))
+fresh-positive version1 = tt
+fresh-positive (version2 l) = tt
+
+pub fresh-order : (s : Bytes) (v : Opening) → numbersIn (askedFresh s v) ≡ freshRefusals v
+fresh-order s version1 = refl
+fresh-order s (version2 l) = refl
+
+pub fresh-listed : (s : Bytes) (v : Opening) → T (any (eqb (freshNumber s v)) (withDone (freshRefusals v)))
 unfolding freshNumber
-fresh-listed s = first-listed freshRefusals (askedFresh s) tt
+fresh-listed s v = first-listed (freshRefusals v) (askedFresh s v) (fresh-numbers s v)
 
 pub query-listed : (s : Bytes) (d a : Aid) (c n : ℕ) → T (any (eqb (queryNumber s d a c n)) (withDone queryRefusals))
 unfolding queryNumber
@@ -52,28 +64,28 @@ query-listed s d a c n = first-listed queryRefusals (askedQuery s d a c n) (quer
 -- demand 1: a refusal leaves every byte
 pub refused-leaves : (s : Bytes) (o : Operation) → (number s o ≡ 0 → ⊥) → after s o ≡ s
 unfolding after
-refused-leaves s o h = if-refused (number s o) (write (length s) (change (entries s) o)) s h
+refused-leaves s o h = if-refused (number s o) _ s h
 
-pub fresh-leaves : (s : Bytes) → (freshNumber s ≡ 0 → ⊥) → freshBytes s ≡ s
+pub fresh-leaves : (s : Bytes) (v : Opening) → (freshNumber s v ≡ 0 → ⊥) → freshBytes s v ≡ s
 unfolding freshBytes
-fresh-leaves s h = if-refused (freshNumber s) (write (length s) []) s h
+fresh-leaves s v h = if-refused (freshNumber s v) _ s h
 
 -- demand 2: fresh
-module _ (s : Bytes) where
-  pub fresh-done-yes : freshNumber s ≡ 0 → T (allYes (askedFresh s))
+module _ (s : Bytes) (v : Opening) where
+  pub fresh-done-yes : freshNumber s v ≡ 0 → T (allYes (askedFresh s v))
   unfolding freshNumber
-  fresh-done-yes e = zero-yes freshRefusals (askedFresh s) tt tt e
+  fresh-done-yes e = zero-yes (freshRefusals v) (askedFresh s v) (fresh-positive v) (fresh-numbers s v) e
 
-  pub fresh-yes-done : T (allYes (askedFresh s)) → freshNumber s ≡ 0
+  pub fresh-yes-done : T (allYes (askedFresh s v)) → freshNumber s v ≡ 0
   unfolding freshNumber
-  fresh-yes-done h = yes-zero (askedFresh s) h
+  fresh-yes-done h = yes-zero (askedFresh s v) h
 
-  pub fresh-refused-first : (freshNumber s ≡ 0 → ⊥) → FirstNo (freshNumber s) (askedFresh s)
+  pub fresh-refused-first : (freshNumber s v ≡ 0 → ⊥) → FirstNo (freshNumber s v) (askedFresh s v)
   unfolding freshNumber
-  fresh-refused-first h = first-no (askedFresh s) h
+  fresh-refused-first h = first-no (askedFresh s v) h
 
 -- demand 2: the order of the questions
-pub asked-order : (s : Bytes) (o : Operation) → HasFile o → numbersIn (asked s o) ≡ refusalsOf o
+pub asked-order : (s : Bytes) (o : Operation) → HasFile s o → numbersIn (asked s o) ≡ refusalsOf o
 unfolding createQuestions deleteQuestions packageQuestions loadQuestions removeQuestions
 asked-order s (create a) h = refl
 asked-order s (delete a) h = refl
@@ -85,7 +97,7 @@ unfolding queryQuestions
 query-order s d a c n = refl
 
 -- of a file that does not read, up to 11
-pub unread-order : (s : Bytes) (d : Aid) (f : Bytes) → readFile standard f ≡ none → numbersIn (asked s (load d f)) ≡ 1 ∷ 2 ∷ 3 ∷ 5 ∷ 10 ∷ 11 ∷ []
+pub unread-order : (s : Bytes) (d : Aid) (f : Bytes) → readFile (storeLimits s) f ≡ none → numbersIn (asked s (load d f)) ≡ 1 ∷ 2 ∷ 3 ∷ 5 ∷ 10 ∷ 11 ∷ []
 unfolding loadQuestions packageQuestions
 unread-order s d f e = rw e
 

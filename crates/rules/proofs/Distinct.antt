@@ -8,7 +8,7 @@ use mathlib.Core.Option.{none, some, Option·some-injective}
 use lib.Dec.{T, eqb, eqb→eq, eqb-refl, T-not}
 use Rattle.rules.specs.Bytes.{all, at, same}
 use Rattle.rules.specs.Package.{Limits, Method, Class}
-use Rattle.rules.specs.Store.{Entry, domain, loaded}
+use Rattle.rules.specs.Store.{Opening, openingLimits, Entry, domain, loaded}
 use Rattle.rules.specs.Classes.{Installed, installed, hasAid, byAid, ClassAt, recordOf, MethodAt}
 use Rattle.rules.specs.Questions.{namesDiffer, methodForm, q12-new, q15-names}
 use Rattle.rules.specs.Operations.{accepted, acceptedAll, soundEntries}
@@ -22,7 +22,10 @@ use Rattle.rules.proofs.Sound.{Sane, byAid-more, installed-domain, inst
 abbrev pub Distinct : List Installed → Type 0
 Distinct is = (x : Installed) → List·Memᴰ x is → byAid is (x .pack .aid) ≡ some x
 
-module _ (l : Limits) where
+module _ (v : Opening) where
+  abbrev l : Limits
+  l = openingLimits v
+
   distinct-with : (is : List Installed) (self : Installed) → Distinct is → T (q12-new is (self .pack)) → Distinct (is ++ self ∷ [])
   unfolding q12-new
   distinct-with is self d q12 x m = elim (List·Memᴰ·append-cases is m) [
@@ -33,21 +36,21 @@ module _ (l : Limits) where
         rw e (find-append (hasAid (self .pack .aid)) is (self ∷ []) ∙ rw (n, s))
   ]
 
-  distinct-next : (n : ℕ) (es : List Entry) (e : Entry) → Distinct (installed l es) → T (accepted l n es e) → Distinct (installed l (es ++ e ∷ []))
+  distinct-next : (n : ℕ) (es : List Entry) (e : Entry) → Distinct (installed l es) → T (accepted v n es e) → Distinct (installed l (es ++ e ∷ []))
   distinct-next n es (domain a) s h = subst Distinct (sym (installed-domain l es a)) s
   distinct-next n es (loaded d f) s h =
-      let r = load-yes l n es d f (eqb→eq _ 0 h) in
+      let r = load-yes v n es d f (eqb→eq _ 0 h) in
       subst Distinct (sym (installed-loaded l es d f (r .0) (r .1 .q11))) (distinct-with (installed l es) (record { domain = d; pack = r .0 }) s (r .1 .q12))
 
-  distinct-all : (n : ℕ) (es rest : List Entry) → Distinct (installed l es) → T (acceptedAll l n es rest) → Distinct (installed l (es ++ rest))
+  distinct-all : (n : ℕ) (es rest : List Entry) → Distinct (installed l es) → T (acceptedAll v n es rest) → Distinct (installed l (es ++ rest))
   distinct-all n es [] s h = subst (λ (xs : List Entry). Distinct (installed l xs)) (sym (append-nil es)) s
   distinct-all n es (e ∷ rest) s h =
-      let a : T (accepted l n es e) = and-l (accepted l n es e) _ h in
-      let b : T (acceptedAll l n (es ++ e ∷ []) rest) = and-r (accepted l n es e) _ h in
+      let a : T (accepted v n es e) = and-l (accepted v n es e) _ h in
+      let b : T (acceptedAll v n (es ++ e ∷ []) rest) = and-r (accepted v n es e) _ h in
       subst (λ (xs : List Entry). Distinct (installed l xs)) (append-assoc es (e ∷ []) rest) (distinct-all n (es ++ e ∷ []) rest (distinct-next n es e s a) b)
 
   -- in a sound store
-  pub sound-distinct : (n : ℕ) (es : List Entry) → T (soundEntries l n es) → Distinct (installed l es)
+  pub sound-distinct : (n : ℕ) (es : List Entry) → T (soundEntries v n es) → Distinct (installed l es)
   unfolding soundEntries
   sound-distinct n es h = distinct-all n [] es (λ x m. elim m [ ]) h
 

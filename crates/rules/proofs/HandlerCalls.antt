@@ -7,8 +7,8 @@ use mathlib.Core.Option.{some}
 use lib.ListN.{length}
 use Rattle.rules.specs.Bytes.{Bytes, flat, listOf}
 use Rattle.rules.specs.Code.{split, Handler, Call, callAt, callsOf}
-use Rattle.rules.specs.Package.{Limits, standard}
-use Rattle.rules.specs.Store.{Entry}
+use Rattle.rules.specs.Package.{Limits}
+use Rattle.rules.specs.Store.{Opening, openingLimits, Entry}
 use Rattle.rules.specs.Classes.{Installed, installed, MethodAt}
 use Rattle.rules.specs.Operations.{Operation, freshNumber, freshBytes}
 use Rattle.rules.specs.Ledger.{ledgerAfter, Run}
@@ -71,11 +71,11 @@ handler-calls l es sane m o h z k b c n made = go (m .method .implemented) refl
         made-calls (installed l es) (located m) (located o) c ((calls-begin (m .method .code) (cut .0) (cut .1) c) .1 k b n) made
 
 -- of the ledger of a list of calls: a call inside a handler makes a path, and one with any path behind it, and along these demand 3 holds
-pub handler-paths : (s : Bytes) → freshNumber s ≡ 0 → (os : List Operation) (ks : List ℕ) (t : Bytes) → Run (freshBytes s) os ks t →
-    CallsInHandlers standard (ledgerAfter (length s) [] os)
-handler-paths s z os ks t r m o h x k i b c n made =
-    let es = ledgerAfter (length s) [] os in
-    let calls = handler-calls standard es (fresh-sane s z os) m o h x k b c n made in
+pub handler-paths : (s : Bytes) (v : Opening) → freshNumber s v ≡ 0 → (os : List Operation) (ks : List ℕ) (t : Bytes) → Run (freshBytes s v) os ks t →
+    CallsInHandlers (openingLimits v) (ledgerAfter v (length s) [] os)
+handler-paths s v z os ks t r m o h x k i b c n made =
+    let es = ledgerAfter v (length s) [] os in
+    let calls = handler-calls (openingLimits v) es (fresh-sane s v z os) m o h x k b c n made in
     let path = call m o calls in
-    let kept = (whole s z os ks t r) .1 m o path in
+    let kept = (whole s v z os ks t r) .1 m o path in
     (path, (λ p on. thenCall m o p calls on), kept .0, kept .1)

@@ -1,4 +1,4 @@
--- The laws about the definitions. Demand1, Demand2 and Demand3 are the claims of document 01, Request5, Request2 and Request7 those of document
+-- The laws about the definitions. Demand1, Demand2 and Demand3 are the claims of document 01, Request5, Request2, Request7 and Request12 those of document
 -- 02; Exact says what single definitions are exactly; Witness, WitnessOwn and WitnessHandlers show that demand 3 is not empty.
 pub mod Demand1
 pub mod Demand2
@@ -6,6 +6,7 @@ pub mod Demand3
 pub mod Request5
 pub mod Request2
 pub mod Request7
+pub mod Request12
 pub mod Exact
 pub mod Claims
 pub mod Answers
@@ -35,6 +36,8 @@ pub mod Tails
 pub mod Asked
 pub mod Written
 pub mod Back
+pub mod Opens
+pub mod Openings
 pub mod Bounds
 pub mod Lengths
 pub mod Signed

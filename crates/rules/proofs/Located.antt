@@ -11,7 +11,7 @@ use mathlib.Core.Option.{Option, none, some}
 use lib.Dec.{T}
 use Rattle.rules.specs.Bytes.{Bytes, Aid, at, isSome}
 use Rattle.rules.specs.Package.{Limits, standard, readFile, Method, Class, Package}
-use Rattle.rules.specs.Store.{Entry, domain, loaded}
+use Rattle.rules.specs.Store.{version1, Entry, domain, loaded}
 use Rattle.rules.specs.Classes.{installed}
 use Rattle.rules.specs.Operations.{soundEntries}
 use Rattle.rules.specs.Paths.{InstalledMethod, located, CallPath, call, thenCall}
@@ -77,12 +77,12 @@ module _ (es : List Entry) where
   Leads x y = (m : Found) × (o : Found) × Is m x × Is o y × CallPath standard es m o
 
 -- where the entries would be accepted again
-module _ (n : ℕ) (es : List Entry) (accepted : T (soundEntries standard n es)) where
+module _ (n : ℕ) (es : List Entry) (accepted : T (soundEntries version1 n es)) where
   -- a computed call is a path of two
   pub called-path : (m o : Found es) → T (callsB standard (installed standard es) (located m) (located o)) → CallPath standard es m o
-  called-path m o h = call m o (installed-yes-calls standard n es accepted m o h)
+  called-path m o h = call m o (installed-yes-calls version1 n es accepted m o h)
 
   -- a call before a path
   pub before-path : (m o p : Found es) → T (callsB standard (installed standard es) (located m) (located o)) → CallPath standard es o p →
       CallPath standard es m p
-  before-path m o p h r = thenCall m o p (installed-yes-calls standard n es accepted m o h) r
+  before-path m o p h r = thenCall m o p (installed-yes-calls version1 n es accepted m o h) r

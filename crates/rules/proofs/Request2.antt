@@ -14,6 +14,7 @@ use lib.Dec.{T}
 use lib.ListN.{length}
 use Rattle.rules.specs.Bytes.{Bytes, Aid}
 use Rattle.rules.specs.Package.{standard, Item, listed, ownDomain, only}
+use Rattle.rules.specs.Store.{Opening, version1, openingLimits}
 use Rattle.rules.specs.Classes.{MethodAt, meant, allows}
 use Rattle.rules.specs.Operations.{Operation, freshNumber, freshBytes}
 use Rattle.rules.specs.Ledger.{ledgerAfter, Run}
@@ -31,13 +32,13 @@ request2 m a = (allows-says m a, says-allows m a)
 pub request2-same : (d : Aid) (xs ys : List Item) → meant d (only (xs ++ ownDomain ∷ ys)) ≡ meant d (only (xs ++ listed d ∷ ys))
 request2-same = own-by-index
 
-pub request2-paths : (s : Bytes) → freshNumber s ≡ 0 → (os : List Operation) (ks : List ℕ) (t : Bytes) → Run (freshBytes s) os ks t →
-    PathsAllow standard (ledgerAfter (length s) [] os)
-request2-paths s h os ks t r = demand3 s h os ks t r .1
+pub request2-paths : (s : Bytes) (v : Opening) → freshNumber s v ≡ 0 → (os : List Operation) (ks : List ℕ) (t : Bytes) → Run (freshBytes s v) os ks t →
+    PathsAllow (openingLimits v) (ledgerAfter v (length s) [] os)
+request2-paths s v h os ks t r = demand3 s v h os ks t r .1
 
 -- two packages in two domains, FE on both sides
 pub record Witness : Type 0 where
-  pub installed : ledgerAfter 256 [] installingOwn ≡ ownPackages
+  pub installed : ledgerAfter version1 256 [] installingOwn ≡ ownPackages
   pub first : InstalledMethod standard ownPackages
   pub last : InstalledMethod standard ownPackages
   pub domains : (first .domain ≡ D2) × (last .domain ≡ D1)

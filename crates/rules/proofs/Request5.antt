@@ -7,7 +7,8 @@ use Prim.Native.Nat.{ℕ}
 use mathlib.Core.Path.{_≡_}
 use mathlib.Core.Option.{some}
 use Rattle.rules.specs.Bytes.{Bytes, Aid}
-use Rattle.rules.specs.Package.{standard, Package, readFile}
+use Rattle.rules.specs.Package.{Package, readFile}
+use Rattle.rules.specs.Store.{storeLimits}
 use Rattle.rules.specs.Classes.{installed}
 use Rattle.rules.specs.Operations.{entries, load, number, depthFigure}
 use Rattle.rules.specs.Unbounded.{Deepest}
@@ -16,9 +17,9 @@ use Rattle.rules.specs.CasesDepths.{withThree, firstDeepest}
 use Rattle.rules.proofs.Results.{figure-refused, figure-exactly}
 use Rattle.rules.proofs.Witness.{first-deepest}
 
-pub request5 : (s : Bytes) (d : Aid) (f : Bytes) (p : Package) → number s (load d f) ≡ 0 → readFile standard f ≡ some p → (n : ℕ) →
-    (n ≡ depthFigure s d f → Deepest (installed standard (entries s)) (record { domain = d; pack = p }) n)
-    × (Deepest (installed standard (entries s)) (record { domain = d; pack = p }) n → n ≡ depthFigure s d f)
+pub request5 : (s : Bytes) (d : Aid) (f : Bytes) (p : Package) → number s (load d f) ≡ 0 → readFile (storeLimits s) f ≡ some p → (n : ℕ) →
+    (n ≡ depthFigure s d f → Deepest (installed (storeLimits s) (entries s)) (record { domain = d; pack = p }) n)
+    × (Deepest (installed (storeLimits s) (entries s)) (record { domain = d; pack = p }) n → n ≡ depthFigure s d f)
 request5 = figure-exactly
 
 pub request5-refused : (s : Bytes) (d : Aid) (f : Bytes) → (number s (load d f) ≡ 0 → ⊥) → depthFigure s d f ≡ 0

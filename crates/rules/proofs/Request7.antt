@@ -17,6 +17,7 @@ use lib.ListN.{length}
 use Rattle.rules.specs.Bytes.{Bytes}
 use Rattle.rules.specs.Code.{split, Handler, Call, callAt}
 use Rattle.rules.specs.Package.{Limits, standard, edition1, edition2, Method, Class, Package, editionOf, readFile}
+use Rattle.rules.specs.Store.{Opening, version1, openingLimits}
 use Rattle.rules.specs.Classes.{installed}
 use Rattle.rules.specs.Questions.{q16-splits, q24-handlers}
 use Rattle.rules.specs.Operations.{Operation, freshNumber, freshBytes}
@@ -47,13 +48,13 @@ pub request7-version1 : (l : Limits) (f : Bytes) (p : Package) → editionOf f �
     EveryMethod (λ m. m .handlers ≡ []) p × (T (q16-splits p) → T (q24-handlers p))
 request7-version1 l f p e r = (first-without l f p e r, first-passes l f p e r)
 
-pub request7-calls : (s : Bytes) → freshNumber s ≡ 0 → (os : List Operation) (ks : List ℕ) (t : Bytes) → Run (freshBytes s) os ks t →
-    CallsInHandlers standard (ledgerAfter (length s) [] os)
+pub request7-calls : (s : Bytes) (v : Opening) → freshNumber s v ≡ 0 → (os : List Operation) (ks : List ℕ) (t : Bytes) → Run (freshBytes s v) os ks t →
+    CallsInHandlers (openingLimits v) (ledgerAfter v (length s) [] os)
 request7-calls = handler-paths
 
 -- a handler with a call in what it guards, to a method of a package of version 1, and one at its target
 pub record Witness : Type 0 where
-  pub installed : ledgerAfter 256 [] installingHandlers ≡ handlerPackages
+  pub installed : ledgerAfter version1 256 [] installingHandlers ≡ handlerPackages
   pub first : InstalledMethod standard handlerPackages
   pub guarded : InstalledMethod standard handlerPackages
   pub aimed : InstalledMethod standard handlerPackages

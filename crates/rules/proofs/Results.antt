@@ -8,7 +8,8 @@ use mathlib.Core.List.{List}
 use mathlib.Core.Option.{some, Option·some-injective}
 use lib.ListN.{length}
 use Rattle.rules.specs.Bytes.{Bytes, Aid}
-use Rattle.rules.specs.Package.{standard, Package, readFile}
+use Rattle.rules.specs.Package.{Package, readFile}
+use Rattle.rules.specs.Store.{storeOpening, storeLimits}
 use Rattle.rules.specs.Classes.{Installed, installed}
 use Rattle.rules.specs.Questions.{q1-size}
 use Rattle.rules.specs.Operations.{sound, entries, load, ifDone, number, deepest, ownDeepest, depthFigure, queryNumber, queryYes}
@@ -27,41 +28,41 @@ module _ (s : Bytes) (d : Aid) (f : Bytes) where
   figure-refused h = if-refused (number s (load d f)) _ 0 h
 
   -- an accepted load's file reads, and all its questions are answered yes
-  accepted-yes : number s (load d f) ≡ 0 → (p : Package) × LoadYes standard (length s) (entries s) d f p
+  accepted-yes : number s (load d f) ≡ 0 → (p : Package) × LoadYes (storeOpening s) (length s) (entries s) d f p
   unfolding number
   accepted-yes z =
       let a = first-yes 1 (q1-size s) _ tt z in
       let b = first-yes 2 (sound s) _ tt (a .1) in
-      load-yes standard (length s) (entries s) d f (b .1)
+      load-yes (storeOpening s) (length s) (entries s) d f (b .1)
 
   -- its figure is the depth of the deepest own class
-  pub figure-deepest : number s (load d f) ≡ 0 → (p : Package) × (readFile standard f ≡ some p)
-      × Deepest (installed standard (entries s)) (record { domain = d; pack = p }) (depthFigure s d f)
+  pub figure-deepest : number s (load d f) ≡ 0 → (p : Package) × (readFile (storeLimits s) f ≡ some p)
+      × Deepest (installed (storeLimits s) (entries s)) (record { domain = d; pack = p }) (depthFigure s d f)
   unfolding depthFigure deepest
   figure-deepest z =
       let y = accepted-yes z in
-      let is : List Installed = installed standard (entries s) in
+      let is : List Installed = installed (storeLimits s) (entries s) in
       let self : Installed = record { domain = d; pack = y .0 } in
-      (y .0, y .1 .q11, rw (z, y .1 .q11) (deepest-is standard is self ((parents-yes standard is self (y .1 .inside .q14)) .depths)))
+      (y .0, y .1 .q11, rw (z, y .1 .q11) (deepest-is (storeLimits s) is self ((parents-yes (storeLimits s) is self (y .1 .inside .q14)) .depths)))
 
   -- and no other number is
-  pub figure-exactly : (p : Package) → number s (load d f) ≡ 0 → readFile standard f ≡ some p → (n : ℕ) →
-      (n ≡ depthFigure s d f → Deepest (installed standard (entries s)) (record { domain = d; pack = p }) n)
-      × (Deepest (installed standard (entries s)) (record { domain = d; pack = p }) n → n ≡ depthFigure s d f)
+  pub figure-exactly : (p : Package) → number s (load d f) ≡ 0 → readFile (storeLimits s) f ≡ some p → (n : ℕ) →
+      (n ≡ depthFigure s d f → Deepest (installed (storeLimits s) (entries s)) (record { domain = d; pack = p }) n)
+      × (Deepest (installed (storeLimits s) (entries s)) (record { domain = d; pack = p }) n → n ≡ depthFigure s d f)
   figure-exactly p z r n =
       let y = figure-deepest z in
       let q : y .0 ≡ p = Option·some-injective _ _ (sym (y .1) ∙ r) in
-      let is : List Installed = installed standard (entries s) in
+      let is : List Installed = installed (storeLimits s) (entries s) in
       let here = subst (λ (x : Package). Deepest is (record { domain = d; pack = x }) (depthFigure s d f)) q (y .2) in
       (λ e. subst (Deepest is (record { domain = d; pack = p })) (sym e) here, λ h. deepest-one is (record { domain = d; pack = p }) n _ h here)
 
-  -- no figure is above 8
-  pub figure-within : depthFigure s d f ≤ standard .depth
+  -- no figure is above the store's limit
+  pub figure-within : depthFigure s d f ≤ storeLimits s .depth
   unfolding depthFigure
   figure-within = go (number s (load d f)) refl
     where
-      go : (n : ℕ) → number s (load d f) ≡ n → ifDone n (ownDeepest s d f) 0 ≤ standard .depth
-      go zero e = let y = accepted-yes e in rw (y .1 .q11) (deepest-limit standard (length s) (entries s) d f (y .0) (y .1))
+      go : (n : ℕ) → number s (load d f) ≡ n → ifDone n (ownDeepest s d f) 0 ≤ storeLimits s .depth
+      go zero e = let y = accepted-yes e in rw (y .1 .q11) (deepest-limit (storeOpening s) (length s) (entries s) d f (y .0) (y .1))
       go (suc n) e = omega arith
 
 -- a refused query

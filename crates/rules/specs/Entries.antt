@@ -1,12 +1,30 @@
--- The store: its entries and its layout (document 01, "The store"). Assumes nothing.
+-- The store: its opening, its entries and its layout (document 01, "The store"; document 02, wish 12). Assumes nothing.
+-- Opening           == what a store opens with: version 1, or version 2 with its limits; openingLimits v == the limits of such a store
 -- Entry             == a domain's AID (kind 1); a loading domain's AID and a package file (kind 2)
 -- entryBytes e      == kind u1, body length u2, body
--- opening, used es  == mark and version; bytes from the start, the seven opening ones included
+-- openingLength v   == the opening bytes, 7 or 11; used v es == bytes from the start, the opening ones included
+-- write v n es      == the buffer of n bytes that the layout gives
 use Prim.Native.Nat.{ℕ, _+_, _-_}
+use mathlib.Core.Bool.{Bool}
 use mathlib.Core.List.{List, [], _∷_, _++_}
 use mathlib.Core.Path.{_≡_}
 use lib.ListN.{length, replicate}
 use Rattle.rules.specs.Bytes.{Bytes, Aid, flat, high, low}
+use Rattle.rules.specs.Limits.{Limits, standard, limitsRange}
+
+-- version 1, or version 2 with its limits
+pub data Opening : Type 0 where
+  version1 : Opening
+  version2 : Limits → Opening
+
+-- version 1 means document 01's limits
+abbrev pub openingLimits : Opening → Limits
+openingLimits version1 = standard
+openingLimits (version2 l) = l
+
+-- its limits lie in their ranges
+abbrev pub openingRange : Opening → Bool
+openingRange v = limitsRange (openingLimits v)
 
 pub data Entry : Type 0 where
   domain : Aid → Entry
@@ -26,21 +44,31 @@ entryBytes e = kindByte e ∷ high (length (body e)) ∷ low (length (body e)) �
 abbrev pub entriesBytes : List Entry → Bytes
 entriesBytes es = flat entryBytes es
 
--- "BCS", version 1
-abbrev pub opening : Bytes
-opening = 0x42 ∷ 0x43 ∷ 0x53 ∷ 0x00 ∷ 0x01 ∷ []
+abbrev pub storeVersion : Opening → ℕ
+storeVersion version1 = 1
+storeVersion (version2 l) = 2
 
--- the opening bytes: mark, version and the used field
-abbrev pub openingLength : ℕ
-openingLength = 7
+-- "BCS", version
+abbrev pub storeMark : ℕ → Bytes
+storeMark version = 0x42 ∷ 0x43 ∷ 0x53 ∷ 0x00 ∷ version ∷ []
 
-abbrev pub used : List Entry → ℕ
-used es = openingLength + length (entriesBytes es)
+-- version 2 follows used with depth u1, parents u1, code length u2
+abbrev pub limitsBytes : Opening → Bytes
+limitsBytes version1 = []
+limitsBytes (version2 l) = l .depth ∷ l .parents ∷ high (l .code) ∷ low (l .code) ∷ []
 
--- mark, version, used, the entries, zeros
-unfoldable pub write : ℕ → List Entry → Bytes
-write n es = opening ++ (high (used es) ∷ low (used es) ∷ entriesBytes es ++ replicate (n - used es) 0)
+-- the opening bytes: mark, version, the used field, limits
+abbrev pub openingLength : Opening → ℕ
+openingLength version1 = 7
+openingLength (version2 l) = 11
 
--- s is laid out as a store from these entries, and from nothing else
-abbrev pub WrittenFrom : Bytes → List Entry → Type 0
-WrittenFrom s es = s ≡ write (length s) es
+abbrev pub used : Opening → List Entry → ℕ
+used v es = openingLength v + length (entriesBytes es)
+
+-- mark, version, used, limits, the entries, zeros
+unfoldable pub write : Opening → ℕ → List Entry → Bytes
+write v n es = storeMark (storeVersion v) ++ (high (used v es) ∷ low (used v es) ∷ limitsBytes v ++ (entriesBytes es ++ replicate (n - used v es) 0))
+
+-- s is laid out as a store from this opening and these entries, and from nothing else
+abbrev pub WrittenFrom : Bytes → Opening → List Entry → Type 0
+WrittenFrom s v es = s ≡ write v (length s) es

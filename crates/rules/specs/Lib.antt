@@ -1,7 +1,8 @@
--- Document 01 and requests 5, 2 and 7 of document 02 as definitions, in document 01's order.
+-- Document 01 and requests 5, 2, 7 and 12 of document 02 as definitions, in document 01's order.
 pub mod Bytes
 pub mod Code
 pub mod Table
+pub mod Limits
 pub mod Package
 pub mod Entries
 pub mod Store
@@ -27,5 +28,6 @@ pub mod CasesReadings
 pub mod CasesDepths
 pub mod CasesOwn
 pub mod CasesHandlers
+pub mod CasesOpening
 pub mod Cases
 pub mod CasesCalls

@@ -7,8 +7,8 @@ use mathlib.Core.List.{List, []}
 use mathlib.Core.Option.{Option, none, some}
 use lib.ListN.{length, getD}
 use Rattle.rules.specs.Bytes.{Bytes, Aid, noneOr, aid}
-use Rattle.rules.specs.Package.{Limits, storeLimits, Policy, only, item, method, policy, readFile}
-use Rattle.rules.specs.Store.{Entry}
+use Rattle.rules.specs.Package.{Limits, Policy, only, item, method, policy, readFile}
+use Rattle.rules.specs.Store.{Entry, storeLimits}
 use Rattle.rules.specs.Classes.{Installed, installed, MethodAt, Rights, everyDomain, these, meant, rights, runsUpTo, admitsAllOf, allowsAllOf}
 use Rattle.rules.specs.Questions.{own}
 use Rattle.places.specs.Reads.{Reads, Ends}

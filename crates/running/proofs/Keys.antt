@@ -8,8 +8,8 @@ use mathlib.Core.List.{List, _∷_, _++_}
 use mathlib.Core.Option.{some}
 use lib.ListN.{length, length-append}
 use Rattle.rules.specs.Bytes.{Bytes, Aid, Reader, at, u1, u2, many, aid}
-use Rattle.rules.specs.Package.{Limits, Format, formatOf, storeLimits, mostDomains, mostImports, mostReferences, mostClasses, mostMethods, Class, Package, classNumber, reference, method, class, readFile}
-use Rattle.rules.specs.Store.{Entry, loaded, openingLength}
+use Rattle.rules.specs.Package.{Limits, Format, formatOf, mostDomains, mostImports, mostReferences, mostClasses, mostMethods, Class, Package, classNumber, reference, method, class, readFile}
+use Rattle.rules.specs.Store.{Entry, loaded, firstEntry, storeLimits}
 use Rattle.rules.specs.Classes.{Installed}
 use Rattle.rules.proofs.Lists.{at-below}
 use Rattle.places.specs.Reads.{Reads}
@@ -87,10 +87,10 @@ module _ (s : Bytes) (es : List Entry) (h : Home) (x : Installed) (t : Stored s 
       omega (arith, b, c .0, c .1, behind)
 
   -- and its entry ends where the entries end, or before
-  stored-end : (end : ℕ) → Entries s openingLength es end → h .to ≤ end
+  stored-end : (end : ℕ) → Entries s (firstEntry s) es end → h .to ≤ end
   stored-end end r =
-      entry-before s openingLength (t .pre) (loaded (x .domain) (part s (h .from) (h .to))) (t .post) (h .before) (h .to) end (t .stand) (t .entry)
-      (subst (λ (zs : List Entry). Entries s openingLength zs end) (t .are) r)
+      entry-before s (firstEntry s) (t .pre) (loaded (x .domain) (part s (h .from) (h .to))) (t .post) (h .before) (h .to) end (t .stand) (t .entry)
+      (subst (λ (zs : List Entry). Entries s (firstEntry s) zs end) (t .are) r)
 
   -- two stored files whose entries start at one place lie at one home
   stored-same : (fs : List Entry) (g : Home) (y : Installed) → Stored s fs g y → h .before ≡ g .before → h ≡ g
@@ -117,11 +117,11 @@ module _ (f s : Bytes) (end : ℕ) (es fs : List Entry) (self self′ : Installe
   key-one h g x y (homes.stored t) (homes.stored u) n m k l p q e =
       elim (decLe (g .before) (h .before)) [
         | no o ↦
-            let z = entry-apart s openingLength (t .pre) (u .pre) (h .before) (g .before) (h .to) _ (t .stand) (t .entry) (u .stand) (omega arith) in
+            let z = entry-apart s (firstEntry s) (t .pre) (u .pre) (h .before) (g .before) (h .to) _ (t .stand) (t .entry) (u .stand) (omega arith) in
             absurd (omega (arith, stored-key s es h x t n k p))
         | yes o ↦ elim (decLe (h .before) (g .before)) [
           | no i ↦
-              let z = entry-apart s openingLength (u .pre) (t .pre) (g .before) (h .before) (g .to) _ (u .stand) (u .entry) (t .stand) (omega arith) in
+              let z = entry-apart s (firstEntry s) (u .pre) (t .pre) (g .before) (h .before) (g .to) _ (u .stand) (u .entry) (t .stand) (omega arith) in
               absurd (omega (arith, stored-key s fs g y u m l q))
           | yes i ↦
               let z : h .before ≡ g .before = omega arith in

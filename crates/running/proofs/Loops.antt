@@ -6,8 +6,8 @@ use mathlib.Core.List.{List}
 use mathlib.Core.Option.{some}
 use lib.ListN.{length, getD}
 use Rattle.rules.specs.Bytes.{Bytes, Aid, all, at, u1, counted}
-use Rattle.rules.specs.Package.{storeLimits, mostMethods, Method, Class, method}
-use Rattle.rules.specs.Store.{Entry}
+use Rattle.rules.specs.Package.{mostMethods, Method, Class, method}
+use Rattle.rules.specs.Store.{Entry, storeLimits}
 use Rattle.rules.specs.Classes.{Installed, installed, ClassAt, MethodAt}
 use Rattle.rules.specs.Questions.{own}
 use Rattle.places.specs.Reads.{Reads, Tracks}

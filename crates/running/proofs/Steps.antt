@@ -21,7 +21,7 @@ module _ (f s : Bytes) (v w : Visit) (p : PlacedIs f s v w) where
   pub placed-from : (index names : List ℕ) → WalkFrom f s index names v → WalkFrom f s index names w
   placed-from index names t =
       let u : WalkFrom f s index names (at-place v (w .place)) =
-      record { there = t .there; chain = t .chain; size = t .size; indexed = t .indexed; small = t .small } in
+      record { there = t .there; chain = t .chain; indexed = t .indexed; small = t .small } in
       subst (WalkFrom f s index names) (sym (p .0)) u
 
   pub placed-seen : (seen : Bytes) → SeenPass f s (v .end) (v .domain) (v .own) seen → SeenPass f s (w .end) (w .domain) (w .own) seen
@@ -61,7 +61,7 @@ module _ (f s : Bytes) (v : Visit) (count i : ℕ) (q : CountIs f s (visitHome v
     parent-from index names t =
         let d = walk.parent-walk f s (v .end) (v .domain) (v .own) (visitHome v) (v .number) count i q z (p .0) (p .2) (t .there) in
         let u : WalkFrom f s index names (visitOf v (p .0)) =
-        record { there = d; chain = t .chain; size = t .size; indexed = t .indexed; small = t .small } in
+        record { there = d; chain = t .chain; indexed = t .indexed; small = t .small } in
         subst (WalkFrom f s index names) (sym (p .1)) u
 
     pub parent-less : (index names : List ℕ) → WalkFrom f s index names v → rank (visitHome w) (w .number) < rank (visitHome v) (v .number)

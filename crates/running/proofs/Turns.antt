@@ -5,7 +5,8 @@ use mathlib.Core.Path.{_≡_, refl, _∙_, ap, subst}
 use mathlib.Core.List.{List}
 use lib.ListN.{length, replicate, length-replicate, getD-replicate}
 use Rattle.rules.specs.Bytes.{Bytes, Aid, u1, aid, counted}
-use Rattle.rules.specs.Package.{storeLimits, mostDomains, Package, readFile}
+use Rattle.rules.specs.Package.{mostDomains, Package, readFile}
+use Rattle.rules.specs.Store.{storeLimits}
 use Rattle.places.specs.Reads.{Reads}
 use Rattle.places.proofs.Inverse.{reads-same}
 use Rattle.files.specs.Say.{DomainsAt}

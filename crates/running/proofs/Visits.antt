@@ -5,8 +5,7 @@ use mathlib.Core.Bool.{Bool}
 use mathlib.Core.Path.{_≡_, refl, sym, _∙_, ap, subst}
 use lib.ListN.{length, drop, getD}
 use Rattle.rules.specs.Bytes.{Bytes}
-use Rattle.rules.specs.Package.{storeLimits}
-use Rattle.rules.specs.Store.{openingLength}
+use Rattle.rules.specs.Store.{firstEntry, storeLimits}
 use Rattle.store.proofs.Stand.{entries-to}
 use Rattle.files.specs.Say.{Readable}
 use Rattle.files.specs.Say as say
@@ -32,7 +31,7 @@ walk-small : (f s : Bytes) (end d b : ℕ) (h : Home) (n : ℕ) → WalkThere f 
 walk-small f s end d b h n t z =
     let g = t .asked .running .judged .parents .imported .setting in
     let w = home-bounds f s end (t .entries) (t .self) h (t .pack) (t .home) in
-    let e = (entries-to s openingLength (t .entries) end (g .stand)) .1 in
+    let e = (entries-to s (firstEntry s) (t .entries) end (g .stand)) .1 in
     let l = home-below f s end (t .entries) (t .self) g h (t .pack) (t .home) in
     record { from = omega (arith, w .0, w .1); to = omega (arith, w .1); before = omega (arith, l, e) }
 

@@ -11,8 +11,8 @@ use lib.Dec.{eqb}
 use lib.ListN.{length}
 use borrow.Author.Tests.{ne-eqb}
 use Rattle.rules.specs.Bytes.{Bytes, at, listOf}
-use Rattle.rules.specs.Package.{storeLimits, ClassNumber, Class}
-use Rattle.rules.specs.Store.{Entry, openingLength}
+use Rattle.rules.specs.Package.{ClassNumber, Class}
+use Rattle.rules.specs.Store.{Entry, firstEntry, storeLimits}
 use Rattle.rules.specs.Classes.{Installed, installed, ClassAt, recordOf, classNamed, parentsOf}
 use Rattle.rules.specs.Questions.{own}
 use Rattle.rules.specs.Running.{runningAllows}
@@ -97,7 +97,7 @@ module _ (f s : Bytes) (end d b : ℕ) (h : Home) (n : ℕ) where
     key-low = key-small f s end (t .entries) (t .self) (t .asked .running .judged .parents .imported .setting) h (t .pack) (t .home) n (t .class) (t .is)
 
     end-inside : end ≤ length s
-    end-inside = (entries-to s openingLength (t .entries) end (t .asked .running .judged .parents .imported .setting .stand)) .1
+    end-inside = (entries-to s (firstEntry s) (t .entries) end (t .asked .running .judged .parents .imported .setting .stand)) .1
 
     pub key-few : length s ≤ 65535 → key h n ≤ 17905
     key-few z = omega (arith, key-low, end-inside)

@@ -8,14 +8,14 @@ use mathlib.Core.List.{List, [], _∷_, List·Memᴰ, List·Memᴰ·head, List·
 use mathlib.Core.Option.{Option, none, some}
 use lib.ListN.{length, drop, getD, drop-of-length-le}
 use Rattle.rules.specs.Bytes.{Bytes, all, allFrom, at, noneOr, u1}
-use Rattle.rules.specs.Package.{Limits, formatOf, standard, storeLimits, mostClasses, Method, Class, Package, class, readFile}
-use Rattle.rules.specs.Store.{Entry, openingLength}
+use Rattle.rules.specs.Package.{Limits, formatOf, mostClasses, Method, Class, Package, class, readFile}
+use Rattle.rules.specs.Store.{Entry, firstEntry, storeLimits}
 use Rattle.rules.specs.Classes.{Installed, installed, ClassAt, recordOf, ancestorsUpTo, isKind0, runsUpTo, allowsAllOf}
 use Rattle.rules.specs.Questions.{own, q20-running}
 use Rattle.rules.specs.Running.{runningAllows}
 use Rattle.rules.proofs.Running.{q20-by-class}
 use Rattle.rules.proofs.Tests.{of-true}
-use Rattle.rules.proofs.Limits.{store-limits}
+use Rattle.rules.proofs.Limits.{limits-range}
 use Rattle.rules.proofs.Bounds.{ancestors-below, below-ancestors}
 use Rattle.places.proofs.Steady.{steady-u1, steady-class}
 use Rattle.places.proofs.Inverse.{reads-counted, reads-u1}
@@ -31,7 +31,7 @@ use Rattle.store.proofs.Stand.{entries-to}
 use Rattle.classes.specs.Say.{Judged, Kind0Is, OwnThere}
 use Rattle.named.proofs.Rows.{file-size}
 use Rattle.chains.specs.Say.{Running, RunningThere, RunsIs}
-use Rattle.chains.specs.Names.{NamesIs, Room}
+use Rattle.chains.specs.Names.{namesLength, NamesIs, Room}
 use Rattle.chains.specs.declared.Names.{Names}
 use Rattle.chains.specs.declared.RunsFound.the-variants.{Nothing}
 use Rattle.running.specs.Say.{WalkThere, Passes, Fails, Answers, ClassPasses, OwnClassThere, OwnPasses, JudgedThere, RunningIs}
@@ -77,7 +77,7 @@ interface-allows l is b a z = nothing-runs l is b a (λ n. rw z)
 
 -- the earlier entries end inside the store
 pub own-end : (f s : Bytes) (end b : ℕ) → OwnThere f s end b → end ≤ length s
-own-end f s end b t = (entries-to s openingLength (t .0) end (t .2 .parents .imported .setting .stand)) .1
+own-end f s end b t = (entries-to s (firstEntry s) (t .0) end (t .2 .parents .imported .setting .stand)) .1
 
 module _ (f s : Bytes) (end d b : ℕ) where
   pub own-interface : Kind0Is f s (ownHome end) b false → OwnPasses f s end d b true
@@ -138,16 +138,15 @@ module _ (f s : Bytes) (end d b : ℕ) where
       true-false e = let y : _≡_ {A = ℕ} 0 1 = cc in omega arith
 
 -- the numbers of its names fit two bytes
-pub names-small : (f s : Bytes) (names : List ℕ) (w : Names) → NamesIs f s names w → length names ≡ 640 → length s ≤ 65535 → OwnThere f s (w .end) (w .own) →
-    SmallNames w
-names-small f s names w n z l t =
-    let a = n .own .sorted in
+pub names-small : (f s : Bytes) (names : List ℕ) (w : Names) → NamesIs f s names w → length s ≤ 65535 → OwnThere f s (w .end) (w .own) → SmallNames w
+names-small f s names w n l t =
+    let depth = (limits-range s) .0 in
     let i = key-small f s (w .end) (t .0) (t .1) (t .2 .parents .imported .setting) (ownHome (w .end)) (t .1) homes.own (w .own) (t .3) (t .4) in
     record {
       end = omega (arith, own-end f s (w .end) (w .own) t);
       own = omega (arith, i, own-end f s (w .end) (w .own) t);
-      stored = omega (arith, a .low, a .size);
-      all = omega (arith, a .size);
+      stored = omega (arith, n .own .sorted .low, n .few, depth);
+      all = omega (arith, n .few, depth);
     }
 
 -- its home fits too
@@ -163,11 +162,10 @@ abbrev pub ownVisit : OwnClass → Visit
 ownVisit o = visitFor (o .names) (o .domain) (ownHome (o .names .end)) (o .names .own)
 
 pub own-from : (f s : Bytes) (index names : List ℕ) (o : OwnClass) → Kind0Is f s (ownHome (o .names .end)) (o .names .own) true → OwnClassThere f s o →
-    NamesIs f s names (o .names) → length names ≡ 640 → Indexed s (o .names .end) index → length s ≤ 65535 → WalkFrom f s index names (ownVisit o)
-own-from f s index names o q t n z i l = record {
+    NamesIs f s names (o .names) → Indexed s (o .names .end) index → length s ≤ 65535 → WalkFrom f s index names (ownVisit o)
+own-from f s index names o q t n i l = record {
   there = own-walk f s (o .names .end) (o .domain) (o .names .own) q (t .0) (t .1);
-  chain = record { stop = n .stop; leaves = n .leaves; own = n .own; stored = n .stored };
-  size = z;
+  chain = record { stop = n .stop; leaves = n .leaves; own = n .own; stored = n .stored; few = n .few };
   indexed = i;
   small = l;
 }
@@ -184,11 +182,9 @@ pub own-at : (q : ℕ → ℕ → Type 0) (x y end b : ℕ) → x ≡ end → y 
 own-at q x y end b e o p = at-own q end b x y (sym e) (sym o) p
 
 -- there is room for the names of a chain
-pub names-room : (f s : Bytes) (names : List ℕ) → Readable f → getD f 5 0 < 256 → getD f 6 0 < 256 → length s ≤ 65535 → length names ≡ 640 → Room f s names
-unfolding standard
-names-room f s names r a b z l =
-    let d : storeLimits s .depth ≤ 8 = subst (λ (x : Limits). x .depth ≤ 8) (sym (store-limits s)) (omega arith) in
-    record { size = omega (arith, d); file = omega (arith, (file-size f r) .1); store = z }
+pub names-room : (f s : Bytes) (names : List ℕ) → Readable f → getD f 5 0 < 256 → getD f 6 0 < 256 → length s ≤ 65535 → namesLength s ≤ length names →
+    Room f s names
+names-room f s names r a b z l = record { size = l; file = omega (arith, (file-size f r) .1); store = z }
 
 -- the test of own class i
 abbrev pub ownTest : Bytes → List Entry → Installed → ℕ → Class → Bool

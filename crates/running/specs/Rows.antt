@@ -10,8 +10,8 @@ use mathlib.Core.List.{List}
 use mathlib.Core.Option.{some}
 use lib.ListN.{length}
 use Rattle.rules.specs.Bytes.{Bytes}
-use Rattle.rules.specs.Package.{Limits, storeLimits, Package, readFile}
-use Rattle.rules.specs.Store.{Entry}
+use Rattle.rules.specs.Package.{Limits, Package, readFile}
+use Rattle.rules.specs.Store.{Entry, storeLimits}
 use Rattle.rules.specs.Classes.{Installed, installed, MethodAt, allowsAllOf}
 use Rattle.rules.specs.Questions.{own}
 use Rattle.policies.specs.Rows.{rowLength, Known}

@@ -12,8 +12,8 @@ use mathlib.Core.List.{List}
 use mathlib.Core.Option.{some}
 use lib.Dec.{T}
 use Rattle.rules.specs.Bytes.{Bytes, all, at, noneOr}
-use Rattle.rules.specs.Package.{Limits, storeLimits, Class}
-use Rattle.rules.specs.Store.{Entry}
+use Rattle.rules.specs.Package.{Limits, Class}
+use Rattle.rules.specs.Store.{Entry, storeLimits}
 use Rattle.rules.specs.Classes.{Installed, installed, ClassAt, ancestorsUpTo, MethodAt, runsUpTo, allowsAllOf}
 use Rattle.rules.specs.Questions.{own, q14-parents, q20-running}
 use Rattle.rules.specs.Running.{runningAllows}

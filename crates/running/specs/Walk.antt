@@ -16,7 +16,8 @@ use mathlib.Core.List.{List}
 use mathlib.Core.Option.{some}
 use lib.ListN.{length}
 use Rattle.rules.specs.Bytes.{Bytes, at}
-use Rattle.rules.specs.Package.{storeLimits, ClassNumber}
+use Rattle.rules.specs.Package.{ClassNumber}
+use Rattle.rules.specs.Store.{storeLimits}
 use Rattle.rules.specs.Classes.{installed, ClassAt, classNamed}
 use Rattle.bits.specs.Bits.{bitAt}
 use Rattle.homes.specs.Homes.{ownHome}
@@ -99,7 +100,6 @@ ParentVisit f s v i w = (c : ClassSpot) × (w ≡ visitOf v c) × ParentIs f s (
 pub record WalkFrom (f s : Bytes) (index names : List ℕ) (v : Visit) : Type 0 where
   pub there : VisitThere f s v
   pub chain : NamesIs f s names (visitNames v)
-  pub size : length names ≡ 640
   pub indexed : Indexed s (v .end) index
   pub small : length s ≤ 65535
 

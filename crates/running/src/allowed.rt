@@ -70,13 +70,13 @@ pub fn turn_row(row: &mut [u8; 33], g: Home, h: Home)
 pub fn method_beside<'a>(
     f: &'a [u8],
     s: &'a [u8],
-    names: &[u16; 640],
+    names: &[u16],
     w: Names,
     h: Home,
     at: usize,
 ) -> RunsFound
     requires { ⌜ MethodThere (now f) (now s) (w .end) (w .own) h at ⌝ }
-    requires { ⌜ NamesIs (now f) (now s) (now names) w × (length (now names) ≡ 640) ⌝ }
+    requires { ⌜ NamesIs (now f) (now s) (now names) w ⌝ }
     ensures { λ r. ⌜ BesideIs (now (f .entry)) (now (s .entry)) (w .end) (w .own) h at r ⌝ }
 {
     let g = homes::file_of(f, s, h);

@@ -1,6 +1,6 @@
 // Question 20: does the method that runs for an own class and a name allow all that each non-static method of that name allows, in
-// the class and in its ancestors? Functions `.._apart` call themselves under a budget that is 0 in fact, which the compiler cannot know; so
-// they are not made a part of the walk, which nests, and their frames stand on the stack once.
+// the class and in its ancestors? Functions `.._apart` call themselves where the store has more than 65,535 bytes, which it never has; so
+// the compiler does not make them a part of their callers, and their frames stand on the stack only while they run.
 pub mod allowed;
 pub mod visited;
 
@@ -20,7 +20,8 @@ ghost use lib.ListN.{length};
 ghost use Rattle.homes.specs.Homes.{ownHome};
 ghost use Rattle.homes.specs.Found.{Indexed};
 ghost use Rattle.classes.specs.Say.{Kind0Is};
-ghost use Rattle.chains.specs.Names.{NamesIs};
+ghost use Rattle.chains.specs.Names.{namesLength, NamesIs, Kept, Room};
+ghost use Rattle.chains.specs.Say.{RunningThere};
 ghost use Rattle.slots.specs.Slots.{SlotsTrue};
 ghost use Rattle.running.specs.Say.{MethodsPass, ClassPasses, OwnClassThere, OwnPasses, JudgedThere, RunningIs};
 ghost use Rattle.running.specs.Walk.{visitHome, visitNames, VisitPlaced, WalkFrom, seenLength, SeenPass, ParentsPass};
@@ -32,9 +33,9 @@ pub struct OwnClass {
 }
 
 // Do all methods of the class pass for the own class?
-fn methods_pass<'a>(f: &'a [u8], s: &'a [u8], names: &[u16; 640], v: Visit) -> bool
+fn methods_pass<'a>(f: &'a [u8], s: &'a [u8], names: &[u16], v: Visit) -> bool
     requires { ⌜ VisitPlaced (now f) (now s) v ⌝ }
-    requires { ⌜ NamesIs (now f) (now s) (now names) (visitNames v) × (length (now names) ≡ 640) ⌝ }
+    requires { ⌜ NamesIs (now f) (now s) (now names) (visitNames v) ⌝ }
     ensures { λ r. ⌜ MethodsPass (now (f .entry)) (now (s .entry)) (v .end) (v .domain) (v .own) (visitHome v) (v .number) r ⌝ }
 {
     let w = names_of(v);
@@ -68,13 +69,13 @@ fn methods_pass<'a>(f: &'a [u8], s: &'a [u8], names: &[u16; 640], v: Visit) -> b
 }
 
 // The same in a frame of its own.
-fn methods_apart<'a>(f: &'a [u8], s: &'a [u8], names: &[u16; 640], v: Visit, budget: usize) -> bool
-    requires { ⌜ VisitPlaced (now f) (now s) v ⌝ }
-    requires { ⌜ NamesIs (now f) (now s) (now names) (visitNames v) × (length (now names) ≡ 640) ⌝ }
+fn methods_apart<'a>(f: &'a [u8], s: &'a [u8], names: &[u16], v: Visit) -> bool
+    requires { ⌜ VisitPlaced (now f) (now s) v × (length (now s) ≤ 65535) ⌝ }
+    requires { ⌜ NamesIs (now f) (now s) (now names) (visitNames v) ⌝ }
     ensures { λ r. ⌜ MethodsPass (now (f .entry)) (now (s .entry)) (v .end) (v .domain) (v .own) (visitHome v) (v .number) r ⌝ }
 {
-    if 0 < budget {
-        return methods_apart(f, s, names, v, budget - 1);
+    if 65535 < s.len() {
+        return methods_apart(f, s, names, v);
     }
     methods_pass(f, s, names, v)
 }
@@ -84,7 +85,7 @@ fn class_passes<'a>(
     f: &'a [u8],
     s: &'a [u8],
     index: &[u16],
-    names: &[u16; 640],
+    names: &[u16],
     seen: &mut [u8],
     slots: &mut [u16; 640],
     v: Visit,
@@ -101,7 +102,7 @@ fn class_passes<'a>(
         return true;
     }
     let w = visited::placed(f, s, slots, v);
-    if !methods_apart(f, s, names, w, s.len() / 65536) {
+    if !methods_apart(f, s, names, w) {
         return false;
     }
     if !parents_pass(f, s, index, names, seen, slots, w) {
@@ -116,7 +117,7 @@ fn parents_pass<'a>(
     f: &'a [u8],
     s: &'a [u8],
     index: &[u16],
-    names: &[u16; 640],
+    names: &[u16],
     seen: &mut [u8],
     slots: &mut [u16; 640],
     v: Visit,
@@ -131,7 +132,7 @@ fn parents_pass<'a>(
     let count = visited::parents_in(f, s, v);
     let mut i = 0;
     while i < count {
-        let p = visited::parent_apart(f, s, index, slots, v, i, s.len() / 65536);
+        let p = visited::parent_apart(f, s, index, slots, v, i);
         if !class_passes(f, s, index, names, seen, slots, p) {
             return false;
         }
@@ -145,13 +146,13 @@ fn own_class_passes<'a>(
     f: &'a [u8],
     s: &'a [u8],
     index: &[u16],
-    names: &[u16; 640],
+    names: &[u16],
     seen: &mut [u8],
     slots: &mut [u16; 640],
     o: OwnClass,
 ) -> bool
     requires { ⌜ OwnClassThere (now f) (now s) o × Kind0Is (now f) (now s) (ownHome (o .names .end)) (o .names .own) true ⌝ }
-    requires { ⌜ NamesIs (now f) (now s) (now names) (o .names) × (length (now names) ≡ 640) ⌝ }
+    requires { ⌜ NamesIs (now f) (now s) (now names) (o .names) ⌝ }
     requires { ⌜ Indexed (now s) (o .names .end) (now index) × (length (now s) ≤ 65535) ⌝ }
     requires { ⌜ seenLength (now s) ≤ length (now seen) ⌝ }
     requires { ⌜ SlotsTrue (now f) (now s) (now slots) ⌝ }
@@ -168,23 +169,47 @@ fn own_class_passes<'a>(
     class_passes(f, s, index, names, seen, slots, v)
 }
 
+// The names of own class b, found in a frame of its own.
+fn names_apart<'a>(
+    f: &'a [u8],
+    s: &'a [u8],
+    index: &[u16],
+    names: &mut [u16],
+    slots: &mut [u16; 640],
+    kept: Names,
+    b: usize,
+) -> Names
+    requires { ⌜ RunningThere (now f) (now s) (kept .end) b ⌝ }
+    requires { ⌜ Kept (now f) (now s) (now names) kept × Room (now f) (now s) (now names) ⌝ }
+    requires { ⌜ Indexed (now s) (kept .end) (now index) × SlotsTrue (now f) (now s) (now slots) ⌝ }
+    ensures { λ r. ⌜ (r .end ≡ kept .end) × (r .own ≡ b) × NamesIs (now (f .entry)) (now (s .entry)) (now (names .exit)) r ⌝ }
+    ensures { λ r. ⌜ Kept (now (f .entry)) (now (s .entry)) (now (names .exit)) r ⌝ }
+    ensures { λ _. ⌜ SlotsTrue (now (f .entry)) (now (s .entry)) (now (slots .exit)) ⌝ }
+{
+    if 65535 < s.len() {
+        return names_apart(f, s, index, names, slots, kept, b);
+    }
+    chains::find_names(f, s, index, names, slots, kept, b)
+}
+
 // Question 20 of a file, over the entries of the store that end at a place, and their index; the domain of its package stands at place
-// `domain` of the store. For an interface nothing runs.
+// `domain` of the store. For an interface nothing runs. What `names` and `seen` hold before and after is of no account.
 pub fn running_ok<'a>(
     f: &'a [u8],
     s: &'a [u8],
     end: usize,
     domain: usize,
     index: &[u16],
+    names: &mut [u16],
     seen: &mut [u8],
 ) -> bool
     requires { ⌜ JudgedThere (now f) (now s) end domain ⌝ }
     requires { ⌜ Indexed (now s) end (now index) × (length (now s) ≤ 65535) ⌝ }
+    requires { ⌜ namesLength (now s) ≤ length (now names) ⌝ }
     requires { ⌜ seenLength (now s) ≤ length (now seen) ⌝ }
     ensures { λ r. ⌜ RunningIs (now (f .entry)) (now (s .entry)) end domain r ⌝ }
 {
     let mut slots = [0u16; 640];
-    let mut names = [0u16; 640];
     let h = homes::own_home(end);
     let mut kept = chains::no_names(end);
     let count = wide(f[files::classes_at(f)]);
@@ -192,12 +217,12 @@ pub fn running_ok<'a>(
     while b < count {
         let x = ClassSpot { home: h, number: b };
         if parents::is_kind0(f, s, &mut slots, x) {
-            kept = chains::find_names(f, s, index, &mut names, &mut slots, kept, b);
+            kept = names_apart(f, s, index, &mut *names, &mut slots, kept, b);
             let o = OwnClass {
                 names: kept,
                 domain: domain,
             };
-            if !own_class_passes(f, s, index, &names, seen, &mut slots, o) {
+            if !own_class_passes(f, s, index, names, seen, &mut slots, o) {
                 return false;
             }
             b += 1;

@@ -156,7 +156,6 @@ pub fn parent_apart<'a>(
     slots: &mut [u16; 640],
     v: Visit,
     i: usize,
-    budget: usize,
 ) -> Visit
     requires { ⌜ ParentPlaced (now f) (now s) v i × (length (now s) ≤ 65535) ⌝ }
     requires { ⌜ Indexed (now s) (v .end) (now index) ⌝ }
@@ -164,8 +163,8 @@ pub fn parent_apart<'a>(
     ensures { λ r. ⌜ ParentVisit (now (f .entry)) (now (s .entry)) v i r ⌝ }
     ensures { λ _. ⌜ SlotsTrue (now (f .entry)) (now (s .entry)) (now (slots .exit)) ⌝ }
 {
-    if 0 < budget {
-        return parent_apart(f, s, index, slots, v, i, budget - 1);
+    if 65535 < s.len() {
+        return parent_apart(f, s, index, slots, v, i);
     }
     parent_visit(f, s, index, slots, v, i)
 }

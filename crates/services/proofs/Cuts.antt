@@ -4,15 +4,12 @@ use native.Mathlib.Omega.{arith}
 use mathlib.Core.Path.{_≡_, refl, sym, _∙_, ap, subst}
 use mathlib.Core.Bool.{Bool, true, false, not}
 use mathlib.Core.List.{List, []}
-use mathlib.Core.Option.{some}
 use lib.ListN.{length}
 use Rattle.rules.specs.Bytes.{Bytes, Aid, isSome, aidLength}
-use Rattle.rules.specs.Package.{Limits, storeLimits}
-use Rattle.rules.specs.Store.{Entry}
+use Rattle.rules.specs.Store.{Entry, storeOpening, firstEntry, storeLimits}
 use Rattle.rules.specs.Classes.{installed}
 use Rattle.rules.specs.Questions.{q5-created, q6-empty, q7-installed, q8-unused}
-use Rattle.rules.specs.Operations.{delete, remove, firstNo, deleteQuestions, removeQuestions, isDomain, isPackage}
-use Rattle.rules.proofs.Limits.{store-limits}
+use Rattle.rules.specs.Operations.{delete, remove, deleteQuestions, removeQuestions, isDomain, isPackage}
 use Rattle.store.specs.Entries.{StandFrom, FilesStand, AllRead}
 use Rattle.store.specs.Answers.{spot, SpotAt, FileAt, FileSays, InUse}
 use Rattle.store.specs.declared.Spot.{Spot}
@@ -20,8 +17,8 @@ use Rattle.store.specs.declared.Spot.the-variants.{At, Nothing}
 use Rattle.store.specs.declared.FileSpot.{FileSpot}
 use Rattle.store.specs.declared.FileSpot.the-variants.{File, Missing}
 use Rattle.store.proofs.Asked.{created-place}
-use Rattle.store.specs.Sound.{Over, SoundAt, Asked}
-use Rattle.store.proofs.Sound.{one-length, opening}
+use Rattle.store.specs.Sound.{Over, SoundAt}
+use Rattle.store.proofs.Sound.{one-length, sound-store}
 use Rattle.homes.proofs.Homes.{all-read}
 use Rattle.services.specs.Answers.{CutSays, ImportedSays}
 use Rattle.services.specs.declared.Cut.the-variants as cut
@@ -35,29 +32,21 @@ turned false false e = e
 
 -- the files of sound entries read
 pub over-reads : (s : Bytes) (u : ℕ) (es : List Entry) → Over s u es → AllRead (storeLimits s) es
-over-reads s u es o = all-read (storeLimits s) (length s) [] es (o .sound)
+over-reads s u es o = all-read (storeOpening s) (length s) [] es (o .sound)
 
 module _ (s : Bytes) (u : ℕ) (h : SoundAt s u) where
   -- the entries stand, and their files read
-  pub sound-stand : StandFrom s 7 u
-  sound-stand = let x = opening s u h in (x .es, x .over .stand)
+  pub sound-stand : StandFrom s (firstEntry s) u
+  sound-stand = let x = sound-store s u h in (x .es, x .over .stand)
 
   pub sound-files : FilesStand s u
-  sound-files = let x = opening s u h in (x .es, x .over .stand, over-reads s u (x .es) (x .over))
+  sound-files = let x = sound-store s u h in (x .es, x .over .stand, over-reads s u (x .es) (x .over))
 
 module _ (s : Bytes) (u : ℕ) (a : Aid) where
-  -- the questions with the store's limits
-  delete-asked : (n : ℕ) → ((es : List Entry) → Over s u es → n ≡ firstNo (deleteQuestions (storeLimits s) es a)) → Asked s u (delete a) n
-  delete-asked n q es o = q es o ∙ ap (λ (l : Limits). firstNo (deleteQuestions l es a)) (store-limits s)
-
-  -- the questions with the store's limits
-  remove-asked : (n : ℕ) → ((es : List Entry) → Over s u es → n ≡ firstNo (removeQuestions (storeLimits s) es a)) → Asked s u (remove a) n
-  remove-asked n q es o = q es o ∙ ap (λ (l : Limits). firstNo (removeQuestions l es a)) (store-limits s)
-
   module _ (r : Spot) (p : SpotAt (isDomain a) s u r) where
     -- whether the domain has been created
     created-is : (b : Bool) → isSome (spot r) ≡ b → (es : List Entry) → Over s u es → q5-created es a ≡ b
-    created-is b z es o = created-place 7 es a ∙ sym (ap isSome (p es (o .stand))) ∙ z
+    created-is b z es o = created-place (firstEntry s) es a ∙ sym (ap isSome (p es (o .stand))) ∙ z
 
     pub delete-5 : aidLength (length a) ≡ true → r ≡ Nothing → CutSays s u (delete a) (isDomain a) (cut.Refused 5)
     unfolding deleteQuestions
@@ -67,23 +56,23 @@ module _ (s : Bytes) (u : ℕ) (a : Aid) where
     unfolding deleteQuestions
     delete-6 i j q z w = (
       λ e. omega arith,
-      delete-asked 6 (λ es o. rw (
+      λ es o. rw (
         one-length a ∙ q,
         created-is true (ap (λ (x : Spot). isSome (spot x)) z) es o,
         turned true
             (q6-empty (installed (storeLimits s) es) a) (w es (o .stand) (over-reads s u es o)),
-      )),
+      ),
     )
 
     pub delete-0 : (i j : ℕ) → aidLength (length a) ≡ true → r ≡ At i j → InUse s u a false → CutSays s u (delete a) (isDomain a) (cut.Entry i j)
     unfolding deleteQuestions
     delete-0 i j q z w = (
-      delete-asked 0 (λ es o. rw (
+      λ es o. rw (
         one-length a ∙ q,
         created-is true (ap (λ (x : Spot). isSome (spot x)) z) es o,
         turned false
             (q6-empty (installed (storeLimits s) es) a) (w es (o .stand) (over-reads s u es o)),
-      )),
+      ),
       λ es o. sym (p es (o .stand)) ∙ ap spot z,
     )
 
@@ -106,27 +95,27 @@ module _ (s : Bytes) (u : ℕ) (a : Aid) where
 
     pub remove-7 : aidLength (length a) ≡ true → r ≡ Missing → CutSays s u (remove a) (isPackage (storeLimits s) a) (cut.Refused 7)
     unfolding removeQuestions
-    remove-7 q z = (λ e. omega arith, remove-asked 7 (λ es o. rw (one-length a ∙ q, missing z es o)))
+    remove-7 q z = (λ e. omega arith, λ es o. rw (one-length a ∙ q, missing z es o))
 
     pub remove-8 : (i j k : ℕ) → aidLength (length a) ≡ true → r ≡ File i j k → ImportedSays s u a true → CutSays s u (remove a)
         (isPackage (storeLimits s) a) (cut.Refused 8)
     unfolding removeQuestions
     remove-8 i j k q z w = (
       λ e. omega arith,
-      remove-asked 8 (λ es o. rw
-          (one-length a ∙ q, there i j k z es o, turned true (q8-unused (installed (storeLimits s) es) a) (w es (o .stand) (over-reads s u es o)))),
+      λ es o. rw
+          (one-length a ∙ q, there i j k z es o, turned true (q8-unused (installed (storeLimits s) es) a) (w es (o .stand) (over-reads s u es o))),
     )
 
     pub remove-0 : (i j k : ℕ) → aidLength (length a) ≡ true → r ≡ File i j k → ImportedSays s u a false → CutSays s u (remove a)
         (isPackage (storeLimits s) a) (cut.Entry i k)
     unfolding removeQuestions
     remove-0 i j k q z w = (
-      remove-asked 0 (λ es o. rw (
+      λ es o. rw (
         one-length a ∙ q,
         there i j k z es o,
         turned false (q8-unused (installed (storeLimits s) es) a)
             (w es (o .stand) (over-reads s u es o)),
-      )),
+      ),
       λ es o. (found (File i j k) z es o) .place,
     )
 

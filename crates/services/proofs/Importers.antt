@@ -5,8 +5,8 @@ use mathlib.Core.Bool.{Bool, true, false, _&&_, _||_, not}
 use mathlib.Core.List.{List, [], _∷_}
 use mathlib.Core.Option.{some}
 use Rattle.rules.specs.Bytes.{Bytes, Aid, isSome, any, all, u1, aid, counted, same}
-use Rattle.rules.specs.Package.{Limits, storeLimits, Package, mostImports, readFile}
-use Rattle.rules.specs.Store.{Entry, domain, loaded}
+use Rattle.rules.specs.Package.{Limits, Package, mostImports, readFile}
+use Rattle.rules.specs.Store.{Entry, domain, loaded, storeLimits, firstEntry}
 use Rattle.rules.specs.Classes.{Installed, installed, hasAid}
 use Rattle.rules.specs.Questions.{q8-unused}
 use Rattle.places.specs.Reads.{EndsAt}
@@ -70,7 +70,7 @@ used-any l (loaded d f ∷ es) a h = rw (h .0 .1) (go (same a (h .0 .0 .aid)) (a
 module _ (a : Aid) (s : Bytes) (k i : ℕ) (w : Walks (importer (storeLimits s) a) s k i) where
   pub imported-yes : (d m j : ℕ) → PartAt s i k (PackagePart d m j) → importer (storeLimits s) a (loaded (part s d m) (part s m j)) ≡ true → ImportedSays
       s k a true
-  imported-yes d m j p h es r reads = sym (used-any (storeLimits s) es a reads ∙ sym (place-any (importer (storeLimits s) a) 7 es) ∙ ap isSome
+  imported-yes d m j p h es r reads = sym (used-any (storeLimits s) es a reads ∙ sym (place-any (importer (storeLimits s) a) (firstEntry s) es) ∙ ap isSome
       (found-package w p h es r))
 
   pub imported-no : PartAt s i k AtEnd → ImportedSays s k a false

@@ -7,12 +7,11 @@ use mathlib.Core.List.{List}
 use mathlib.Core.Option.{Option, none, some}
 use lib.ListN.{length}
 use Rattle.rules.specs.Bytes.{Bytes, Aid, pick, at, isSome, someAnd, _andThen_, aidLength}
-use Rattle.rules.specs.Package.{Limits, storeLimits, Class, Method}
-use Rattle.rules.specs.Store.{Entry}
+use Rattle.rules.specs.Package.{Class, Method}
+use Rattle.rules.specs.Store.{Entry, storeLimits}
 use Rattle.rules.specs.Classes.{Installed, installed, recordOf, declared, MethodAt, meant, admits, allows}
 use Rattle.rules.specs.Questions.{q3-lengths, q7-installed, methodQueried, q9-declared}
 use Rattle.rules.specs.Operations.{firstNo, queryQuestions, queryNumber, queryYes}
-use Rattle.rules.proofs.Limits.{store-limits}
 use Rattle.files.specs.Say.{Readable}
 use Rattle.store.specs.Entries.{part, PackageAt}
 use Rattle.store.specs.Answers.{FileAt, FileSays}
@@ -23,7 +22,7 @@ use Rattle.services.specs.Answers.{FileAllows, allowed}
 use Rattle.services.specs.declared.Allowed.{Allowed}
 use Rattle.services.specs.declared.Allowed.the-variants.{Undeclared}
 use Rattle.store.proofs.Parts.{part-length}
-use Rattle.store.proofs.Sound.{kept, opening}
+use Rattle.store.proofs.Sound.{kept, sound-store}
 use Rattle.index.specs.Index.{fileFrom}
 use Rattle.index.proofs.Here.{package-by}
 use Rattle.services.proofs.Cuts.{over-reads}
@@ -77,10 +76,9 @@ module _ (s : Bytes) (d a : Aid) (c n : ℕ) where
 
   module _ (u : ℕ) (h : SoundAt s u) where
     -- the number by the questions from 3 on
-    query-number : queryNumber s d a c n ≡ firstNo (queryQuestions (storeLimits s) ((opening s u h) .es) d a c n)
+    query-number : queryNumber s d a c n ≡ firstNo (queryQuestions (storeLimits s) ((sound-store s u h) .es) d a c n)
     unfolding queryNumber
-    query-number = let x = opening s u h in rw (x .size, x .is, x .reads)
-        (ap (λ (l : Limits). firstNo (queryQuestions l (x .es) d a c n)) (sym (store-limits s)))
+    query-number = let x = sound-store s u h in rw (x .size, x .is, x .reads)
 
     pub query-3-domain : aidLength (length d) ≡ false → ResultIs s d a c n 3
     unfolding queryQuestions q3-lengths
@@ -91,8 +89,8 @@ module _ (s : Bytes) (d a : Aid) (c n : ℕ) where
     query-3-package p q = query-refused 3 (λ e. omega arith) (sym (query-number ∙ rw (p, q)))
 
     -- what the search for the package says
-    found : (r x : FileSpot) → FileAt s u a r → r ≡ x → FileSays s ((opening s u h) .es) a x
-    found r x f z = let y = opening s u h in subst (FileSays s (y .es) a) z (f (y .es) (y .over .stand) (over-reads s u (y .es) (y .over)))
+    found : (r x : FileSpot) → FileAt s u a r → r ≡ x → FileSays s ((sound-store s u h) .es) a x
+    found r x f z = let y = sound-store s u h in subst (FileSays s (y .es) a) z (f (y .es) (y .over .stand) (over-reads s u (y .es) (y .over)))
 
     pub query-7 : aidLength (length d) ≡ true → aidLength (length a) ≡ true → (r : FileSpot) → FileAt s u a r → r ≡ Missing → ResultIs s d a c n 7
     unfolding queryQuestions q3-lengths q7-installed
@@ -101,7 +99,7 @@ module _ (s : Bytes) (d a : Aid) (c n : ℕ) where
   module _ (u i j k : ℕ) (x : Found s d a u i j k) where
     -- the entries, and the package among them
     abbrev es : List Entry
-    es = (opening s u (x .sound)) .es
+    es = (sound-store s u (x .sound)) .es
 
     pub at-place : PackageAt s es a i j k
     at-place = found u (x .sound) (x .spot) (File i j k) (x .told) (x .is)
@@ -146,11 +144,10 @@ module _ (s : Bytes) (d a : Aid) (c n : ℕ) where
     pub query-done : (v : Allowed) (b : Bool) → allowed v ≡ some b → FileAllows (part s j k) (part s (i + 4) j) c n d v → ResultIs s d a c n (256 * pick b 1 0)
     unfolding queryYes
     query-done v b t w =
-        let y = opening s u (x .sound) in
+        let y = sound-store s u (x .sound) in
         let e : queryNumber s d a c n ≡ 0 = asked v w ∙ rw t in
         let m : someAnd (methodQueried (installed (storeLimits s) (y .es)) a c n) (λ m. allows m d) ≡ b =
         ap (λ (o : Option MethodAt). someAnd o (λ m. allows m d)) queried ∙ (method-says home c n d) .1 ∙ sym
         (ap (λ (o : Option Bool). someAnd o (λ m. m)) (says v w)) ∙ rw t in
-        let l : queryYes s d a c n ≡ b = rw (e, y .reads) (ap (λ (v : Limits). someAnd (methodQueried (installed v (y .es)) a c n) (λ m. allows m d))
-        (sym (store-limits s)) ∙ m) in
+        let l : queryYes s d a c n ≡ b = rw (e, y .reads) m in
         rw l (omega (arith, e))

@@ -14,8 +14,8 @@ use mathlib.Core.Bool.{Bool, true, false, _&&_, not}
 use mathlib.Core.List.{List}
 use mathlib.Core.Option.{Option, none, some}
 use Rattle.rules.specs.Bytes.{Bytes, Aid, any, at, someAnd, _andThen_, same}
-use Rattle.rules.specs.Package.{Limits, formatOf, storeLimits, Class, Package, class, readFile}
-use Rattle.rules.specs.Store.{Entry, domain, loaded, openingLength}
+use Rattle.rules.specs.Package.{Limits, formatOf, Class, Package, class, readFile}
+use Rattle.rules.specs.Store.{Entry, domain, loaded, firstEntry, storeLimits}
 use Rattle.rules.specs.Classes.{installed, declared, meant, admits}
 use Rattle.rules.specs.Questions.{q8-unused}
 use Rattle.rules.specs.Operations.{Operation}
@@ -30,7 +30,7 @@ use Rattle.services.specs.declared.Allowed.the-variants.{Yes, No, Undecl
 -- a refusal, or from where up to where the entry stands that goes
 abbrev pub CutSays : Bytes → ℕ → Operation → (Entry → Bool) → Cut → Type 0
 CutSays s u o q (cut.Refused n) = (n ≡ 0 → ⊥) × Asked s u o n
-CutSays s u o q (cut.Entry i j) = Asked s u o 0 × ((es : List Entry) → Over s u es → placeOf q openingLength es ≡ some (i, j))
+CutSays s u o q (cut.Entry i j) = Asked s u o 0 × ((es : List Entry) → Over s u es → placeOf q (firstEntry s) es ≡ some (i, j))
 
 -- a file imports an AID
 abbrev pub ImportsSays : Bytes → Aid → Bool → Type 0
@@ -49,7 +49,7 @@ importer l a (loaded d f) = someAnd (readFile l f) (otherImports a)
 
 -- 8, of whatever entries whose files read end at place k
 abbrev pub ImportedSays : Bytes → ℕ → Aid → Bool → Type 0
-ImportedSays s k a r = (es : List Entry) → Entries s openingLength es k → AllRead (storeLimits s) es → r ≡ not (q8-unused (installed (storeLimits s) es) a)
+ImportedSays s k a r = (es : List Entry) → Entries s (firstEntry s) es k → AllRead (storeLimits s) es → r ≡ not (q8-unused (installed (storeLimits s) es) a)
 
 -- what an answer says of the domain, if there is such a method
 abbrev pub allowed : Allowed → Option Bool

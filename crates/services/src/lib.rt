@@ -7,7 +7,7 @@ use store::Spot as Place;
 ghost use mathlib.Core.Path.{_≡_};
 ghost use Prim.Native.Nat.{_+_, _*_};
 ghost use Rattle.rules.specs.Bytes.{pick};
-ghost use Rattle.rules.specs.Package.{storeLimits};
+ghost use Rattle.rules.specs.Store.{storeLimits};
 ghost use Rattle.rules.specs.Operations.{create, delete, remove, isDomain, isPackage, queryNumber, queryYes};
 ghost use Rattle.files.specs.Say.{Readable};
 ghost use Rattle.store.specs.Entries.{FilesStand};
@@ -61,7 +61,7 @@ fn imported(s: &[u8], end: usize, aid: &[u8]) -> bool
     requires { ⌜ FilesStand (now s) end ⌝ }
     ensures { λ r. ⌜ ImportedSays (now (s .entry)) end (now (aid .entry)) r ⌝ }
 {
-    let mut at = 7;
+    let mut at = store::openings::first_entry(s);
     loop {
         match store::entry_at(s, at, end) {
             EntryPart::Domain(_, next) => {

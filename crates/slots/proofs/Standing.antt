@@ -4,7 +4,7 @@ use native.Mathlib.Omega.{arith}
 use mathlib.Core.Path.{_≡_, _∙_, ap}
 use lib.ListN.{length, drop}
 use Rattle.rules.specs.Bytes.{Bytes}
-use Rattle.rules.specs.Store.{openingLength}
+use Rattle.rules.specs.Store.{firstEntry}
 use Rattle.store.proofs.Stand.{entries-to}
 use Rattle.files.specs.declared.Spot.the-variants as spots
 use Rattle.homes.specs.Homes.{fileOf, RecordIs}
@@ -20,7 +20,7 @@ module _ (f s : Bytes) (h : Home) (n : ℕ) (t : ClassThere f s h n) where
       let c = t .1 in
       let g = c .asked .parents .imported .setting in
       let w = home-bounds f s (t .0) (c .entries) (c .self) h (c .pack) (c .home) in
-      let e = (entries-to s openingLength (c .entries) (t .0) (g .stand)) .1 in
+      let e = (entries-to s (firstEntry s) (c .entries) (t .0) (g .stand)) .1 in
       let l = home-below f s (t .0) (c .entries) (c .self) g h (c .pack) (c .home) in
       record { from = omega (arith, w .0, w .1); to = omega (arith, w .1); before = omega (arith, l, e) }
 

@@ -1,20 +1,20 @@
 -- Questions 1 and 2 of a buffer by its layout, its domains and its packages. Assumes nothing.
-use Prim.Native.Nat.{ℕ, _*_, _≤_}
+use Prim.Native.Nat.{ℕ, _+_, _*_, _/_, _≤_}
 use native.Mathlib.Omega.{arith}
 use mathlib.Core.Path.{_≡_, refl, sym, _∙_, ap, subst}
 use mathlib.Core.Bool.{Bool, true, false, _&&_}
 use mathlib.Core.List.{List, [], _∷_, _++_}
 use mathlib.Core.Logic.{_⊎_, ⊎-elim}
 use mathlib.Core.Option.{Option, none, some, Option·some-injective}
-use lib.Dec.{T}
+use lib.Dec.{T, leb}
+use borrow.Author.Tests.{le-leb}
 use lib.ListN.{length, replicate}
-use Rattle.rules.specs.Bytes.{Bytes, Aid, _andThen_}
-use Rattle.rules.specs.Package.{Limits, storeLimits}
-use Rattle.rules.specs.Store.{Entry, domain, loaded, used, entriesOf}
+use Rattle.rules.specs.Bytes.{Bytes, Aid, pick, _andThen_}
+use Rattle.rules.specs.Code.{u2At}
+use Rattle.rules.specs.Store.{Entry, domain, loaded, used, entriesOf, firstEntry, storeLimits, storeOpening}
 use Rattle.rules.specs.Questions.{q1-size, q3-lengths}
 use Rattle.rules.specs.Operations.{acceptedAll, soundEntries, sound, entries, load, number, questions, firstNo, loadQuestions}
 use Rattle.rules.proofs.Tests.{and-l, and-r, is-true, of-true}
-use Rattle.rules.proofs.Limits.{store-limits}
 use Rattle.store.specs.Entries.{Entries, StandFrom, Holds}
 use Rattle.store.specs.Answers.{usedTold}
 use Rattle.store.specs.Sound.{Over, OverSome, SoundAt, Asked}
@@ -22,15 +22,19 @@ use Rattle.store.specs.declared.Layout.{Layout}
 use Rattle.store.specs.declared.Layout.the-variants as layouts
 use Rattle.store.proofs.Asked.{size-is}
 use Rattle.store.proofs.Sound.{over-some, asked-number}
-use Rattle.store.proofs.Stand.{entries-to}
+use Rattle.store.proofs.Stand.{entries-to, entries-next}
+use Rattle.store.proofs.Laid.{laid-by}
 use Rattle.index.specs.Index.{IndexIs}
 use Rattle.index.proofs.Entering.{index-start}
 use Rattle.depths.specs.Depths.{DepthsKept, depthsLength}
 use Rattle.depths.proofs.Kept.{depths-start}
+use Rattle.chains.specs.Names.{namesLength}
 use Rattle.running.specs.Walk.{seenLength}
 use Rattle.domains.specs.Domains.{domainAccepted, domainsAccepted, AllSay}
 use Rattle.domains.proofs.Split.{all-domains, domains-append}
-use Rattle.judge.specs.Says.{DomainYes, DomainsYes, PackagesSay, LoadSays, numberOf}
+use Rattle.homes.specs.Found.{Indexed}
+use Rattle.judge.proofs.Packages.{indexed}
+use Rattle.judge.specs.Says.{usedAt, DomainYes, DomainsYes, PackagesSay, LoadSays, numberOf}
 use Rattle.judge.specs.declared.LoadAnswer.{LoadAnswer}
 use Rattle.judge.specs.declared.LoadAnswer.the-variants as answers
 use Rattle.sound.specs.Says.{LaidAt, Unopened, JudgedSays}
@@ -47,38 +51,56 @@ domains-yes s u h es pre post e r are =
     one (domain a) t = (and-l (q3-lengths (a ∷ [])) _ t, and-r (q3-lengths (a ∷ [])) _ t)
     one (loaded d f) t = (and-l (q3-lengths (d ∷ [])) _ t, and-r (q3-lengths (d ∷ [])) _ t)
 
+-- the table of depths, by the bits of a depth: three where the depth limit is 8 or less, never more than four
+pub shallow-length : (s : Bytes) → storeLimits s .depth ≤ 8 → depthsLength s ≡ length s / 5 * 3 / 8 + 2
+shallow-length s h = ap (λ (b : Bool). length s / 5 * pick b 3 4 / 8 + 2) (le-leb (storeLimits s .depth) 8 h)
+
+pub deep-length : (s : Bytes) → depthsLength s ≤ length s / 5 * 4 / 8 + 2
+deep-length s = go (leb (storeLimits s .depth) 8)
+  where
+    go : (b : Bool) → length s / 5 * pick b 3 4 / 8 + 2 ≤ length s / 5 * 4 / 8 + 2
+    go true = omega arith
+    go false = omega arith
+
 -- tables of zeros are those of no entries, where they are large enough for the store
-pub tables-start : (s : Bytes) (u n m k : ℕ) → StandFrom s 7 u → length s ≤ 27 * n → depthsLength s ≤ m → seenLength s ≤ k → length s ≤ 65535 →
-    (IndexIs s 7 (replicate n 0) × DepthsKept s 7 (replicate m 0)) × ((length s ≤ 65535) × (seenLength s ≤ k))
-tables-start s u n m k t i d b l =
-    let e = entries-to s 7 (t .0) u (t .1) in
-    ((index-start s n (omega (arith, e .0, e .1)) i, depths-start s m d), (l, b))
+pub tables-start : (s : Bytes) (u n m j k : ℕ) → StandFrom s (firstEntry s) u → length s ≤ 27 * n → depthsLength s ≤ m → namesLength s ≤ j → seenLength s ≤ k →
+    length s ≤ 65535 →
+    (IndexIs s (firstEntry s) (replicate n 0) × DepthsKept s (firstEntry s) (replicate m 0)) × ((length s ≤ 65535) × ((namesLength s ≤ j) × (seenLength s ≤ k)))
+tables-start s u n m j k t i d a b l =
+    let e = entries-to s (firstEntry s) (t .0) u (t .1) in
+    ((index-start s n (omega (arith, e .0, e .1)) i, depths-start s m d), (l, (a, b)))
 
 -- entries that are accepted
-pub over-packages : (s : Bytes) (u : ℕ) → StandFrom s 7 u → PackagesSay s u true → OverSome s u
+pub over-packages : (s : Bytes) (u : ℕ) → StandFrom s (firstEntry s) u → PackagesSay s u true → OverSome s u
 unfolding soundEntries
 over-packages s u t h = (t .0, record { stand = t .1; sound = of-true (sym (h (t .0) (t .1))) })
 
+-- entries that end at the used field are all entries of the store
+pub over-all : (s : Bytes) (u : ℕ) (index depths : List ℕ) → usedAt s ≡ u → OverSome s u → IndexIs s u index × DepthsKept s u depths →
+    OverSome s (usedAt s) × (Indexed s (usedAt s) index × DepthsKept s (usedAt s) depths)
+over-all s u index depths e o t =
+    subst (λ (i : ℕ). OverSome s i × (Indexed s i index × DepthsKept s i depths)) (sym e) (o, (indexed s u index o (t .0), t .1))
+
 -- what the layout's answer says
-told-broken : (s : Bytes) (r : Layout) → r ≡ layouts.Broken → usedTold r ≡ (entriesOf s andThen λ es. some (used es)) → entriesOf s ≡ none
+told-broken : (s : Bytes) (r : Layout) → r ≡ layouts.Broken → usedTold r ≡ (entriesOf s andThen λ es. some (used (storeOpening s) es)) → entriesOf s ≡ none
 told-broken s r q e = go (entriesOf s) (ap usedTold (sym q) ∙ e)
   where
-    go : (o : Option (List Entry)) → none ≡ (o andThen λ es. some (used es)) → o ≡ none
+    go : (o : Option (List Entry)) → none ≡ (o andThen λ es. some (used (storeOpening s) es)) → o ≡ none
     go none h = refl
     go (some es) h = let z : _≡_ {A = ℕ} 0 1 = cc in absurd (omega arith)
 
-told-used : (s : Bytes) (r : Layout) (u : ℕ) → r ≡ layouts.Used u → usedTold r ≡ (entriesOf s andThen λ es. some (used es)) →
-    (es : List Entry) × (entriesOf s ≡ some es) × (used es ≡ u)
+told-used : (s : Bytes) (r : Layout) (u : ℕ) → r ≡ layouts.Used u → usedTold r ≡ (entriesOf s andThen λ es. some (used (storeOpening s) es)) →
+    (es : List Entry) × (entriesOf s ≡ some es) × (used (storeOpening s) es ≡ u)
 told-used s r u q e = go (entriesOf s) refl (ap usedTold (sym q) ∙ e)
   where
-    go : (o : Option (List Entry)) → entriesOf s ≡ o → some u ≡ (o andThen λ es. some (used es)) → (es : List Entry) × (entriesOf s ≡ some es) × (used es ≡ u)
+    go : (o : Option (List Entry)) → entriesOf s ≡ o → some u ≡ (o andThen λ es. some (used (storeOpening s) es)) → (es : List Entry) × (entriesOf s ≡ some es) × (used (storeOpening s) es ≡ u)
     go none h x = let z : _≡_ {A = ℕ} 0 1 = cc in absurd (omega arith)
     go (some es) h x = (es, h, sym (Option·some-injective _ _ x))
 
 -- a refusal of 1 or 2 as a load's number
 pub unopened-load : (s : Bytes) (n : ℕ) (d : Aid) (f : Bytes) → Unopened s n → (n ≡ 0 → ⊥) × (n ≡ number s (load d f))
 unfolding number
-unopened-load s n d f p = (p .0, p .1 (questions (length s) (entries s) (load d f)))
+unopened-load s n d f p = (p .0, p .1 (questions (storeOpening s) (length s) (entries s) (load d f)))
 
 module _ (s : Bytes) where
   -- 1 answered no
@@ -90,7 +112,7 @@ module _ (s : Bytes) where
     unopened-2 : sound s ≡ false → Unopened s 2
     unopened-2 k = (λ e. omega (arith, e), λ qs. rw (size, k))
 
-    module _ (r : Layout) (told : usedTold r ≡ (entriesOf s andThen λ es. some (used es))) where
+    module _ (r : Layout) (told : usedTold r ≡ (entriesOf s andThen λ es. some (used (storeOpening s) es))) where
       pub unopened-broken : r ≡ layouts.Broken → Unopened s 2
       unfolding sound
       unopened-broken e = unopened-2 (rw (size, told-broken s r e told))
@@ -103,22 +125,22 @@ module _ (s : Bytes) where
         reads : entriesOf s ≡ some es
         reads = (told-used s r u e told) .1
 
-        ends : used es ≡ u
+        ends : used (storeOpening s) es ≡ u
         ends = (told-used s r u e told) .2
 
-        stand : Entries s 7 es u
-        stand = subst (Entries s 7 es) ends ((holds es reads) .stand)
+        stand : Entries s (firstEntry s) es u
+        stand = subst (Entries s (firstEntry s) es) ends ((holds es reads) .stand)
 
-        pub stand-from : StandFrom s 7 u
+        pub stand-from : StandFrom s (firstEntry s) u
         stand-from = (es, stand)
 
         -- the domains refused
         pub unopened-domains : AllSay s u false → Unopened s 2
         unfolding sound soundEntries
         unopened-domains h =
-            let no : soundEntries (storeLimits s) (length s) es ≡ false = go (acceptedAll (storeLimits s) (length s) [] es)
-            (λ t. all-domains (storeLimits s) (length s) [] es t) in
-            unopened-2 (rw (size, reads) (ap (λ (l : Limits). soundEntries l (length s) es) (sym (store-limits s)) ∙ no))
+            let no : soundEntries (storeOpening s) (length s) es ≡ false = go (acceptedAll (storeOpening s) (length s) [] es)
+            (λ t. all-domains (storeOpening s) (length s) [] es t) in
+            unopened-2 (rw (size, reads) no)
           where
             go : (b : Bool) → (T b → T (domainsAccepted [] es)) → b ≡ false
             go false k = refl
@@ -132,19 +154,20 @@ module _ (s : Bytes) where
           reads = reads;
           holds = holds es reads;
           ends = ends;
+          field = sym (entries-next s (firstEntry s) es (u2At s 5) ((laid-by s es reads) .stand)) ∙ ends;
           stand = stand-from;
           domains = domains-yes s u h;
         }
 
 module _ (s : Bytes) (u : ℕ) (a : LaidAt s u) where
   -- the entries stand
-  stands : Entries s 7 (a .entries) u
-  stands = subst (Entries s 7 (a .entries)) (a .ends) (a .holds .stand)
+  stands : Entries s (firstEntry s) (a .entries) u
+  stands = subst (Entries s (firstEntry s) (a .entries)) (a .ends) (a .holds .stand)
 
   -- question 2, by that of the entries
-  sound-by : (b : Bool) → soundEntries (storeLimits s) (length s) (a .entries) ≡ b → sound s ≡ b
+  sound-by : (b : Bool) → soundEntries (storeOpening s) (length s) (a .entries) ≡ b → sound s ≡ b
   unfolding sound
-  sound-by b e = rw (a .size, a .reads) (ap (λ (l : Limits). soundEntries l (length s) (a .entries)) (sym (store-limits s)) ∙ e)
+  sound-by b e = rw (a .size, a .reads) e
 
   pub unopened-packages : PackagesSay s u false → Unopened s 2
   unopened-packages h = (λ e. omega (arith, e), λ qs. rw (a .size, sound-by false (sym (h (a .entries) stands))))
@@ -152,12 +175,12 @@ module _ (s : Bytes) (u : ℕ) (a : LaidAt s u) where
   pub sound-at : PackagesSay s u true → SoundAt s u
   unfolding soundEntries
   sound-at h =
-      let yes : soundEntries (storeLimits s) (length s) (a .entries) ≡ true = sym (h (a .entries) stands) in
+      let yes : soundEntries (storeOpening s) (length s) (a .entries) ≡ true = sym (h (a .entries) stands) in
       record {
         is = sound-by true yes;
         entries = λ fs q.
             let z : a .entries ≡ fs = Option·some-injective _ _ (sym (a .reads) ∙ q) in
-            subst (λ (gs : List Entry). Holds s gs × Over s u gs × (used gs ≡ u)) z (a .holds, record { stand = stands; sound = of-true yes }, a .ends);
+            subst (λ (gs : List Entry). Holds s gs × Over s u gs × (used (storeOpening s) gs ≡ u)) z (a .holds, record { stand = stands; sound = of-true yes }, a .ends);
       }
 
   -- a load
@@ -170,14 +193,13 @@ module _ (s : Bytes) (u : ℕ) (a : LaidAt s u) where
         unsound x =
             let t = unopened-packages (x .0) in
             let is : 2 ≡ n = ap numberOf (sym (x .1) ∙ e) in
-            (λ z. t .0 (is ∙ z), sym is ∙ t .1 (questions (length s) (entries s) (load d f)))
+            (λ z. t .0 (is ∙ z), sym is ∙ t .1 (questions (storeOpening s) (length s) (entries s) (load d f)))
 
         asked : PackagesSay s u true × LoadSays s u d f r → (n ≡ 0 → ⊥) × (n ≡ number s (load d f))
         asked x =
             let h = sound-at (x .0) in
             let some = over-some s u h in
-            let is : Asked s u (load d f) n = λ es o. ap numberOf (sym e) ∙ (x .1 es o) .number ∙ ap
-            (λ (l : Limits). firstNo (loadQuestions l (length s) es d f)) (store-limits s) in
+            let is : Asked s u (load d f) n = λ es o. ap numberOf (sym e) ∙ (x .1 es o) .number in
             (λ z. omega (arith, (x .1 (some .0) (some .1)) .real n e, z), asked-number s u h (load d f) n is)
 
     pub loading-done : (depth : ℕ) → r ≡ answers.Accepted depth → SoundAt s u × LoadSays s u d f (answers.Accepted depth)

@@ -13,12 +13,12 @@ use mathlib.Core.Logic.{_⊎_}
 use mathlib.Core.Option.{some}
 use lib.ListN.{length}
 use Rattle.rules.specs.Bytes.{Bytes, Aid}
-use Rattle.rules.specs.Store.{Entry, openingLength, used, entriesOf}
+use Rattle.rules.specs.Store.{Entry, used, entriesOf, firstEntry, storeOpening}
 use Rattle.rules.specs.Questions.{q1-size}
 use Rattle.rules.specs.Operations.{Question, onStore, load, number}
 use Rattle.store.specs.Entries.{StandFrom, Holds}
 use Rattle.store.specs.Sound.{SoundAt}
-use Rattle.judge.specs.Says.{DomainsYes, PackagesSay, LoadSays}
+use Rattle.judge.specs.Says.{usedAt, DomainsYes, PackagesSay, LoadSays}
 use Rattle.judge.specs.declared.LoadAnswer.{LoadAnswer}
 use Rattle.judge.specs.declared.LoadAnswer.the-variants as answers
 use Rattle.sound.specs.declared.Opened.{Opened}
@@ -33,8 +33,9 @@ pub record LaidAt (s : Bytes) (u : ℕ) : Type 0 where
   pub entries : List Entry
   pub reads : entriesOf s ≡ some entries
   pub holds : Holds s entries
-  pub ends : used entries ≡ u
-  pub stand : StandFrom s openingLength u
+  pub ends : used (storeOpening s) entries ≡ u
+  pub field : usedAt s ≡ u
+  pub stand : StandFrom s (firstEntry s) u
   pub domains : DomainsYes s u
 
 -- a refusal of 1 or 2, whatever is asked behind them

@@ -9,8 +9,8 @@ use lib.Dec.{T, leb, leb→le}
 use lib.ListN.{length, length-append}
 use borrow.Author.Tests.{le-leb}
 use Rattle.rules.specs.Bytes.{Bytes, Aid, within, pick, any, all, isSome, someAnd, same}
-use Rattle.rules.specs.Package.{Limits, storeLimits, Package, readFile}
-use Rattle.rules.specs.Store.{Entry, domain, loaded, entryBytes, used}
+use Rattle.rules.specs.Package.{Limits, Package, readFile}
+use Rattle.rules.specs.Store.{Entry, domain, loaded, entryBytes, used, firstEntry, storeLimits, storeOpening}
 use Rattle.rules.specs.Classes.{Installed, installed, byAid}
 use Rattle.rules.specs.Questions.{q1-size, domains, q5-created, q6-empty, q7-installed, q21-fits}
 use Rattle.rules.specs.Operations.{isDomain, isPackage}
@@ -117,20 +117,20 @@ named-place l a i (e ∷ es) h =
     ap₂ (λ (b : Bool) (o : Option (ℕ × ℕ)). pick b (some (i, n)) o) (named-is l a e (h .0)) (named-place l a n es (h .1))
 
 -- what the search for a package answers
-pub package-found : {s : Bytes} {es : List Entry} {k : ℕ} {a : Aid} {i j m : ℕ} {d : Bytes} → Entries s 7 es k → AllRead (storeLimits s) es → placeOf
-    (namedBy a) 7 es ≡ some (i, m) → j ≤ m → m ≤ length s → ((e : Entry) → EntryAt s i e m → e ≡ loaded d (part s j m)) → FileSays s es a (File i j m)
-package-found {s} {es} {k} {a} {i} {j} {m} {d} r h q from to file = go (found-at (isPackage (storeLimits s) a) s 7 es k i m r place)
+pub package-found : {s : Bytes} {es : List Entry} {k : ℕ} {a : Aid} {i j m : ℕ} {d : Bytes} → Entries s (firstEntry s) es k → AllRead (storeLimits s) es → placeOf
+    (namedBy a) (firstEntry s) es ≡ some (i, m) → j ≤ m → m ≤ length s → ((e : Entry) → EntryAt s i e m → e ≡ loaded d (part s j m)) → FileSays s es a (File i j m)
+package-found {s} {es} {k} {a} {i} {j} {m} {d} r h q from to file = go (found-at (isPackage (storeLimits s) a) s (firstEntry s) es k i m r place)
   where
-    place : placeOf (isPackage (storeLimits s) a) 7 es ≡ some (i, m)
-    place = sym (named-place (storeLimits s) a 7 es h) ∙ q
+    place : placeOf (isPackage (storeLimits s) a) (firstEntry s) es ≡ some (i, m)
+    place = sym (named-place (storeLimits s) a (firstEntry s) es h) ∙ q
 
-    go : FoundAt (isPackage (storeLimits s) a) s 7 es k i m → PackageAt s es a i j m
+    go : FoundAt (isPackage (storeLimits s) a) s (firstEntry s) es k i m → PackageAt s es a i j m
     go f =
         let z : f .one ≡ loaded d (part s j m) = file (f .one) (f .stands) in
         let p = package-is (storeLimits s) a (f .one) (f .found) in
         done f (p .0) (p .1) (p .2) (p .3) (p .4) (p .5) (cc)
       where
-        done : (f : FoundAt (isPackage (storeLimits s) a) s 7 es k i m) (d₁ f₁ : Bytes) (p : Package) → f .one ≡ loaded d₁ f₁ → readFile (storeLimits s)
+        done : (f : FoundAt (isPackage (storeLimits s) a) s (firstEntry s) es k i m) (d₁ f₁ : Bytes) (p : Package) → f .one ≡ loaded d₁ f₁ → readFile (storeLimits s)
             f₁ ≡ some p → same a (p .aid) ≡ true → f₁ ≡ part s j m → PackageAt s es a i j m
         done f d₁ f₁ p o e t w =
             let stands : EntryAt s i (loaded d₁ (part s j m)) m = subst (λ (x : Entry). EntryAt s i x m) (o ∙ ap (loaded d₁) w) (f .stands) in
@@ -151,10 +151,10 @@ package-found {s} {es} {k} {a} {i} {j} {m} {d} r h q from to file = go (found-at
 
 pub package-none : (s : Bytes) (es : List Entry) (a : Aid) → AllRead (storeLimits s) es → any (namedBy a) es ≡ false → FileSays s es a Missing
 package-none s es a h n =
-    let p : placeOf (isPackage (storeLimits s) a) 7 es ≡ none = sym (named-place (storeLimits s) a 7 es h) ∙ place-none (namedBy a) 7 es n in
-    (p, by-aid-none (storeLimits s) a es (sym (place-any (isPackage (storeLimits s) a) 7 es) ∙ ap isSome p))
+    let p : placeOf (isPackage (storeLimits s) a) (firstEntry s) es ≡ none = sym (named-place (storeLimits s) a (firstEntry s) es h) ∙ place-none (namedBy a) (firstEntry s) es n in
+    (p, by-aid-none (storeLimits s) a es (sym (place-any (isPackage (storeLimits s) a) (firstEntry s) es) ∙ ap isSome p))
 
 -- 21. an entry that stands in the buffer behind others fits
-pub fits-standing : (s : Bytes) (es : List Entry) (i : ℕ) (e : Entry) (j : ℕ) → Entries s 7 es i → EntryAt s i e j → q21-fits (length s) es e ≡ true
+pub fits-standing : (s : Bytes) (es : List Entry) (i : ℕ) (e : Entry) (j : ℕ) → Entries s (firstEntry s) es i → EntryAt s i e j → q21-fits (storeOpening s) (length s) es e ≡ true
 unfolding q21-fits
-fits-standing s es i e j r t = le-leb (used es + length (entryBytes e)) (length s) (omega (arith, entries-next s 7 es i r, entry-next s i e j t, t .to))
+fits-standing s es i e j r t = le-leb (used (storeOpening s) es + length (entryBytes e)) (length s) (omega (arith, entries-next s (firstEntry s) es i r, entry-next s i e j t, t .to))

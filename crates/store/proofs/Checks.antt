@@ -11,7 +11,7 @@ use lib.Seq.{length-take-le}
 use borrow.Author.Tests.{eq-eqb, ne-eqb}
 use Rattle.rules.specs.Bytes.{Bytes, all, isSome, same}
 use Rattle.rules.specs.Code.{u2At}
-use Rattle.rules.specs.Store.{Entry, entryOf, opening, isZero}
+use Rattle.rules.specs.Store.{Entry, entryOf, storeMark, isZero}
 use Rattle.rules.proofs.Tests.{of-true}
 use Rattle.rules.proofs.Lists.{some-is}
 use Rattle.store.specs.Entries.{part, Entries, over, StandFrom}
@@ -20,15 +20,28 @@ use Rattle.store.specs.declared.Next.the-variants.{To, Never}
 use Rattle.store.proofs.Parts.{drop-one}
 use Rattle.store.proofs.Stand.{entry-by, by-entry, entry-later, entries-to, entries-more, entries-split, entries-front}
 
+and-false : (a b : Bool) → b ≡ false → (a && b) ≡ false
+and-false true b e = e
+and-false false b e = refl
+
 -- mark and version, byte by byte
-pub opening-is : (s : Bytes) → 5 ≤ length s → same (take 5 s) opening ≡ (eqb (getD s 0 0) 0x42 &&
-    (eqb (getD s 1 0) 0x43 && (eqb (getD s 2 0) 0x53 && (eqb (getD s 3 0) 0 && (eqb (getD s 4 0) 1 && true)))))
-opening-is [] h = absurd (omega arith)
-opening-is (a ∷ []) h = absurd (omega arith)
-opening-is (a ∷ b ∷ []) h = absurd (omega arith)
-opening-is (a ∷ b ∷ c ∷ []) h = absurd (omega arith)
-opening-is (a ∷ b ∷ c ∷ d ∷ []) h = absurd (omega arith)
-opening-is (a ∷ b ∷ c ∷ d ∷ e ∷ s) h = refl
+pub mark-is : (s : Bytes) (n : ℕ) → 5 ≤ length s → same (take 5 s) (storeMark n) ≡ (eqb (getD s 0 0) 0x42 &&
+    (eqb (getD s 1 0) 0x43 && (eqb (getD s 2 0) 0x53 && (eqb (getD s 3 0) 0 && (eqb (getD s 4 0) n && true)))))
+mark-is [] n h = absurd (omega arith)
+mark-is (a ∷ []) n h = absurd (omega arith)
+mark-is (a ∷ b ∷ []) n h = absurd (omega arith)
+mark-is (a ∷ b ∷ c ∷ []) n h = absurd (omega arith)
+mark-is (a ∷ b ∷ c ∷ d ∷ []) n h = absurd (omega arith)
+mark-is (a ∷ b ∷ c ∷ d ∷ e ∷ s) n h = refl
+
+pub mark-short : (s : Bytes) (n : ℕ) → length s < 5 → same (take 5 s) (storeMark n) ≡ false
+mark-short [] n h = refl
+mark-short (a ∷ []) n h = and-false (eqb a 0x42) false refl
+mark-short (a ∷ b ∷ []) n h = and-false (eqb a 0x42) _ (and-false (eqb b 0x43) false refl)
+mark-short (a ∷ b ∷ c ∷ []) n h = and-false (eqb a 0x42) _ (and-false (eqb b 0x43) _ (and-false (eqb c 0x53) false refl))
+mark-short (a ∷ b ∷ c ∷ d ∷ []) n h =
+    and-false (eqb a 0x42) _ (and-false (eqb b 0x43) _ (and-false (eqb c 0x53) _ (and-false (eqb d 0) false refl)))
+mark-short (a ∷ b ∷ c ∷ d ∷ e ∷ s) n h = absurd (omega arith)
 
 pub and-true : (b : Bool) → (b && true) ≡ b
 and-true true = refl
@@ -114,20 +127,20 @@ module _ (s : Bytes) (i k n : ℕ) (h : n ≡ u2At s (i + 1)) (g : k ≤ length 
       let u : _≡_ {A = ℕ} 0 1 = cc in omega arith
 
 -- entries up to a place: a step, the end, and where none can follow
-pub fill-start : (s : Bytes) → 7 ≤ length s → StandFrom s 7 7
-fill-start s h = ([], over h)
+pub fill-start : (s : Bytes) (at : ℕ) → at ≤ length s → StandFrom s at at
+fill-start s at h = ([], over h)
 
-pub fill-more : (s : Bytes) (i j k : ℕ) → StandFrom s 7 i → NextSays s i k (To j) → StandFrom s 7 j × (i < j) × (j ≤ k)
-fill-more s i j k f t = (((f .0 ++ t .0 ∷ []), entries-more s 7 (f .0) i (t .0) j (f .1) (t .1)), omega (arith, entry-later s i (t .0) j (t .1)), t .2)
+pub fill-more : (s : Bytes) (at i j k : ℕ) → StandFrom s at i → NextSays s i k (To j) → StandFrom s at j × (i < j) × (j ≤ k)
+fill-more s at i j k f t = (((f .0 ++ t .0 ∷ []), entries-more s at (f .0) i (t .0) j (f .1) (t .1)), omega (arith, entry-later s i (t .0) j (t .1)), t .2)
 
-pub fill-never : (s : Bytes) (i k : ℕ) → i < k → StandFrom s 7 i → NextSays s i k Never → (es : List Entry) → Entries s 7 es k → ⊥
-fill-never s i k l f h es r =
-    let x = entries-split s 7 es (f .0) i k (omega arith) (f .1) r in
+pub fill-never : (s : Bytes) (at i k : ℕ) → i < k → StandFrom s at i → NextSays s i k Never → (es : List Entry) → Entries s at es k → ⊥
+fill-never s at i k l f h es r =
+    let x = entries-split s at es (f .0) i k (omega arith) (f .1) r in
     let y = entries-front s i (x .rest) k l (x .stand) in
     h (y .one) (y .place) (y .stands) ((entries-to s (y .place) (y .others) k (y .rest)) .0)
 
-pub fill-done : (s : Bytes) (i k : ℕ) → i ≡ k → StandFrom s 7 i → StandFrom s 7 k
-fill-done s i k e f = subst (λ (n : ℕ). StandFrom s 7 n) e f
+pub fill-done : (s : Bytes) (at i k : ℕ) → i ≡ k → StandFrom s at i → StandFrom s at k
+fill-done s at i k e f = subst (λ (n : ℕ). StandFrom s at n) e f
 
 -- a test does not both fail and pass
 pub not-both : (b : Bool) → b ≡ false → b ≡ true → ⊥

@@ -8,8 +8,7 @@ use mathlib.Core.Option.{some}
 use lib.ListN.{length, getD}
 use Rattle.rules.specs.Bytes.{Bytes, any}
 use Rattle.rules.specs.Code.{u2At}
-use Rattle.rules.specs.Package.{storeLimits}
-use Rattle.rules.specs.Store.{Entry, domain, loaded}
+use Rattle.rules.specs.Store.{Entry, domain, loaded, firstEntry, storeLimits}
 use Rattle.store.specs.Entries.{part, EntryAt, Entries, StandFrom, FirstIs, placeOf, FileReads, AllRead}
 use Rattle.store.specs.Answers.{PartAt}
 use Rattle.store.specs.declared.EntryPart.{EntryPart}
@@ -78,20 +77,20 @@ part-end s i k e es r = (entries-over s i es k (omega arith) r, e)
 
 -- a walk, for whatever entries end at place k
 abbrev pub Walks : (Entry → Bool) → Bytes → ℕ → ℕ → Type 0
-Walks q s k i = (es : List Entry) → Entries s 7 es k → Walk q s es k i
+Walks q s k i = (es : List Entry) → Entries s (firstEntry s) es k → Walk q s es k i
 
 module _ {q : Entry → Bool} {s : Bytes} {k i : ℕ} (w : Walks q s k i) where
-  pub walks-from : StandFrom s 7 k → StandFrom s i k
+  pub walks-from : StandFrom s (firstEntry s) k → StandFrom s i k
   walks-from f = let v = w (f .0) (f .1) in (v .rest, v .from)
 
-  pub domain-in : {a j : ℕ} → StandFrom s 7 k → PartAt s i k (Domain a j) → (a ≤ j) × (j ≤ length s) × (i < j) × (j ≤ k)
+  pub domain-in : {a j : ℕ} → StandFrom s (firstEntry s) k → PartAt s i k (Domain a j) → (a ≤ j) × (j ≤ length s) × (i < j) × (j ≤ k)
   domain-in {a} {j} f p =
       let v = w (f .0) (f .1) in
       let x = p (v .rest) (v .from) in
       let l = first-later (x .1) in
       (x .0, omega arith, l .0, l .1)
 
-  pub package-in : {a m j : ℕ} → StandFrom s 7 k → PartAt s i k (Package a m j) → (a ≤ m) × (m ≤ j) × (j ≤ length s) × (i < j) × (j ≤ k)
+  pub package-in : {a m j : ℕ} → StandFrom s (firstEntry s) k → PartAt s i k (Package a m j) → (a ≤ m) × (m ≤ j) × (j ≤ length s) × (i < j) × (j ≤ k)
   package-in {a} {m} {j} f p =
       let v = w (f .0) (f .1) in
       let x = p (v .rest) (v .from) in
@@ -104,26 +103,26 @@ module _ {q : Entry → Bool} {s : Bytes} {k i : ℕ} (w : Walks q s k i) where
   pub walks-package : {a m j : ℕ} → PartAt s i k (Package a m j) → q (loaded (part s a m) (part s m j)) ≡ false → Walks q s k j
   walks-package {a} {m} {j} p h es r = let v = w es r in walk-more v ((p (v .rest) (v .from)) .2) h
 
-  pub found-domain : {a j : ℕ} → PartAt s i k (Domain a j) → q (domain (part s a j)) ≡ true → (es : List Entry) → Entries s 7 es k → placeOf q 7 es ≡ some
+  pub found-domain : {a j : ℕ} → PartAt s i k (Domain a j) → q (domain (part s a j)) ≡ true → (es : List Entry) → Entries s (firstEntry s) es k → placeOf q (firstEntry s) es ≡ some
       (i, j)
   found-domain {a} {j} p h es r = let v = w es r in walk-found v ((p (v .rest) (v .from)) .1) h
 
-  pub found-package : {a m j : ℕ} → PartAt s i k (Package a m j) → q (loaded (part s a m) (part s m j)) ≡ true → (es : List Entry) → Entries s 7 es k →
-      placeOf q 7 es ≡ some (i, j)
+  pub found-package : {a m j : ℕ} → PartAt s i k (Package a m j) → q (loaded (part s a m) (part s m j)) ≡ true → (es : List Entry) → Entries s (firstEntry s) es k →
+      placeOf q (firstEntry s) es ≡ some (i, j)
   found-package {a} {m} {j} p h es r = let v = w es r in walk-found v ((p (v .rest) (v .from)) .2) h
 
-  pub found-none : PartAt s i k AtEnd → (es : List Entry) → Entries s 7 es k → any q es ≡ false
+  pub found-none : PartAt s i k AtEnd → (es : List Entry) → Entries s (firstEntry s) es k → any q es ≡ false
   found-none p es r = let v = w es r in walk-none v ((p (v .rest) (v .from)) .0)
 
   -- the file of the package at hand reads where all do
-  pub package-reads : {a m j : ℕ} → PartAt s i k (Package a m j) → (es : List Entry) → Entries s 7 es k → AllRead (storeLimits s) es → FileReads
+  pub package-reads : {a m j : ℕ} → PartAt s i k (Package a m j) → (es : List Entry) → Entries s (firstEntry s) es k → AllRead (storeLimits s) es → FileReads
       (storeLimits s) (loaded (part s a m) (part s m j))
   package-reads {a} {m} {j} p es r h =
       let v = w es r in
       let x = (p (v .rest) (v .from)) .2 in
       (subst (AllRead (storeLimits s)) (x .are) (walk-reads v (storeLimits s) h)) .0
 
-  pub package-entry : {a m j : ℕ} → PartAt s i k (Package a m j) → (es : List Entry) → Entries s 7 es k → (e : Entry) → EntryAt s i e j → e ≡ loaded
+  pub package-entry : {a m j : ℕ} → PartAt s i k (Package a m j) → (es : List Entry) → Entries s (firstEntry s) es k → (e : Entry) → EntryAt s i e j → e ≡ loaded
       (part s a m) (part s m j)
   package-entry {a} {m} {j} p es r e t =
       let v = w es r in

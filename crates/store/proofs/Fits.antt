@@ -7,14 +7,14 @@ use lib.Dec.{leb}
 use lib.ListN.{length, length-append}
 use borrow.Author.Tests.{leb-true, leb-false, le-leb, lt-leb}
 use Rattle.rules.specs.Bytes.{Bytes}
-use Rattle.rules.specs.Store.{Entry, loaded, body, entryBytes, used}
+use Rattle.rules.specs.Store.{Entry, loaded, body, entryBytes, used, storeOpening}
 use Rattle.rules.specs.Questions.{q21-fits}
 use Rattle.store.specs.Answers.{Fits}
 
 -- 21, by lengths
 pub fits-is : (s : Bytes) (u n : ℕ) (e : Entry) (b : Bool) → length (body e) ≡ n → b ≡ leb (u + (3 + n)) (length s) → Fits s u e b
 unfolding q21-fits
-fits-is s u n e b l h es q = let m : u + (3 + n) ≡ used es + length (entryBytes e) = omega arith in h ∙ ap (λ (x : ℕ). leb x (length s)) m
+fits-is s u n e b l h es q = let m : u + (3 + n) ≡ used (storeOpening s) es + length (entryBytes e) = omega arith in h ∙ ap (λ (x : ℕ). leb x (length s)) m
 
 -- the length of a package's body
 pub loaded-length : (d f : Bytes) → length (body (loaded d f)) ≡ 1 + length d + length f

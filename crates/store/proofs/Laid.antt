@@ -10,13 +10,15 @@ use lib.Dec.{T, leb, leb→le, lt→ltb}
 use lib.ListN.{length, take, drop, getD, length-drop, drop-of-length-le}
 use lib.Seq.{getD-take, take-take, length-take-le}
 use borrow.Author.Tests.{le-leb}
-use Rattle.rules.specs.Bytes.{Bytes, all, pick, _andThen_, same, u2, span}
+use Rattle.rules.specs.Bytes.{Bytes, all, pick, _andThen_, u2, span}
 use Rattle.rules.specs.Code.{u2At}
-use Rattle.rules.specs.Store.{Entry, entryOf, entry, opening, used, entriesIn, isZero, upToUsed, entriesOf}
+use Rattle.rules.specs.Store.{Entry, entryOf, entry, used, entriesIn, isZero, upToUsed, openingOf, entriesOf, storeOpening, firstEntry}
 use Rattle.rules.proofs.Tests.{and-i, is-true, none-some, and-then-is}
 use Rattle.rules.proofs.Lists.{pick-some}
 use Rattle.rules.proofs.Written.{entries-few}
-use Rattle.rules.proofs.Back.{isByte, write-read}
+use Rattle.rules.proofs.Opens.{isByte, entries-opened, opening-fits}
+use Rattle.rules.proofs.Back.{write-read}
+use Rattle.rules.proofs.Limits as limits
 use Rattle.store.specs.Entries.{part, EntryAt, Entries, over, more, Holds, Laid}
 use Rattle.store.proofs.Parts.{drop-take, drop-one, part-length, span-drop, drop-span}
 use Rattle.store.proofs.Stand.{nextOf, entry-reads, entry-by, by-entry, entry-later, entries-to, entries-next}
@@ -130,67 +132,80 @@ stand-part n s i k es h r =
 
 -- a buffer with the store's layout
 pub record LaidBy (s : Bytes) (es : List Entry) : Type 0 where
-  pub opens : T (same (take 5 s) opening)
-  pub inside : 7 ≤ length s
-  pub from : 7 ≤ u2At s 5
-  pub stand : Entries s 7 es (u2At s 5)
+  pub opens : openingOf s ≡ some (storeOpening s)
+  pub inside : firstEntry s ≤ length s
+  pub from : firstEntry s ≤ u2At s 5
+  pub stand : Entries s (firstEntry s) es (u2At s 5)
   pub zeros : T (all isZero (drop (u2At s 5) s))
 
 -- its used value is within the buffer
 pub laid-to : (s : Bytes) (es : List Entry) → LaidBy s es → u2At s 5 ≤ length s
-laid-to s es t = (entries-to s 7 es (u2At s 5) (t .stand)) .1
+laid-to s es t = (entries-to s (firstEntry s) es (u2At s 5) (t .stand)) .1
 
 -- what follows the used field
 usedThen : Bytes × Bytes → Option (List Entry)
 usedThen x = pick (all isZero (x .1)) (entriesIn (length (x .0)) (x .0)) none
 
-fields-at : (s : Bytes) → 7 ≤ length s → drop 5 s ≡ getD s 5 0 ∷ getD s 6 0 ∷ drop 7 s
-fields-at s h =
+-- the used field
+used-at : (s : Bytes) → 7 ≤ length s → u2 (drop 5 s) ≡ some (u2At s 5, drop 7 s)
+used-at s h =
     let a : 5 < length s = omega arith in
     let b : 6 < length s = omega arith in
-    drop-one s 5 a ∙ ap (λ (l : Bytes). getD s 5 0 ∷ l) (drop-one s 6 b)
+    ap u2 (drop-one s 5 a ∙ ap (λ (l : Bytes). getD s 5 0 ∷ l) (drop-one s 6 b))
+
+used-short : (s : Bytes) → length s < 7 → u2 (drop 5 s) ≡ none
+used-short s h = short (drop 5 s) (omega (arith, length-drop 5 s))
+  where
+    short : (bs : Bytes) → length bs < 2 → u2 bs ≡ none
+    short [] g = refl
+    short (a ∷ []) g = refl
+    short (a ∷ b ∷ bs) g = absurd (omega arith)
 
 pub laid-by : (s : Bytes) (es : List Entry) → entriesOf s ≡ some es → LaidBy s es
 unfolding entriesOf usedThen
-laid-by s es e = elim (decLe (length s) 5) [
-  | yes g ↦ absurd (none-some (rw (drop-of-length-le s {i = 5} g) at (p .1)))
-  | no g ↦ elim (decLe (length s) 6) [
-    | yes g₁ ↦ let a : 5 < length s = omega arith in absurd (none-some (rw (drop-one s 5 a, drop-of-length-le s {i = 5 + 1} g₁) at (p .1)))
-    | no g₁ ↦ let h : 7 ≤ length s = omega arith in inside h (rw (fields-at s h) at (p .1))
-  ]
+laid-by s es e = elim (decLe 7 (length s)) [
+  | yes h ↦ inside h (rw (used-at s h) at behind)
+  | no h ↦ absurd (none-some (rw (used-short s (omega arith)) at behind))
 ]
   where
-    p : T (same (take 5 s) opening) × ((u2 (drop 5 s) andThen λ x. upToUsed (x .0) (x .1)) ≡ some es)
-    p = pick-some (same (take 5 s) opening) (u2 (drop 5 s) andThen λ x. upToUsed (x .0) (x .1)) es e
+    o : openingOf s ≡ some (storeOpening s)
+    o = entries-opened s es e
 
-    inside : 7 ≤ length s → upToUsed (u2At s 5) (drop 7 s) ≡ some es → LaidBy s es
+    least : ℕ
+    least = firstEntry s
+
+    behind : (u2 (drop 5 s) andThen λ x. upToUsed least (x .0) (drop least s)) ≡ some es
+    behind = rw o at e
+
+    inside : 7 ≤ length s → upToUsed least (u2At s 5) (drop least s) ≡ some es → LaidBy s es
     inside h q =
-        let u = pick-some (leb 7 (u2At s 5)) (span (u2At s 5 - 7) (drop 7 s) andThen usedThen) es q in
-        let l : 7 ≤ u2At s 5 = leb→le 7 (u2At s 5) (u .0) in
-        let x = and-then-is (span (u2At s 5 - 7) (drop 7 s)) usedThen es (u .1) in
+        let u = pick-some (leb least (u2At s 5)) (span (u2At s 5 - least) (drop least s) andThen usedThen) es q in
+        let l : least ≤ u2At s 5 = leb→le least (u2At s 5) (u .0) in
+        let x = and-then-is (span (u2At s 5 - least) (drop least s)) usedThen es (u .1) in
         let y = pick-some (all isZero (x .0 .1)) (entriesIn (length (x .0 .0)) (x .0 .0)) es (x .2) in
-        let d = span-drop s 7 (u2At s 5 - 7) (x .0) h (x .1) in
-        let m : 7 + (u2At s 5 - 7) ≡ u2At s 5 = omega arith in
-        let d₁ : part s 7 (u2At s 5) ≡ x .0 .0 = ap (part s 7) (sym m) ∙ d .1 in
+        let g : least ≤ length s = opening-fits s (storeOpening s) o h in
+        let d = span-drop s least (u2At s 5 - least) (x .0) g (x .1) in
+        let m : least + (u2At s 5 - least) ≡ u2At s 5 = omega arith in
+        let d₁ : part s least (u2At s 5) ≡ x .0 .0 = ap (part s least) (sym m) ∙ d .1 in
         let d₂ : drop (u2At s 5) s ≡ x .0 .1 = ap (λ (n : ℕ). drop n s) (sym m) ∙ d .2 in
         record {
-          opens = p .0;
-          inside = h;
+          opens = o;
+          inside = g;
           from = l;
-          stand = part-stand (length (x .0 .0)) s 7 (u2At s 5) es l (omega (arith, d .0)) (ap (entriesIn (length (x .0 .0))) d₁ ∙ y .1);
+          stand = part-stand (length (x .0 .0)) s least (u2At s 5) es l (omega (arith, d .0)) (ap (entriesIn (length (x .0 .0))) d₁ ∙ y .1);
           zeros = subst (λ (b : Bytes). T (all isZero b)) (sym d₂) (y .0);
         }
 
 pub by-laid : (s : Bytes) (es : List Entry) → LaidBy s es → entriesOf s ≡ some es
 unfolding entriesOf
 by-laid s es t =
-    let u : ℕ = u2At s 5 in
-    let k = (entries-to s 7 es (u2At s 5) (t .stand)) .1 in
-    let l : leb 7 (u2At s 5) ≡ true = le-leb 7 (u2At s 5) (t .from) in
-    let n : length es ≤ length (part s 7 (u2At s 5)) = omega (arith, entries-few es, entries-next s 7 es (u2At s 5) (t .stand), part-length s 7 (u2At s 5) k) in
-    rw (is-true (same (take 5 s) opening) (t .opens), fields-at s (t .inside))
-    (rw (l, drop-span s 7 (u2At s 5) (t .from) k, is-true (all isZero (drop (u2At s 5) s)) (t .zeros))
-    (stand-part (length (part s 7 (u2At s 5))) s 7 (u2At s 5) es n (t .stand)))
+    let i : ℕ = firstEntry s in
+    let k = (entries-to s i es (u2At s 5) (t .stand)) .1 in
+    let l : leb i (u2At s 5) ≡ true = le-leb i (u2At s 5) (t .from) in
+    let n : length es ≤ length (part s i (u2At s 5)) = omega (arith, entries-few es, entries-next s i es (u2At s 5) (t .stand), part-length s i (u2At s 5) k) in
+    let h : 7 ≤ length s = omega (arith, t .inside, (limits.first-entry s) .0) in
+    rw (t .opens, used-at s h) (rw (l, drop-span s i (u2At s 5) (t .from) k, is-true (all isZero (drop (u2At s 5) s)) (t .zeros))
+    (stand-part (length (part s i (u2At s 5))) s i (u2At s 5) es n (t .stand)))
 
 -- bytes below 256, by their places
 pub all-bytes : (s : Bytes) → ((i : ℕ) → getD s i 0 < 256) → T (all isByte s)
@@ -201,8 +216,8 @@ all-bytes (b ∷ s) h = and-i (isByte b) (all isByte s) (lt→ltb b 256 (h 0)) (
 pub holds : (s : Bytes) → ((i : ℕ) → getD s i 0 < 256) → (es : List Entry) → entriesOf s ≡ some es → Holds s es
 holds s h es e =
     let t = laid-by s es e in
-    let u : u2At s 5 ≡ used es = sym (entries-next s 7 es (u2At s 5) (t .stand)) in
-    record { reads = e; bytes = write-read s es (all-bytes s h) e; stand = subst (λ (n : ℕ). Entries s 7 es n) u (t .stand) }
+    let u : u2At s 5 ≡ used (storeOpening s) es = sym (entries-next s (firstEntry s) es (u2At s 5) (t .stand)) in
+    record { reads = e; bytes = write-read s es (all-bytes s h) e; stand = subst (λ (n : ℕ). Entries s (firstEntry s) es n) u (t .stand) }
 
 -- no entries where none can be
 pub reads-none : (s : Bytes) → ((es : List Entry) → LaidBy s es → ⊥) → entriesOf s ≡ none
@@ -212,23 +227,23 @@ reads-none s h = go (entriesOf s) refl
     go none e = e
     go (some es) e = absurd (h es (laid-by s es e))
 
--- the used value of entries
-abbrev pub usedOf : Option (List Entry) → Option ℕ
-usedOf o = o andThen λ es. some (used es)
+-- the used value of the entries of a buffer
+abbrev pub usedOf : Bytes → Option ℕ
+usedOf s = entriesOf s andThen λ es. some (used (storeOpening s) es)
 
 -- what the answer says where there is no layout, and where there is one
 module _ (s : Bytes) (h : (i : ℕ) → getD s i 0 < 256) where
-  pub laid-none : ((es : List Entry) → LaidBy s es → ⊥) → (none ≡ usedOf (entriesOf s)) × ((es : List Entry) → entriesOf s ≡ some es → Holds s es)
-  laid-none g = (sym (ap usedOf (reads-none s g)), holds s h)
+  pub laid-none : ((es : List Entry) → LaidBy s es → ⊥) → (none ≡ usedOf s) × ((es : List Entry) → entriesOf s ≡ some es → Holds s es)
+  laid-none g = (rw (reads-none s g), holds s h)
 
-  pub laid-some : (u : ℕ) (es : List Entry) → u ≡ u2At s 5 → LaidBy s es → (some u ≡ usedOf (entriesOf s)) ×
+  pub laid-some : (u : ℕ) (es : List Entry) → u ≡ u2At s 5 → LaidBy s es → (some u ≡ usedOf s) ×
       ((es : List Entry) → entriesOf s ≡ some es → Holds s es)
   laid-some u es e t =
-      let n : used es ≡ u = entries-next s 7 es (u2At s 5) (t .stand) ∙ sym e in
-      (sym (ap usedOf (by-laid s es t) ∙ ap some n), holds s h)
+      let n : used (storeOpening s) es ≡ u = entries-next s (firstEntry s) es (u2At s 5) (t .stand) ∙ sym e in
+      (sym (rw (by-laid s es t) (ap some n)), holds s h)
 
 -- the layout that an answer tells of
-pub laid-told : (s : Bytes) (u : ℕ) → some u ≡ usedOf (entriesOf s) → ((es : List Entry) → entriesOf s ≡ some es → Holds s es) → Laid s u
+pub laid-told : (s : Bytes) (u : ℕ) → some u ≡ usedOf s → ((es : List Entry) → entriesOf s ≡ some es → Holds s es) → Laid s u
 laid-told s u e h =
-    let x = and-then-is (entriesOf s) (λ es. some (used es)) u (sym e) in
+    let x = and-then-is (entriesOf s) (λ es. some (used (storeOpening s) es)) u (sym e) in
     (x .0, h (x .0) (x .1), sym (Option·some-injective _ _ (x .2)))

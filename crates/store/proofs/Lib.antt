@@ -4,6 +4,7 @@ pub mod Stand
 pub mod Laid
 pub mod Walk
 pub mod Checks
+pub mod Opened
 pub mod Own
 pub mod Find
 pub mod Asked

@@ -8,8 +8,7 @@ use mathlib.Core.Option.{some}
 use lib.Dec.{T}
 use lib.ListN.{length}
 use Rattle.rules.specs.Bytes.{Bytes, Aid, isSome, someAnd, aidLength}
-use Rattle.rules.specs.Package.{standard}
-use Rattle.rules.specs.Store.{Entry, used, write, entriesOf}
+use Rattle.rules.specs.Store.{Entry, used, write, entriesOf, storeOpening, storeLimits, firstEntry}
 use Rattle.rules.specs.Questions.{q1-size, q3-lengths, q4-new, q5-created}
 use Rattle.rules.specs.Operations.{isDomain, firstNo, soundEntries, sound, entries, Operation, questions, number, change, ifDone, after}
 use Rattle.rules.proofs.Tests.{and-l, and-r, is-true, of-true, some-and-is}
@@ -22,20 +21,20 @@ use Rattle.store.proofs.Asked.{created-place, size-is}
 use Rattle.store.proofs.Checks.{and-true}
 
 -- sound entries stand there
-pub over-stand : (s : Bytes) (end : ℕ) → OverSome s end → StandFrom s 7 end
+pub over-stand : (s : Bytes) (end : ℕ) → OverSome s end → StandFrom s (firstEntry s) end
 over-stand s end o = (o .0, o .1 .stand)
 
 pub over-to : (s : Bytes) (end : ℕ) → OverSome s end → end ≤ length s
-over-to s end o = (entries-to s 7 (o .0) end (o .1 .stand)) .1
+over-to s end o = (entries-to s (firstEntry s) (o .0) end (o .1 .stand)) .1
 
 -- their used value is the place where they end
-pub over-used : (s : Bytes) (end : ℕ) (es : List Entry) → Over s end es → used es ≡ end
-over-used s end es o = entries-next s 7 es end (o .stand)
+pub over-used : (s : Bytes) (end : ℕ) (es : List Entry) → Over s end es → used (storeOpening s) es ≡ end
+over-used s end es o = entries-next s (firstEntry s) es end (o .stand)
 
 -- a domain that is found has been created, one that is not has not
 pub created-is : (s : Bytes) (end : ℕ) (a : Aid) (r : Spot) → SpotAt (isDomain a) s end r → (es : List Entry) → Over s end es → isSome (spot r) ≡
     q5-created es a
-created-is s end a r p es o = ap isSome (p es (o .stand)) ∙ sym (created-place 7 es a)
+created-is s end a r p es o = ap isSome (p es (o .stand)) ∙ sym (created-place (firstEntry s) es a)
 
 -- 3 of one AID
 pub one-length : (a : Aid) → q3-lengths (a ∷ []) ≡ aidLength (length a)
@@ -55,55 +54,55 @@ kept (suc n) a b h = refl
 -- a refusal leaves every byte
 pub refused-after : (s : Bytes) (o : Operation) (n : ℕ) → (n ≡ 0 → ⊥) → n ≡ number s o → s ≡ after s o
 unfolding after
-refused-after s o n h e = sym (kept (number s o) (write (length s) (change (entries s) o)) s (λ z. h (e ∙ z)))
+refused-after s o n h e = sym (kept (number s o) _ s (λ z. h (e ∙ z)))
 
 -- a sound store: its entries
-pub record Opening (s : Bytes) (u : ℕ) : Type 0 where
+pub record SoundStore (s : Bytes) (u : ℕ) : Type 0 where
   pub es : List Entry
   pub reads : entriesOf s ≡ some es
   pub holds : Holds s es
   pub over : Over s u es
-  pub ends : used es ≡ u
+  pub ends : used (storeOpening s) es ≡ u
   pub size : q1-size s ≡ true
   pub is : sound s ≡ true
 
-pub opening : (s : Bytes) (u : ℕ) → SoundAt s u → Opening s u
+pub sound-store : (s : Bytes) (u : ℕ) → SoundAt s u → SoundStore s u
 unfolding sound
-opening s u h =
-    let t : T (q1-size s && someAnd (entriesOf s) (soundEntries standard (length s))) = of-true (h .is) in
-    let a = is-true _ (and-l (q1-size s) (someAnd (entriesOf s) (soundEntries standard (length s))) t) in
-    let x = some-and-is (entriesOf s) (soundEntries standard (length s)) (and-r (q1-size s) (someAnd (entriesOf s) (soundEntries standard (length s))) t) in
+sound-store s u h =
+    let t : T (q1-size s && someAnd (entriesOf s) (soundEntries (storeOpening s) (length s))) = of-true (h .is) in
+    let a = is-true _ (and-l (q1-size s) (someAnd (entriesOf s) (soundEntries (storeOpening s) (length s))) t) in
+    let x = some-and-is (entriesOf s) (soundEntries (storeOpening s) (length s)) (and-r (q1-size s) (someAnd (entriesOf s) (soundEntries (storeOpening s) (length s))) t) in
     let y = h .entries (x .0) (x .1) in
     record { es = x .0; reads = x .1; holds = y .0; over = y .1; ends = y .2; size = a; is = h .is }
 
 module _ (s : Bytes) (u : ℕ) (h : SoundAt s u) where
   -- where its entries end, that their files read, and its length
   abbrev pub laid : Laid s u
-  laid = let x = opening s u h in (x .es, x .holds, sym (x .ends))
+  laid = let x = sound-store s u h in (x .es, x .holds, sym (x .ends))
 
   pub over-some : (es : List Entry) × Over s u es
-  over-some = let x = opening s u h in (x .es, x .over)
+  over-some = let x = sound-store s u h in (x .es, x .over)
 
   pub small : length s ≤ 65535
-  small = (size-is s ((opening s u h) .size)) .1
+  small = (size-is s ((sound-store s u h) .size)) .1
 
   -- an operation's number is that of its questions from 3 on
-  pub sound-number : (o : Operation) → number s o ≡ firstNo (questions (length s) ((opening s u h) .es) o)
+  pub sound-number : (o : Operation) → number s o ≡ firstNo (questions (storeOpening s) (length s) ((sound-store s u h) .es) o)
   unfolding number
-  sound-number o = let x = opening s u h in rw (x .size, x .is, x .reads)
+  sound-number o = let x = sound-store s u h in rw (x .size, x .is, x .reads)
 
   pub asked-number : (o : Operation) (n : ℕ) → Asked s u o n → n ≡ number s o
-  asked-number o n q = let x = opening s u h in q (x .es) (x .over) ∙ sym (sound-number o)
+  asked-number o n q = let x = sound-store s u h in q (x .es) (x .over) ∙ sym (sound-number o)
 
   -- a no
   pub asked-refused : (o : Operation) (n : ℕ) → (n ≡ 0 → ⊥) → Asked s u o n → (n ≡ number s o) × (s ≡ after s o)
   asked-refused o n z q = let e = asked-number o n q in (e, refused-after s o n z e)
 
   -- all yes
-  pub asked-done : (o : Operation) (t : Bytes) → Asked s u o 0 → ((es : List Entry) → entriesOf s ≡ some es → t ≡ write (length s) (change es o)) →
+  pub asked-done : (o : Operation) (t : Bytes) → Asked s u o 0 → ((es : List Entry) → entriesOf s ≡ some es → t ≡ write (storeOpening s) (length s) (change (storeLimits s) es o)) →
       (0 ≡ number s o) × (t ≡ after s o)
   unfolding after
   asked-done o t q w =
-      let x = opening s u h in
+      let x = sound-store s u h in
       let e : number s o ≡ 0 = sym (asked-number o 0 q) in
       (sym e, w (x .es) (x .reads) ∙ rw (e, x .reads))

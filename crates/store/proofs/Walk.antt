@@ -8,7 +8,7 @@ use mathlib.Core.Option.{none, some, Option·some-injective}
 use lib.ListN.{length}
 use Rattle.rules.specs.Bytes.{Bytes, pick, any, isSome}
 use Rattle.rules.specs.Package.{Limits}
-use Rattle.rules.specs.Store.{Entry, entryBytes}
+use Rattle.rules.specs.Store.{Entry, entryBytes, firstEntry}
 use Rattle.rules.specs.Operations.{without}
 use Rattle.rules.proofs.Tests.{none-some}
 use Rattle.store.specs.Entries.{EntryAt, Entries, FirstIs, AllRead, placeOf}
@@ -113,19 +113,19 @@ pub record Walk (q : Entry → Bool) (s : Bytes) (es : List Entry) (k i : ℕ) :
   pub passed : List Entry
   pub rest : List Entry
   pub are : es ≡ passed ++ rest
-  pub to : Entries s 7 passed i
+  pub to : Entries s (firstEntry s) passed i
   pub from : Entries s i rest k
   pub none : any q passed ≡ false
 
-pub walk-start : {q : Entry → Bool} {s : Bytes} {es : List Entry} {k : ℕ} → Entries s 7 es k → Walk q s es k 7
-walk-start {s = s} {es = es} {k = k} r = let b = entries-to s 7 es k r in record
-    { passed = []; rest = es; are = refl; to = Entries.over {i = 7} (omega arith); from = r; none = refl }
+pub walk-start : {q : Entry → Bool} {s : Bytes} {es : List Entry} {k : ℕ} → Entries s (firstEntry s) es k → Walk q s es k (firstEntry s)
+walk-start {s = s} {es = es} {k = k} r = let b = entries-to s (firstEntry s) es k r in record
+    { passed = []; rest = es; are = refl; to = Entries.over {i = firstEntry s} (omega arith); from = r; none = refl }
 
 module _ {q : Entry → Bool} {s : Bytes} {es : List Entry} {k i : ℕ} (w : Walk q s es k i) where
   -- the entry at hand is found
-  pub walk-found : {e : Entry} {j : ℕ} → FirstIs s i e j k (w .rest) → q e ≡ true → placeOf q 7 es ≡ some (i, j)
+  pub walk-found : {e : Entry} {j : ℕ} → FirstIs s i e j k (w .rest) → q e ≡ true → placeOf q (firstEntry s) es ≡ some (i, j)
   walk-found {e} {j} f h =
-      ap (placeOf q 7) (w .are ∙ ap (λ (l : List Entry). w .passed ++ l) (f .are)) ∙ place-is q s 7 (w .passed) e (f .rest) i j (w .to) (f .stands) (w .none) h
+      ap (placeOf q (firstEntry s)) (w .are ∙ ap (λ (l : List Entry). w .passed ++ l) (f .are)) ∙ place-is q s (firstEntry s) (w .passed) e (f .rest) i j (w .to) (f .stands) (w .none) h
 
   -- it is not
   pub walk-more : {e : Entry} {j : ℕ} → FirstIs s i e j k (w .rest) → q e ≡ false → Walk q s es k j
@@ -133,7 +133,7 @@ module _ {q : Entry → Bool} {s : Bytes} {es : List Entry} {k i : ℕ} (w : Wal
     passed = w .passed ++ e ∷ [];
     rest = f .rest;
     are = w .are ∙ ap (λ (l : List Entry). w .passed ++ l) (f .are) ∙ sym (append-assoc (w .passed) (e ∷ []) (f .rest));
-    to = entries-more s 7 (w .passed) i e j (w .to) (f .stands);
+    to = entries-more s (firstEntry s) (w .passed) i e j (w .to) (f .stands);
     from = f .after;
     none = any-append q (w .passed) (e ∷ []) ∙ rw (w .none, h);
   }
@@ -143,7 +143,7 @@ module _ {q : Entry → Bool} {s : Bytes} {es : List Entry} {k i : ℕ} (w : Wal
   walk-none h = ap (any q) (w .are ∙ ap (λ (l : List Entry). w .passed ++ l) h ∙ append-nil (w .passed)) ∙ w .none
 
   pub walk-any : {e : Entry} {j : ℕ} → FirstIs s i e j k (w .rest) → q e ≡ true → any q es ≡ true
-  walk-any f h = sym (place-any q 7 es) ∙ ap isSome (walk-found f h)
+  walk-any f h = sym (place-any q (firstEntry s) es) ∙ ap isSome (walk-found f h)
 
   -- the files of the entries that follow read where those of all do
   pub walk-reads : (l : Limits) → AllRead l es → AllRead l (w .rest)

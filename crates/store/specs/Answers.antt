@@ -1,6 +1,6 @@
 -- What the answers of the functions over a store say. Assumes nothing.
 --
--- usedTold r                == the used value of a layout
+-- usedTold r                == the used value of a layout; LayoutSays s r == it is that of the entries that s is written from
 -- NextSays s i k r          == where the entry at place i ends, which is not after place k
 -- FillSays s i k r          == whether entries stand back to back exactly from place i up to place k
 -- PartAt s i k r            == the first entry of those that stand from place i up to place k
@@ -14,13 +14,12 @@ use mathlib.Core.Bool.{Bool, true, false, not}
 use mathlib.Core.List.{List, []}
 use mathlib.Core.Option.{Option, none, some}
 use lib.ListN.{length}
-use Rattle.rules.specs.Bytes.{Bytes, Aid}
-use Rattle.rules.specs.Package.{storeLimits}
-use Rattle.rules.specs.Store.{Entry, domain, loaded, used, openingLength}
+use Rattle.rules.specs.Bytes.{Bytes, Aid, _andThen_}
+use Rattle.rules.specs.Store.{Entry, domain, loaded, used, firstEntry, storeLimits, entriesOf, storeOpening}
 use Rattle.rules.specs.Classes.{installed, byAid}
 use Rattle.rules.specs.Questions.{q6-empty, q21-fits}
 use Rattle.rules.specs.Operations.{isPackage}
-use Rattle.store.specs.Entries.{part, EntryAt, Entries, FirstIs, placeOf, AllRead, PackageAt}
+use Rattle.store.specs.Entries.{part, Holds, EntryAt, Entries, FirstIs, placeOf, AllRead, PackageAt}
 use Rattle.store.specs.declared.Layout.{Layout}
 use Rattle.store.specs.declared.Layout.the-variants.{Used, Broken}
 use Rattle.store.specs.declared.Next.{Next}
@@ -36,6 +35,10 @@ use Rattle.store.specs.declared.FileSpot.the-variants.{File, Missing}
 abbrev pub usedTold : Layout → Option ℕ
 usedTold (Used u) = some u
 usedTold Broken = none
+
+-- it is that of the entries that s is written from, if any
+abbrev pub LayoutSays : Bytes → Layout → Type 0
+LayoutSays s r = (usedTold r ≡ (entriesOf s andThen λ es. some (used (storeOpening s) es))) × ((es : List Entry) → entriesOf s ≡ some es → Holds s es)
 
 -- where the entry at place i ends, which is not after place k
 abbrev pub NextSays : Bytes → ℕ → ℕ → Next → Type 0
@@ -64,21 +67,21 @@ spot Nothing = none
 
 -- where the first entry stands that the test finds, of whatever entries end at place k
 abbrev pub SpotAt : (Entry → Bool) → Bytes → ℕ → Spot → Type 0
-SpotAt q s k r = (es : List Entry) → Entries s openingLength es k → spot r ≡ placeOf q openingLength es
+SpotAt q s k r = (es : List Entry) → Entries s (firstEntry s) es k → spot r ≡ placeOf q (firstEntry s) es
 
 -- the package of an AID
 abbrev pub FileSays : Bytes → List Entry → Aid → FileSpot → Type 0
 FileSays s es a (File i j k) = PackageAt s es a i j k
-FileSays s es a Missing = (placeOf (isPackage (storeLimits s) a) openingLength es ≡ none) × (byAid (installed (storeLimits s) es) a ≡ none)
+FileSays s es a Missing = (placeOf (isPackage (storeLimits s) a) (firstEntry s) es ≡ none) × (byAid (installed (storeLimits s) es) a ≡ none)
 
 -- the package of an AID, among whatever entries whose files read end at place k
 abbrev pub FileAt : Bytes → ℕ → Aid → FileSpot → Type 0
-FileAt s k a r = (es : List Entry) → Entries s openingLength es k → AllRead (storeLimits s) es → FileSays s es a r
+FileAt s k a r = (es : List Entry) → Entries s (firstEntry s) es k → AllRead (storeLimits s) es → FileSays s es a r
 
 -- a package lies in the domain, among whatever entries whose files read end at place k
 abbrev pub InUse : Bytes → ℕ → Aid → Bool → Type 0
-InUse s k a r = (es : List Entry) → Entries s openingLength es k → AllRead (storeLimits s) es → r ≡ not (q6-empty (installed (storeLimits s) es) a)
+InUse s k a r = (es : List Entry) → Entries s (firstEntry s) es k → AllRead (storeLimits s) es → r ≡ not (q6-empty (installed (storeLimits s) es) a)
 
 -- 21, of whatever entries end at place u
 abbrev pub Fits : Bytes → ℕ → Entry → Bool → Type 0
-Fits s u e r = (es : List Entry) → used es ≡ u → r ≡ q21-fits (length s) es e
+Fits s u e r = (es : List Entry) → used (storeOpening s) es ≡ u → r ≡ q21-fits (storeOpening s) (length s) es e

@@ -17,8 +17,8 @@ use mathlib.Core.List.{List, [], _∷_}
 use mathlib.Core.Option.{Option, none, some}
 use lib.ListN.{length, take, drop, getD}
 use Rattle.rules.specs.Bytes.{Bytes, Aid, pick, same}
-use Rattle.rules.specs.Package.{Limits, storeLimits, Package, readFile}
-use Rattle.rules.specs.Store.{Entry, domain, loaded, entryBytes, used, openingLength, write, entry, entriesOf}
+use Rattle.rules.specs.Package.{Limits, Package, readFile}
+use Rattle.rules.specs.Store.{Entry, domain, loaded, entryBytes, used, write, entry, entriesOf, firstEntry, storeLimits, storeOpening}
 use Rattle.rules.specs.Classes.{Installed, installed, byAid}
 use Rattle.rules.specs.Operations.{isPackage}
 
@@ -50,12 +50,12 @@ pub record FirstIs (s : Bytes) (i : ℕ) (e : Entry) (j k : ℕ) (es : List Entr
 -- the buffer s is the layout of the entries es
 pub record Holds (s : Bytes) (es : List Entry) : Type 0 where
   pub reads : entriesOf s ≡ some es
-  pub bytes : s ≡ write (length s) es
-  pub stand : Entries s openingLength es (used es)
+  pub bytes : s ≡ write (storeOpening s) (length s) es
+  pub stand : Entries s (firstEntry s) es (used (storeOpening s) es)
 
 -- s is the layout of entries that end at place u
 abbrev pub Laid : Bytes → ℕ → Type 0
-Laid s u = (es : List Entry) × Holds s es × (u ≡ used es)
+Laid s u = (es : List Entry) × Holds s es × (u ≡ used (storeOpening s) es)
 
 -- of entries that stand from place i: from where up to where the first one stands that the test finds
 abbrev pub placeOf : (Entry → Bool) → ℕ → List Entry → Option (ℕ × ℕ)
@@ -74,7 +74,7 @@ AllRead l (e ∷ es) = FileReads l e × AllRead l es
 
 -- entries whose files read stand from the opening bytes up to place k
 abbrev pub FilesStand : Bytes → ℕ → Type 0
-FilesStand s k = (es : List Entry) × Entries s openingLength es k × AllRead (storeLimits s) es
+FilesStand s k = (es : List Entry) × Entries s (firstEntry s) es k × AllRead (storeLimits s) es
 
 -- a file's own AID, by its place
 abbrev pub ownAid : Bytes → Aid
@@ -87,7 +87,7 @@ liesIn a (loaded d f) = same a d
 
 -- the package of an AID: its entry stands from place i, its file from place j up to place k
 pub record PackageAt (s : Bytes) (es : List Entry) (a : Aid) (i j k : ℕ) : Type 0 where
-  pub place : placeOf (isPackage (storeLimits s) a) openingLength es ≡ some (i, k)
+  pub place : placeOf (isPackage (storeLimits s) a) (firstEntry s) es ≡ some (i, k)
   pub home : Installed
   pub stands : EntryAt s i (loaded (home .domain) (part s j k)) k
   pub inside : i < j

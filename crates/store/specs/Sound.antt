@@ -11,15 +11,14 @@ use mathlib.Core.Option.{some}
 use lib.Dec.{T}
 use lib.ListN.{length}
 use Rattle.rules.specs.Bytes.{Bytes}
-use Rattle.rules.specs.Package.{storeLimits}
-use Rattle.rules.specs.Store.{Entry, openingLength, used, entriesOf}
+use Rattle.rules.specs.Store.{Entry, used, entriesOf, firstEntry, storeLimits, storeOpening}
 use Rattle.rules.specs.Operations.{firstNo, acceptedAll, sound, Operation, questions}
 use Rattle.store.specs.Entries.{Entries, Holds}
 
 -- sound entries that end at a place
 pub record Over (s : Bytes) (end : ℕ) (es : List Entry) : Type 0 where
-  pub stand : Entries s openingLength es end
-  pub sound : T (acceptedAll (storeLimits s) (length s) [] es)
+  pub stand : Entries s (firstEntry s) es end
+  pub sound : T (acceptedAll (storeOpening s) (length s) [] es)
 
 abbrev pub OverSome : Bytes → ℕ → Type 0
 OverSome s end = (es : List Entry) × Over s end es
@@ -27,8 +26,8 @@ OverSome s end = (es : List Entry) × Over s end es
 -- a sound store, whose entries end at place u
 pub record SoundAt (s : Bytes) (u : ℕ) : Type 0 where
   pub is : sound s ≡ true
-  pub entries : (es : List Entry) → entriesOf s ≡ some es → Holds s es × Over s u es × (used es ≡ u)
+  pub entries : (es : List Entry) → entriesOf s ≡ some es → Holds s es × Over s u es × (used (storeOpening s) es ≡ u)
 
 -- the operation's number by its questions behind 1 and 2
 abbrev pub Asked : Bytes → ℕ → Operation → ℕ → Type 0
-Asked s u o n = (es : List Entry) → Over s u es → n ≡ firstNo (questions (length s) es o)
+Asked s u o n = (es : List Entry) → Over s u es → n ≡ firstNo (questions (storeOpening s) (length s) es o)

@@ -1,18 +1,18 @@
-// The store by its bytes: its limits, layout, entries at their places, what would fit.
-use cursor::Limits;
+// The store by its bytes: its opening, layout, entries at their places, what would fit.
+pub mod openings;
+
+use openings::Opening;
+use openings::first_entry;
 ghost use mathlib.Core.Path.{_≡_};
-ghost use mathlib.Core.List.{List};
 ghost use mathlib.Core.Option.{some};
 ghost use Prim.Native.Nat.{max, _+_, _<_, _≤_};
 ghost use lib.ListN.{length, getD, take, drop};
-ghost use Rattle.rules.specs.Bytes.{all, isSome, _andThen_, same};
-ghost use Rattle.rules.specs.Package.{storeLimits};
-ghost use Rattle.cursor.specs.Limits.{limitsOf};
-ghost use Rattle.rules.specs.Store.{Entry, domain, loaded, used, opening, isZero, entryOf, entriesOf};
+ghost use Rattle.rules.specs.Bytes.{all, isSome, same};
+ghost use Rattle.rules.specs.Store.{Entry, domain, loaded, isZero, entryOf, openingOf, storeOpening, firstEntry};
 ghost use Rattle.rules.specs.Questions.{q1-size};
 ghost use Rattle.rules.specs.Operations.{isDomain};
-ghost use Rattle.store.specs.Entries.{StandFrom, Holds, FilesStand, ownAid};
-ghost use Rattle.store.specs.Answers.{usedTold, NextSays, FillSays, PartAt, SpotAt, FileAt, InUse, Fits};
+ghost use Rattle.store.specs.Entries.{StandFrom, FilesStand, ownAid};
+ghost use Rattle.store.specs.Answers.{LayoutSays, NextSays, FillSays, PartAt, SpotAt, FileAt, InUse, Fits};
 
 // The used value of a store's layout, or that there is no such layout.
 pub enum Layout {
@@ -45,13 +45,6 @@ pub enum FileSpot {
     Missing,
 }
 
-// The limits of a store: document 01's.
-pub fn limits_of(s: &[u8]) -> Limits
-    ensures { λ r. ⌜ limitsOf r ≡ storeLimits (now (s .entry)) ⌝ }
-{
-    Limits::standard()
-}
-
 // 1. Has the store 64 to 65,535 bytes?
 pub fn size_ok(s: &[u8]) -> bool
     ensures { λ r. ⌜ r ≡ q1-size (now (s .entry)) ⌝ }
@@ -60,26 +53,6 @@ pub fn size_ok(s: &[u8]) -> bool
         return false;
     }
     s.len() <= 65535
-}
-
-// Does the buffer begin with mark and version?
-fn opens(s: &[u8]) -> bool
-    requires { ⌜ 5 ≤ length (now s) ⌝ }
-    ensures { λ r. ⌜ r ≡ same (take 5 (now (s .entry))) opening ⌝ }
-{
-    if s[0] != 0x42 {
-        return false;
-    }
-    if s[1] != 0x43 {
-        return false;
-    }
-    if s[2] != 0x53 {
-        return false;
-    }
-    if s[3] != 0 {
-        return false;
-    }
-    s[4] == 1
 }
 
 // The greater of two bytes.
@@ -138,12 +111,12 @@ fn next_place(s: &[u8], at: usize, end: usize) -> Next
     Next::Never
 }
 
-// Do entries stand back to back from the opening bytes exactly up to `end`?
-fn filled(s: &[u8], end: usize) -> bool
-    requires { ⌜ (7 ≤ end) × (end ≤ length (now s)) ⌝ }
-    ensures { λ r. ⌜ FillSays (now (s .entry)) 7 end r ⌝ }
+// Do entries stand back to back from a place exactly up to `end`?
+fn filled(s: &[u8], from: usize, end: usize) -> bool
+    requires { ⌜ (from ≤ end) × (end ≤ length (now s)) ⌝ }
+    ensures { λ r. ⌜ FillSays (now (s .entry)) from end r ⌝ }
 {
-    let mut at = 7;
+    let mut at = from;
     while at < end {
         match next_place(s, at, end) {
             Next::To(next) => {
@@ -157,19 +130,16 @@ fn filled(s: &[u8], end: usize) -> bool
     true
 }
 
-// The layout of a buffer: its used value, where the buffer is laid out as a store.
-pub fn laid_out(s: &[u8]) -> Layout
-    ensures { λ r. ⌜ usedTold r ≡ (entriesOf (now (s .entry)) andThen λ es. some (used es)) ⌝ }
-    ensures { λ _. ⌜ ((es : List Entry) → entriesOf (now (s .entry)) ≡ some es → Holds (now (s .entry)) es) ⌝ }
+// The layout of a buffer whose opening bytes end at a place.
+fn laid_from(s: &[u8], from: usize) -> Layout
+    requires { ⌜ (openingOf (now s) ≡ some (storeOpening (now s))) × (from ≡ firstEntry (now s)) ⌝ }
+    ensures { λ r. ⌜ LayoutSays (now (s .entry)) r ⌝ }
 {
-    if s.len() < 7 {
-        return Layout::Broken;
-    }
-    if !opens(s) {
+    if s.len() < from {
         return Layout::Broken;
     }
     let end = fields::u2_at(s, 5);
-    if end < 7 {
+    if end < from {
         return Layout::Broken;
     }
     if end > s.len() {
@@ -178,10 +148,21 @@ pub fn laid_out(s: &[u8]) -> Layout
     if !zeros_from(s, end) {
         return Layout::Broken;
     }
-    if !filled(s, end) {
+    if !filled(s, from, end) {
         return Layout::Broken;
     }
     Layout::Used(end)
+}
+
+// The layout of a buffer: its used value, where the buffer is laid out as a store.
+pub fn laid_out(s: &[u8]) -> Layout
+    ensures { λ r. ⌜ LayoutSays (now (s .entry)) r ⌝ }
+{
+    match openings::opening_of(s) {
+        Opening::First => laid_from(s, 7),
+        Opening::Second(_) => laid_from(s, 11),
+        Opening::Broken => Layout::Broken,
+    }
 }
 
 // The entry at a place of the entries that end at `end`.
@@ -201,10 +182,10 @@ pub fn entry_at(s: &[u8], at: usize, end: usize) -> EntryPart
 
 // Where a domain's entry stands, of the entries that end at `end`.
 pub fn find_domain(s: &[u8], end: usize, aid: &[u8]) -> Spot
-    requires { ⌜ StandFrom (now s) 7 end ⌝ }
+    requires { ⌜ StandFrom (now s) (firstEntry (now s)) end ⌝ }
     ensures { λ r. ⌜ SpotAt (isDomain (now (aid .entry))) (now (s .entry)) end r ⌝ }
 {
-    let mut at = 7;
+    let mut at = first_entry(s);
     loop {
         match entry_at(s, at, end) {
             EntryPart::Domain(from, next) => {
@@ -237,7 +218,7 @@ pub fn find_package(s: &[u8], end: usize, aid: &[u8]) -> FileSpot
     requires { ⌜ FilesStand (now s) end ⌝ }
     ensures { λ r. ⌜ FileAt (now (s .entry)) end (now (aid .entry)) r ⌝ }
 {
-    let mut at = 7;
+    let mut at = first_entry(s);
     loop {
         match entry_at(s, at, end) {
             EntryPart::Domain(_, next) => {
@@ -258,10 +239,10 @@ pub fn find_package(s: &[u8], end: usize, aid: &[u8]) -> FileSpot
 
 // Does a package lie in the domain, of the entries that end at `end`?
 pub fn domain_in_use(s: &[u8], end: usize, aid: &[u8]) -> bool
-    requires { ⌜ StandFrom (now s) 7 end ⌝ }
+    requires { ⌜ StandFrom (now s) (firstEntry (now s)) end ⌝ }
     ensures { λ r. ⌜ InUse (now (s .entry)) end (now (aid .entry)) r ⌝ }
 {
-    let mut at = 7;
+    let mut at = first_entry(s);
     loop {
         match entry_at(s, at, end) {
             EntryPart::Domain(_, next) => {

@@ -1,18 +1,17 @@
--- What the stores of a fresh store, of an entry appended and of an entry cut out leave: the layout of the entries. Assumes nothing.
-use Prim.Native.Nat.{ℕ, _+_, _-_, _<_, _≤_}
+-- What the stores of an entry appended and of an entry cut out leave: the layout of the entries behind the same opening. Assumes nothing.
+use Prim.Native.Nat.{ℕ, _+_, _-_, _≤_}
 use native.Mathlib.Omega.{arith}
 use mathlib.Core.Path.{_≡_, refl, sym, ap, ap₂, _∙_, subst}
-use mathlib.Core.Bool.{Bool, true, false}
 use mathlib.Core.List.{List, [], _∷_, _++_, append-assoc, append-nil}
 use mathlib.Core.Option.{Option·some-injective}
-use lib.Dec.{leb}
 use lib.ListN.{length, take, drop, set, replicate, length-append, length-replicate, length-drop, take-append-drop, replicate-append-replicate}
-use lib.Seq.{paste, length-paste, take-at, drop-at, length-take-le, sets-eq}
+use lib.Seq.{paste, length-paste, take-at, drop-at, length-take-le}
 use borrow.Author.Tests.{leb-true}
 use Rattle.rules.specs.Bytes.{Bytes, Aid, high, low}
-use Rattle.rules.specs.Store.{Entry, domain, loaded, body, entryBytes, entriesBytes, opening, used, write}
+use Rattle.rules.specs.Store.{Opening, version1, version2, Entry, domain, loaded, body, entryBytes, entriesBytes, storeVersion, storeMark, limitsBytes, openingLength, used, write, storeOpening, firstEntry}
 use Rattle.rules.specs.Questions.{q21-fits}
 use Rattle.rules.proofs.Lists.{flat-append}
+use Rattle.rules.proofs.Limits.{first-entry}
 use Rattle.store.specs.Entries.{Entries}
 use Rattle.writing.specs.Changes.{Room, CutAt, Appended, CutOut}
 use Rattle.store.proofs.Stand.{entry-next, entries-to, entries-next}
@@ -27,72 +26,68 @@ zeros n = replicate n 0
 abbrev pub two : ℕ → Bytes
 two n = high n ∷ low n ∷ []
 
--- what stands before the entries behind `before`, with the used value u
-abbrev upTo : ℕ → List Entry → Bytes
-upTo u before = opening ++ (two u ++ entriesBytes before)
+-- mark and version, the used value u, and what stands behind it
+abbrev marked : Opening → ℕ → Bytes → Bytes
+marked v u r = storeMark (storeVersion v) ++ (two u ++ r)
 
-upTo-length : (u : ℕ) (before : List Entry) → length (upTo u before) ≡ 7 + length (entriesBytes before)
-upTo-length u before = omega arith
+-- what stands before the entries behind `before`, with the used value u
+abbrev upTo : Opening → ℕ → List Entry → Bytes
+upTo v u before = marked v u (limitsBytes v ++ entriesBytes before)
+
+upTo-length : (v : Opening) (u : ℕ) (before : List Entry) → length (upTo v u before) ≡ openingLength v + length (entriesBytes before)
+upTo-length version1 u before = omega arith
+upTo-length (version2 l) u before = omega arith
 
 -- the bytes of a layout around a place
-around : (s : Bytes) (n : ℕ) (es before after : List Entry) → s ≡ write n es → es ≡ before ++ after → s ≡ upTo (used es) before ++
-    (entriesBytes after ++ zeros (n - used es))
+around : (s : Bytes) (v : Opening) (n : ℕ) (es before after : List Entry) → s ≡ write v n es → es ≡ before ++ after →
+    s ≡ upTo v (used v es) before ++ (entriesBytes after ++ zeros (n - used v es))
 unfolding write
-around s n es before after e q =
-    let z : Bytes = zeros (n - used es) in
+around s v n es before after e q =
+    let z : Bytes = zeros (n - used v es) in
+    let l : Bytes = limitsBytes v in
+    let b : Bytes = entriesBytes before in
     e
-    ∙ ap (λ (t : Bytes). opening ++ (two (used es) ++ (t ++ z))) (ap entriesBytes q ∙ flat-append entryBytes before after)
-    ∙ ap (λ (t : Bytes). opening ++ (two (used es) ++ t)) (append-assoc (entriesBytes before) (entriesBytes after) z)
+    ∙ ap (λ (t : Bytes). marked v (used v es) (l ++ (t ++ z))) (ap entriesBytes q ∙ flat-append entryBytes before after)
+    ∙ ap (λ (t : Bytes). marked v (used v es) (l ++ t)) (append-assoc b (entriesBytes after) z)
+    ∙ ap (marked v (used v es)) (sym (append-assoc l b (entriesBytes after ++ z)))
 
--- a layout from its parts
-layout-of : (n u : ℕ) (es : List Entry) (t : Bytes) → u ≡ used es → t ≡ entriesBytes es → opening ++ (two u ++ (t ++ zeros (n - u))) ≡ write n es
+-- a layout from its parts: the used value, the bytes of some entries, those of the others
+layout-of : (v : Opening) (n u : ℕ) (es : List Entry) (a b : Bytes) → u ≡ used v es → a ++ b ≡ entriesBytes es →
+    marked v u ((limitsBytes v ++ a) ++ (b ++ zeros (n - u))) ≡ write v n es
 unfolding write
-layout-of n u es t e q = ap₂ (λ (k : ℕ) (x : Bytes). opening ++ (two k ++ (x ++ zeros (n - k)))) e q
+layout-of v n u es a b e q =
+    let l : Bytes = limitsBytes v in
+    ap (marked v u) (append-assoc l a (b ++ zeros (n - u)) ∙ ap (λ (x : Bytes). l ++ x) (sym (append-assoc a b (zeros (n - u)))))
+    ∙ ap₂ (λ (k : ℕ) (x : Bytes). marked v k (l ++ (x ++ zeros (n - k)))) e q
 
--- the used field, written anew
-used-anew : (u v : ℕ) (r : Bytes) → paste (opening ++ (two u ++ r)) 5 (two v) 2 ≡ opening ++ (two v ++ r)
-used-anew u v r = paste-over opening (two u) r (two v) 5 refl refl
-
--- an empty store
-pub fresh-is : (s : Bytes) → 7 ≤ length s → paste (set (set (set (set (set (set (set s 0 0x42) 1 0x43) 2 0x53) 3 0) 4 1) 5 0) 6 7) 7
-    (replicate (length s - 7) 0) (length s - 7) ≡ write (length s) []
-unfolding write
-fresh-is s h =
-    let a : Bytes = 0x42 ∷ 0x43 ∷ 0x53 ∷ 0 ∷ 1 ∷ 0 ∷ 7 ∷ [] in
-    let z : Bytes = replicate (length s - 7) 0 in
-    let l : length (drop 7 s) ≡ length z = length-drop 7 s ∙ sym (length-replicate (length s - 7) 0) in
-    let e : set (set (set (set (set (set (set s 0 0x42) 1 0x43) 2 0x53) 3 0) 4 1) 5 0) 6 7 ≡ a ++ (drop 7 s ++ []) =
-    (sets-eq a s 0 h ∙ ap (λ (t : Bytes). a ++ t) (sym (append-nil (drop 7 s)))) in
-    ap (λ (t : Bytes). paste t 7 z (length s - 7)) e
-    ∙ ap (paste (a ++ (drop 7 s ++ [])) 7 z) (sym (length-replicate (length s - 7) 0))
-    ∙ paste-over a (drop 7 s) [] z 7 refl l
-    ∙ ap (λ (t : Bytes). a ++ t) (append-nil z)
+-- the used field, written anew; the limits behind it stay
+used-anew : (v : Opening) (u w : ℕ) (r : Bytes) → paste (marked v u r) 5 (two w) 2 ≡ marked v w r
+used-anew v u w r = paste-over (storeMark (storeVersion v)) (two u) r (two w) 5 refl refl
 
 -- an entry behind the others
-pub appended : (s : Bytes) (es : List Entry) (e : Entry) (w : Bytes) → s ≡ write (length s) es → used es + length w ≤ length s → w ≡ entryBytes e → paste
-    (paste s (used es) w (length w)) 5 (two (used es + length w)) 2 ≡ write (length s) (es ++ e ∷ [])
-appended s es e w h room q =
-    let u : ℕ = used es in
+pub appended : (s : Bytes) (v : Opening) (es : List Entry) (e : Entry) (w : Bytes) → s ≡ write v (length s) es → used v es + length w ≤ length s →
+    w ≡ entryBytes e → paste (paste s (used v es) w (length w)) 5 (two (used v es + length w)) 2 ≡ write v (length s) (es ++ e ∷ [])
+appended s v es e w h room q =
+    let u : ℕ = used v es in
     let n : ℕ = length w in
-    let m : ℕ = length s - (used es + length w) in
-    let p : Bytes = upTo (used es) es in
-    let lp : length (upTo (used es) es) ≡ used es = upTo-length (used es) es in
-    let k : length s - used es ≡ length w + (length s - (used es + length w)) = omega arith in
-    let s₀ : s ≡ p ++ (zeros n ++ zeros m) = around s (length s) es es [] h (sym (append-nil es)) ∙ ap (λ (t : Bytes). p ++ t)
+    let m : ℕ = length s - (used v es + length w) in
+    let p : Bytes = upTo v (used v es) es in
+    let lp : length (upTo v (used v es) es) ≡ used v es = upTo-length v (used v es) es in
+    let k : length s - used v es ≡ length w + (length s - (used v es + length w)) = omega arith in
+    let s₀ : s ≡ p ++ (zeros n ++ zeros m) = around s v (length s) es es [] h (sym (append-nil es)) ∙ ap (λ (t : Bytes). p ++ t)
     (ap zeros k ∙ sym (replicate-append-replicate n m 0)) in
     let s₁ : paste s u w n ≡ p ++ (w ++ zeros m) = ap (λ (t : Bytes). paste t u w n) s₀ ∙ paste-over p (zeros n) (zeros m) w u lp (length-replicate n 0) in
     let en : entriesBytes es ++ w ≡ entriesBytes (es ++ e ∷ []) =
     (ap (λ (t : Bytes). entriesBytes es ++ t) (q ∙ sym (append-nil (entryBytes e))) ∙ sym (flat-append entryBytes es (e ∷ []))) in
-    let us : u + n ≡ used (es ++ e ∷ []) = omega (arith, ap length en, length-append (entriesBytes es) w) in
+    let us : u + n ≡ used v (es ++ e ∷ []) = omega (arith, ap length en, length-append (entriesBytes es) w) in
     ap (λ (t : Bytes). paste t 5 (two (u + n)) 2) s₁
-    ∙ used-anew u (u + n) (entriesBytes es ++ (w ++ zeros m))
-    ∙ ap (λ (t : Bytes). opening ++ (two (u + n) ++ t)) (sym (append-assoc (entriesBytes es) w (zeros m)))
-    ∙ layout-of (length s) (u + n) (es ++ e ∷ []) (entriesBytes es ++ w) us en
+    ∙ used-anew v u (u + n) ((limitsBytes v ++ entriesBytes es) ++ (w ++ zeros m))
+    ∙ layout-of v (length s) (u + n) (es ++ e ∷ []) (entriesBytes es) w us en
 
 -- an entry in the middle
-used-split : (before : List Entry) (e : Entry) (after : List Entry) → used (before ++ e ∷ after) ≡ 7 + length (entriesBytes before) + length
-    (entryBytes e) + length (entriesBytes after)
-used-split before e after =
+used-split : (v : Opening) (before : List Entry) (e : Entry) (after : List Entry) →
+    used v (before ++ e ∷ after) ≡ openingLength v + length (entriesBytes before) + length (entryBytes e) + length (entriesBytes after)
+used-split v before e after =
     omega (
       arith,
       ap length (flat-append entryBytes before (e ∷ after)),
@@ -102,24 +97,24 @@ used-split before e after =
     )
 
 -- the later entries moved up, the freed end zeroed, the used field written
-pub cut-out : (s : Bytes) (es before : List Entry) (e : Entry) (after : List Entry) (i j k : ℕ) → s ≡ write (length s) es → es ≡ before ++ e ∷ after →
-    used es ≤ length s → i ≡ 7 + length (entriesBytes before) → j ≡ i + length (entryBytes e) → k ≡ j - i →
-    paste (paste (paste s i (drop j s) (used es - j)) (used es - k) (zeros k) k) 5 (two (used es - k)) 2 ≡ write (length s) (before ++ after)
-cut-out s es before e after i j k h q fits pi pj pk =
-    let u : ℕ = used es in
-    let p : Bytes = upTo (used es) before in
+pub cut-out : (s : Bytes) (v : Opening) (es before : List Entry) (e : Entry) (after : List Entry) (i j k : ℕ) → s ≡ write v (length s) es →
+    es ≡ before ++ e ∷ after → used v es ≤ length s → i ≡ openingLength v + length (entriesBytes before) → j ≡ i + length (entryBytes e) → k ≡ j - i →
+    paste (paste (paste s i (drop j s) (used v es - j)) (used v es - k) (zeros k) k) 5 (two (used v es - k)) 2 ≡ write v (length s) (before ++ after)
+cut-out s v es before e after i j k h q fits pi pj pk =
+    let u : ℕ = used v es in
+    let p : Bytes = upTo v (used v es) before in
     let c : Bytes = entriesBytes after in
-    let z : Bytes = zeros (length s - used es) in
+    let z : Bytes = zeros (length s - used v es) in
     let b : Bytes = entryBytes e in
-    let us : used es ≡ j + length (entriesBytes after) = omega (arith, ap used q, used-split before e after) in
-    let lp : length (upTo (used es) before) ≡ i = upTo-length (used es) before ∙ sym pi in
+    let us : used v es ≡ j + length (entriesBytes after) = omega (arith, ap (used v) q, used-split v before e after) in
+    let lp : length (upTo v (used v es) before) ≡ i = upTo-length v (used v es) before ∙ sym pi in
     let lb : length (entryBytes e) ≡ k = omega arith in
     let lc : length (b ++ c) ≡ k + length c = length-append b c ∙ ap (λ (n : ℕ). n + length c) lb in
-    let v : Bytes = take (length c) (b ++ c) in
+    let m : Bytes = take (length c) (b ++ c) in
     let t : Bytes = drop (length c) (b ++ c) in
-    let lv : length v ≡ length c = length-take-le (length c) (b ++ c) (omega arith) in
+    let lm : length m ≡ length c = length-take-le (length c) (b ++ c) (omega arith) in
     let lt : length t ≡ k = omega (arith, length-drop (length c) (b ++ c)) in
-    let s₀ : s ≡ p ++ ((b ++ c) ++ z) = around s (length s) es before (e ∷ after) h q in
+    let s₀ : s ≡ p ++ ((b ++ c) ++ z) = around s v (length s) es before (e ∷ after) h q in
     let rest : drop j s ≡ c ++ z =
     (ap (drop j) (s₀ ∙ ap (λ (x : Bytes). p ++ x) (append-assoc b c z) ∙ sym (append-assoc p b (c ++ z)))
     ∙ drop-at (p ++ b) (c ++ z) j (omega (arith, length-append p b))) in
@@ -128,8 +123,8 @@ cut-out s es before e after i j k h q fits pi pj pk =
     let s₁ : paste s i (drop j s) (u - j) ≡ (p ++ c) ++ (t ++ z) =
     (paste-take s i (drop j s) (u - j) c w (sym n)
     ∙ ap (λ (x : Bytes). paste x i c (length c)) (s₀ ∙ ap (λ (x : Bytes). p ++ (x ++ z)) (sym (take-append-drop (length c) (b ++ c))) ∙ ap
-    (λ (x : Bytes). p ++ x) (append-assoc v t z))
-    ∙ paste-over p v (t ++ z) c i lp lv
+    (λ (x : Bytes). p ++ x) (append-assoc m t z))
+    ∙ paste-over p m (t ++ z) c i lp lm
     ∙ sym (append-assoc p c (t ++ z))) in
     let lz : length (zeros k) ≡ k = length-replicate k 0 in
     let s₂ : paste (paste s i (drop j s) (u - j)) (u - k) (zeros k) k ≡ (p ++ c) ++ (zeros k ++ z) =
@@ -137,13 +132,12 @@ cut-out s es before e after i j k h q fits pi pj pk =
     ∙ ap (paste ((p ++ c) ++ (t ++ z)) (u - k) (zeros k)) (sym lz)
     ∙ paste-over (p ++ c) t z (zeros k) (u - k) (omega (arith, length-append p c)) (lt ∙ sym lz)) in
     let en : entriesBytes before ++ c ≡ entriesBytes (before ++ after) = sym (flat-append entryBytes before after) in
-    let un : u - k ≡ used (before ++ after) = omega (arith, ap length en, length-append (entriesBytes before) c) in
-    let zn : k + (length s - used es) ≡ length s - (used es - k) = omega arith in
+    let un : u - k ≡ used v (before ++ after) = omega (arith, ap length en, length-append (entriesBytes before) c) in
+    let zn : k + (length s - used v es) ≡ length s - (used v es - k) = omega arith in
     let zz : zeros k ++ z ≡ zeros (length s - (u - k)) = replicate-append-replicate k (length s - u) 0 ∙ ap zeros zn in
     ap (λ (x : Bytes). paste x 5 (two (u - k)) 2) (s₂ ∙ ap (λ (x : Bytes). (p ++ c) ++ x) zz ∙ append-assoc p c (zeros (length s - (u - k))))
-    ∙ used-anew u (u - k) (entriesBytes before ++ (c ++ zeros (length s - (u - k))))
-    ∙ ap (λ (x : Bytes). opening ++ (two (u - k) ++ x)) (sym (append-assoc (entriesBytes before) c (zeros (length s - (u - k)))))
-    ∙ layout-of (length s) (u - k) (before ++ after) (entriesBytes before ++ c) un en
+    ∙ used-anew v u (u - k) ((limitsBytes v ++ entriesBytes before) ++ (c ++ zeros (length s - (u - k))))
+    ∙ layout-of v (length s) (u - k) (before ++ after) (entriesBytes before) c un en
 
 -- what the writers require, by lengths
 pub record RoomBy (s : Bytes) (u n : ℕ) : Type 0 where
@@ -154,8 +148,8 @@ pub record RoomBy (s : Bytes) (u n : ℕ) : Type 0 where
 room-by : {s : Bytes} {u : ℕ} {e : Entry} → Room s u e → RoomBy s u (length (body e))
 unfolding q21-fits
 room-by {s} {u} {e} r =
-    let h = leb-true (used (r .laid .0) + length (entryBytes e)) (length s) (r .fits) in
-    record { from = omega (arith, r .laid .2); to = omega (arith, r .laid .2); small = r .small }
+    let h = leb-true (used (storeOpening s) (r .laid .0) + length (entryBytes e)) (length s) (r .fits) in
+    record { from = omega (arith, first-entry s, r .laid .2); to = omega (arith, r .laid .2); small = r .small }
 
 pub domain-room : {s : Bytes} {u : ℕ} {a : Aid} → Room s u (domain a) → RoomBy s u (length a)
 domain-room r = room-by r
@@ -169,12 +163,13 @@ pub appended-is : (s t : Bytes) (u : ℕ) (e : Entry) (w : Bytes) (n : ℕ) → 
 appended-is s t u e w n r q l h es reads =
     let z : r .laid .0 ≡ es = Option·some-injective _ _ (sym (r .laid .1 .reads) ∙ reads) in
     let b = room-by r in
-    let m : used (r .laid .0) ≡ u = sym (r .laid .2) in
+    let v : Opening = storeOpening s in
+    let m : used v (r .laid .0) ≡ u = sym (r .laid .2) in
     let k : length w ≡ 3 + length (body e) = omega (arith, ap length q) in
     h
     ∙ ap₂ (λ (x y : ℕ). paste (paste s x w y) 5 (two (x + y)) 2) (sym m) (sym l)
-    ∙ appended s (r .laid .0) e w (r .laid .1 .bytes) (omega (arith, b .to)) q
-    ∙ ap (λ (x : List Entry). write (length s) (x ++ e ∷ [])) z
+    ∙ appended s v (r .laid .0) e w (r .laid .1 .bytes) (omega (arith, b .to)) q
+    ∙ ap (λ (x : List Entry). write v (length s) (x ++ e ∷ [])) z
 
 -- the places of an entry that is cut out
 pub record CutBy (u i j n : ℕ) : Type 0 where
@@ -187,11 +182,12 @@ pub record CutBy (u i j n : ℕ) : Type 0 where
 pub cut-by : {s : Bytes} {u i j : ℕ} → CutAt s u i j → CutBy u i j (length s)
 cut-by {s} {u} {i} {j} c =
     let x = c .laid .1 .stand in
-    let f = found-at (c .test) s 7 (c .laid .0) (used (c .laid .0)) i j x (c .place) in
-    let a = entries-to s 7 (f .before) i (f .earlier) in
-    let b = entries-to s j (f .after) (used (c .laid .0)) (f .later) in
+    let end : ℕ = used (storeOpening s) (c .laid .0) in
+    let f = found-at (c .test) s (firstEntry s) (c .laid .0) end i j x (c .place) in
+    let a = entries-to s (firstEntry s) (f .before) i (f .earlier) in
+    let b = entries-to s j (f .after) end (f .later) in
     record {
-      from = a .0;
+      from = omega (arith, first-entry s, a .0);
       entry = omega (arith, entry-next s i (f .one) j (f .stands));
       to = omega (arith, c .laid .2, b .0);
       inside = omega
@@ -203,15 +199,16 @@ pub cut-is : (s t : Bytes) (u i j k : ℕ) → CutAt s u i j → k ≡ j - i →
     (two (u - k)) 2 → CutOut s t i j
 cut-is s t u i j k c n h es q reads place =
     let z : c .laid .0 ≡ es = Option·some-injective _ _ (sym (c .laid .1 .reads) ∙ reads) in
-    let m : u ≡ used es = c .laid .2 ∙ ap used z in
-    let r : Entries s 7 es (used es) = subst (λ (x : List Entry). Entries s 7 x (used x)) z (c .laid .1 .stand) in
-    let f = found-at q s 7 es (used es) i j r place in
-    let b : s ≡ write (length s) es = c .laid .1 .bytes ∙ ap (write (length s)) z in
+    let v : Opening = storeOpening s in
+    let m : u ≡ used v es = c .laid .2 ∙ ap (used v) z in
+    let r : Entries s (firstEntry s) es (used v es) = subst (λ (x : List Entry). Entries s (firstEntry s) x (used v x)) z (c .laid .1 .stand) in
+    let f = found-at q s (firstEntry s) es (used v es) i j r place in
+    let b : s ≡ write v (length s) es = c .laid .1 .bytes ∙ ap (write v (length s)) z in
     h
     ∙ ap (λ (x : ℕ). paste (paste (paste s i (drop j s) (x - j)) (x - k) (replicate k 0) k) 5 (two (x - k)) 2) m
-    ∙ cut-out s es (f .before) (f .one) (f .after) i j k b (f .are) ((entries-to s 7 es (used es) r) .1)
-    (sym (entries-next s 7 (f .before) i (f .earlier))) (sym (entry-next s i (f .one) j (f .stands))) n
-    ∙ ap (write (length s)) (sym (f .left))
+    ∙ cut-out s v es (f .before) (f .one) (f .after) i j k b (f .are) ((entries-to s (firstEntry s) es (used v es) r) .1)
+    (sym (entries-next s (firstEntry s) (f .before) i (f .earlier))) (sym (entry-next s i (f .one) j (f .stands))) n
+    ∙ ap (write v (length s)) (sym (f .left))
 
 -- a domain appended: kind and length, the AID, the used field
 pub domain-appended : (s s₁ s₂ t : Bytes) (u : ℕ) (a : Aid) → Room s u (domain a) →

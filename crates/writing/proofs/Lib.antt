@@ -1,3 +1,4 @@
 -- The laws of writing a store.
 pub mod Paste
 pub mod Change
+pub mod Empty

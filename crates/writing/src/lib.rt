@@ -1,12 +1,17 @@
 // Writing the store: an empty one, an entry appended, an entry cut out. Nothing else writes there.
+use cursor::Limits;
 ghost use mathlib.Core.Path.{_≡_};
 ghost use mathlib.Core.List.{[], _∷_};
 ghost use Prim.Native.Nat.{_+_, _<_, _≤_};
+ghost use lib.Dec.{T};
 ghost use lib.ListN.{length, drop, replicate};
 ghost use lib.Seq.{paste};
-ghost use Rattle.rules.specs.Bytes.{high, low};
-ghost use Rattle.rules.specs.Store.{domain, loaded, write};
-ghost use Rattle.writing.specs.Changes.{Room, Appended, CutAt, CutOut};
+ghost use Rattle.rules.specs.Bytes.{pick, high, low};
+ghost use Rattle.rules.specs.Limits.{limitsRange};
+ghost use Rattle.rules.specs.Store.{version1, version2, domain, loaded, write};
+ghost use Rattle.rules.specs.Questions.{q30-limits};
+ghost use Rattle.cursor.specs.Limits.{limitsOf};
+ghost use Rattle.writing.specs.Changes.{limitsGiven, Emptied, Room, Appended, CutAt, CutOut};
 
 // Writes a u2 at a place.
 fn put_u2(store: &mut [u8], at: usize, n: usize)
@@ -62,20 +67,56 @@ fn zero_out(store: &mut [u8], at: usize, n: usize)
     }
 }
 
-// Writes an empty store over the whole buffer.
-pub fn write_fresh(store: &mut [u8])
-    requires { ⌜ 7 ≤ length (now store) ⌝ }
-    ensures { λ _. ⌜ now (store .exit) ≡ write (length (now (store .entry))) [] ⌝ }
+// Writes an empty store over the whole buffer, all but its limits: mark, version, used, and zeros behind the opening bytes.
+fn write_empty(store: &mut [u8], version: u8, opening: usize)
+    requires { ⌜ (7 ≤ opening) × (opening ≤ length (now store)) × (opening < 65536) ⌝ }
+    ensures { λ _. ⌜ Emptied (now (store .entry)) (now (store .exit)) version opening ⌝ }
 {
     let n = store.len();
     store[0] = 0x42;
     store[1] = 0x43;
     store[2] = 0x53;
     store[3] = 0;
-    store[4] = 1;
-    store[5] = 0;
-    store[6] = 7;
-    zero_out(store, 7, n - 7);
+    store[4] = version;
+    put_u2(store, 5, opening);
+    zero_out(store, opening, n - opening);
+}
+
+// Writes an empty store of version 1 over the whole buffer.
+pub fn write_fresh(store: &mut [u8])
+    requires { ⌜ 7 ≤ length (now store) ⌝ }
+    ensures { λ _. ⌜ now (store .exit) ≡ write version1 (length (now (store .entry))) [] ⌝ }
+{
+    write_empty(store, 1, 7);
+}
+
+// Writes an empty store of version 2 with these limits over the whole buffer.
+fn write_limited(store: &mut [u8], l: Limits)
+    requires { ⌜ (11 ≤ length (now store)) × T (limitsRange (limitsOf l)) ⌝ }
+    ensures { λ _. ⌜ now (store .exit) ≡ write (version2 (limitsOf l)) (length (now (store .entry))) [] ⌝ }
+{
+    write_empty(store, 2, 11);
+    store[7] = l.depth as u8;
+    store[8] = l.parents as u8;
+    put_u2(store, 9, l.code);
+}
+
+// 30. Does each limit given lie in its range? Then writes an empty store of version 2 with these limits over the whole buffer, else nothing.
+pub fn write_fresh_limits(store: &mut [u8], depth: u8, parents: u8, code: u16) -> bool
+    requires { ⌜ 11 ≤ length (now store) ⌝ }
+    ensures { λ r. ⌜ r ≡ q30-limits (limitsGiven depth parents code) ⌝ }
+    ensures { λ r. ⌜ now (store .exit) ≡ pick r (write (version2 (limitsGiven depth parents code)) (length (now (store .entry))) []) (now (store .entry)) ⌝ }
+{
+    let l = Limits {
+        depth: depth as usize,
+        parents: parents as usize,
+        code: code as usize,
+    };
+    if !store::openings::limits_ok(l) {
+        return false;
+    }
+    write_limited(store, l);
+    true
 }
 
 // Writes a domain's entry behind the others.

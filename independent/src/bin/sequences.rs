@@ -1,26 +1,36 @@
 //! `sequences SEED COUNT`: runs generated sequences through the byte operations
 //! and the ledger side by side and prints how often each number was answered, how deep
-//! the accepted files were and how often FE and handlers decided.
+//! the accepted files were and how often FE, handlers and limits decided.
 
 use independent::depths::DepthCounts;
 use independent::generate::sequences::sequence;
 use independent::handler_counts::HandlerCounts;
 use independent::ledger::{Call, Ledger};
+use independent::limit_counts::LimitCounts;
 use independent::loader::{damage, shrink, Independent, Loader, Sequence, Step};
 use independent::own_domain::OwnCounts;
 use independent::questions::{q2, NUMBERS};
 use std::process::ExitCode;
 
-const OPERATIONS: [&str; 6] = ["fresh", "create", "delete", "load", "remove", "query"];
+const OPERATIONS: [&str; 7] = [
+    "fresh",
+    "create",
+    "delete",
+    "load",
+    "remove",
+    "query",
+    "fresh_limits",
+];
 const GREATEST: u8 = NUMBERS[NUMBERS.len() - 1];
 
 #[derive(Default)]
 struct Counts {
-    answers: [[u64; GREATEST as usize + 1]; 6],
+    answers: [[u64; GREATEST as usize + 1]; OPERATIONS.len()],
     with_ledger: u64,
     depths: DepthCounts,
     own: OwnCounts,
     handlers: HandlerCounts,
+    limits: LimitCounts,
     yes: u64,
 }
 
@@ -89,10 +99,12 @@ fn count(counts: &mut Counts, call: &Call, answer: u32, store: &[u8]) {
         Call::Load { .. } => 3,
         Call::Remove(_) => 4,
         Call::Query { .. } => 5,
+        Call::FreshLimits(_) => 6,
     };
     counts.answers[row][(answer & 0xFF) as usize] += 1;
     counts.own.note(call, answer, store);
     counts.handlers.note(call, answer, store);
+    counts.limits.note(call, answer, store);
     match call {
         Call::Load { .. } if answer & 0xFF == 0 => counts.depths.note(answer >> 8, store),
         Call::Query { .. } => counts.yes += u64::from(answer >> 8),
@@ -102,11 +114,11 @@ fn count(counts: &mut Counts, call: &Call, answer: u32, store: &[u8]) {
 
 fn print_table(counts: &Counts) {
     println!("{} sequences followed by the ledger", counts.with_ledger);
-    print!("{:8}", "");
+    print!("{:12}", "");
     NUMBERS.iter().for_each(|number| print!("{number:>7}"));
     println!();
     for (name, row) in OPERATIONS.iter().zip(&counts.answers) {
-        print!("{name:8}");
+        print!("{name:12}");
         let answers = NUMBERS.map(|number| row[usize::from(number)]);
         answers.iter().for_each(|answers| print!("{answers:>7}"));
         println!();
@@ -115,7 +127,7 @@ fn print_table(counts: &Counts) {
     let accepted = 100 * counts.answers[3][0] / loads.max(1);
     println!("{accepted}% of {loads} loads accepted: {}", counts.depths);
     println!("{} queries answered yes", counts.yes);
-    println!("{}\n{}", counts.own, counts.handlers);
+    println!("{}\n{}\n{}", counts.own, counts.handlers, counts.limits);
 }
 
 /// A short sequence that shows the difference, in hex.
@@ -131,6 +143,7 @@ fn report(seed: u64, sequence: &Sequence) {
         match step {
             Step::Damage { place, bits } => println!("damage {place} {bits:02X}"),
             Step::Call(Call::Fresh) => println!("fresh"),
+            Step::Call(Call::FreshLimits(limits)) => println!("fresh {limits:?}"),
             Step::Call(Call::Create(domain)) => println!("create {}", hex(domain)),
             Step::Call(Call::Delete(domain)) => println!("delete {}", hex(domain)),
             Step::Call(Call::Load { domain, file }) => {

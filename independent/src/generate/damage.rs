@@ -1,10 +1,12 @@
-//! Damage to one byte of a policy or of a handler.
+//! Damage to one byte of a policy, of a handler or of a store's opening.
 
+use super::chosen_limits::number_out;
 use super::model::FileModel;
 use super::own_lists::policy_damage;
 use super::random::Random;
 use crate::handlers::{HANDLER_BYTES, MAX_HANDLERS};
-use crate::store::{self, Body};
+use crate::limits::{Limit, Limits};
+use crate::store::{self, Body, StoreVersion, HEAD};
 
 /// A byte of a file that reads as laid out, and what to put there.
 pub fn file_damage(random: &mut Random, file: &[u8]) -> Option<(usize, u8)> {
@@ -43,10 +45,31 @@ fn handler_damage(random: &mut Random, file: &[u8]) -> Option<(usize, u8)> {
     Some((low, *random.pick(&values)))
 }
 
+/// A byte of the opening of a store of version 2, and what to put there.
+pub fn opening_damage(random: &mut Random, bytes: &[u8]) -> Option<(usize, u8)> {
+    let StoreVersion::Second(limits) = StoreVersion::of(bytes)? else {
+        return None;
+    };
+    let fewer = |number: u8| number.wrapping_sub(1);
+    Some(match random.below(16) {
+        0..=1 => (HEAD, number_out(random, Limit::Depth) as u8),
+        2..=3 => (HEAD + 1, number_out(random, Limit::Parents) as u8),
+        // The standard limit becomes 0 or 32,768 by its high byte.
+        4..=6 => (HEAD + 2, *random.pick(&[0, 0x80, 0x80, 0xFF])),
+        7..=8 => (HEAD, fewer(limits.depth)),
+        9..=10 => (HEAD + 1, fewer(limits.parents)),
+        11 => (HEAD + random.below(Limits::BYTES), random.byte()),
+        // Used, and the version.
+        12..=13 => (6, random.between(HEAD - 1, HEAD + Limits::BYTES) as u8),
+        14 => (4, *random.pick(&[0, 1, 3, 3, 3])),
+        _ => (3, *random.pick(&[1, 2, 0x80])),
+    })
+}
+
 /// The same for a package of a store that is laid out well.
 pub fn store_damage(random: &mut Random, bytes: &[u8]) -> Option<(usize, u8)> {
-    let entries = store::entries(bytes)?;
-    let packages = entries.iter().filter_map(|entry| match entry.body {
+    let layout = store::layout(bytes)?;
+    let packages = layout.entries.iter().filter_map(|entry| match entry.body {
         Body::Domain(_) => None,
         Body::Package { file, .. } => Some((entry.bytes.end - file.len(), file)),
     });

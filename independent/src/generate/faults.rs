@@ -24,7 +24,8 @@ pub fn plant(
     model: &mut FileModel,
     question: u8,
 ) -> bool {
-    let full = model.classes.len() + 12 > MAX_CLASSES
+    let most = usize::from(scene.limits().depth);
+    let full = model.classes.len() + most + 4 > MAX_CLASSES
         || model.domains.len() + 3 > MAX_DOMAINS
         || model.imports.len() + 1 > MAX_IMPORTS
         || model.references.len() + 1 > MAX_REFERENCES;
@@ -90,9 +91,9 @@ fn spoil_mark(random: &mut Random, file: &mut Vec<u8>) {
         [2, 0],
         [0x80, 2],
     ];
-    match random.below(10) {
+    match random.below(12) {
         0..=1 => file.truncate(random.below(HEAD)),
-        2..=5 => {
+        2..=8 => {
             let field: [u8; 2] = *random.pick(&VERSIONS);
             file[MARK.len()..HEAD].copy_from_slice(&field);
         }
@@ -174,12 +175,12 @@ fn plant_14(random: &mut Random, scene: &Scene, model: &mut FileModel) {
             add(model, 0, &[], vec![]);
             add(model, 0, &[(0, next), (0, next)], vec![]);
         }
-        _ => plant_past_depth(random, scene, model, kind),
+        _ => deepen(random, scene, model, kind, scene.limits().depth + 1),
     }
 }
 
-/// A chain of classes to depth 9, half of the time below an installed class.
-fn plant_past_depth(random: &mut Random, scene: &Scene, model: &mut FileModel, kind: u8) {
+/// A chain of classes to this depth, half of the time below an installed class.
+pub fn deepen(random: &mut Random, scene: &Scene, model: &mut FileModel, kind: u8, to: u8) {
     let (mut kind, mut parents, mut depth) = (kind, vec![], 0);
     let package = random.pick_any(&scene.packages);
     let last = package.and_then(|p| Some((p, p.classes.last()?)));
@@ -189,7 +190,7 @@ fn plant_past_depth(random: &mut Random, scene: &Scene, model: &mut FileModel, k
         kind = u8::from(class.interface);
         depth = class.depth;
     }
-    for _ in depth..9 {
+    for _ in depth..to {
         let number = model.classes.len() as u8;
         add(model, kind, &parents, vec![]);
         parents = vec![(0, number)];

@@ -1,10 +1,11 @@
 //! Any file for a load: accepted, faulty, damaged, at a limit, filling the store.
 
+use super::chosen_limits::{chosen_file, ladder_of};
 use super::damage::file_damage;
 use super::faults::faulty_file;
 use super::handler_limits::handler_limits;
 use super::handlers::{longest_file, to_second};
-use super::limits::{chain, count_limits, ladder, method_limits, under_ladder};
+use super::limits::{chain, count_limits, ladder, method_limits, plain_code, under_ladder};
 use super::model::{set_size, ClassModel, FileModel, MethodModel};
 use super::own_lists::own_limits;
 use super::random::Random;
@@ -12,9 +13,17 @@ use super::scene::Scene;
 use super::valid::valid_file;
 use crate::package::{self, Version};
 use crate::questions::OF_A_FILE;
+use crate::store::StoreVersion;
 
 pub fn any_file(random: &mut Random, scene: &Scene, domain: &[u8]) -> Vec<u8> {
     let aid = new_aid(random, scene);
+    let chosen = match scene.version {
+        StoreVersion::First => 6,
+        StoreVersion::Second(_) => 15,
+    };
+    if random.chance(chosen) {
+        return chosen_file(random, scene, &aid).bytes();
+    }
     let model = valid_file(random, scene, domain, &aid);
     let questions = two_questions(random);
     let faulty = match random.below(100) {
@@ -33,7 +42,7 @@ pub fn any_file(random: &mut Random, scene: &Scene, domain: &[u8]) -> Vec<u8> {
 
 /// Two questions about a file; now and then 24 and one that is asked just before or after it.
 fn two_questions(random: &mut Random) -> [u8; 2] {
-    if random.chance(15) {
+    if random.chance(20) {
         return [*random.pick(&[16, 17, 18, 19, 20]), 24];
     }
     [(); 2].map(|()| *random.pick(&OF_A_FILE))
@@ -87,8 +96,13 @@ fn limit_file(random: &mut Random, scene: &Scene, domain: &[u8], aid: &[u8]) -> 
     } else {
         known
     };
+    let limits = scene.limits();
+    let most = usize::from(limits.depth);
     let mut model = match random.below(6) {
-        0 => chain(aid, random.below(2) as u8, random.between(7, 9) as u8),
+        0 => {
+            let depth = random.between(most - 1, most + 1);
+            chain(aid, random.below(2) as u8, depth as u8)
+        }
         1 => random.pick(&method_limits(aid, listed)).model.clone(),
         2 => {
             let domain_count = *random.pick(&[0, 0, 1, 2, 32]);
@@ -97,7 +111,7 @@ fn limit_file(random: &mut Random, scene: &Scene, domain: &[u8], aid: &[u8]) -> 
             return random.pick(&files).file.clone();
         }
         3 => return random.pick(&handler_limits(aid)).file.clone(),
-        4 => return longest_file(random, aid).bytes(),
+        4 => return longest_file(random, aid, limits.code.into()).bytes(),
         _ => random
             .pick(&count_limits(aid, listed, import))
             .model
@@ -129,6 +143,7 @@ fn hostile_file(random: &mut Random, scene: &Scene, aid: &[u8]) -> Vec<u8> {
     let methods = *random.pick(&[0, 0, 1, 4]);
     let mut model = match random.pick_any(&ladders) {
         Some(under) if random.chance(60) => under_ladder(aid, under, random.chance(50)),
+        _ if random.chance(50) => ladder_of(aid, scene.limits(), methods),
         _ => ladder(aid, methods, random.chance(50)),
     };
     if random.chance(50) {
@@ -143,16 +158,18 @@ fn filling_file(random: &mut Random, scene: &Scene, domain: &[u8], aid: &[u8]) -
     let past = usize::from(random.chance(40));
     let size = (scene.free + past).checked_sub(entry)?;
     let version = *random.pick(&Version::BOTH);
-    Some(sized_file(version, aid, size)?.bytes())
+    let most = scene.limits().code.into();
+    Some(sized_file(version, aid, size, most)?.bytes())
 }
 
-/// A file of exactly this many bytes, if there is one with a single class and no handler.
-pub fn sized_file(version: Version, aid: &[u8], size: usize) -> Option<FileModel> {
+/// A file of exactly this many bytes, if there is one with a single class, codes of at
+/// most this length and no handler.
+pub fn sized_file(version: Version, aid: &[u8], size: usize, most: usize) -> Option<FileModel> {
     let method_head = match version {
         Version::First => 6,
         Version::Second => 7,
     };
-    let largest = method_head + 4096;
+    let largest = method_head + most;
     let without_methods = 13 + aid.len() + 3;
     let mut left = size.checked_sub(without_methods)?;
     let mut methods = Vec::new();
@@ -163,8 +180,7 @@ pub fn sized_file(version: Version, aid: &[u8], size: usize) -> Option<FileModel
         } else {
             left.min(largest)
         };
-        let mut code = vec![0; length.checked_sub(method_head)?];
-        *code.last_mut()? = 0x7A;
+        let code = plain_code(length.checked_sub(method_head).filter(|&l| l > 0)?);
         let name = methods.len() as u16;
         methods.push(MethodModel::new(0x40, name, None, &code));
         left -= length;

@@ -1,9 +1,11 @@
 //! Versions and handlers on both sides of each edge.
 
 use super::faults::{BARE, STATIC_BODY};
+use super::limits::plain_code;
 use super::model::{set_size, ClassModel, FileModel, MethodModel};
 use crate::handlers::{Handler, HANDLER_BYTES, MAX_HANDLERS};
-use crate::package::{Version, HEAD, MARK, MAX_CODE};
+use crate::limits::STANDARD_CODE;
+use crate::package::{Version, HEAD, MARK};
 
 /// A file, the case and the number that a load with room for it answers.
 pub struct HandlerLimit {
@@ -117,16 +119,14 @@ fn counts(aid: &[u8]) -> Vec<HandlerLimit> {
     cases.into_iter().map(build).collect()
 }
 
-/// The longest code, of one-byte instructions.
+/// The longest code by the standard limits, of one-byte instructions.
 fn longest_code() -> Vec<u8> {
-    let mut code = vec![0; MAX_CODE];
-    code[MAX_CODE - 1] = 0x7A;
-    code
+    plain_code(STANDARD_CODE)
 }
 
 /// The longest code and the shortest, 16 handlers each.
 fn longest(aid: &[u8]) -> Vec<HandlerLimit> {
-    let most = MAX_CODE as u16;
+    let most = STANDARD_CODE as u16;
     let long = longest_code();
     let short = [0x7A];
     let cases: [(&str, u8, &[u8], Fields); 10] = [

@@ -2,12 +2,14 @@
 
 use super::codes::valid_code;
 use super::faults::{add, RETURN, STATIC_BODY};
+use super::limits::plain_code;
 use super::model::{set_size, FileModel, MethodModel};
 use super::random::Random;
 use crate::code::split;
 use crate::handler_faults::HandlerFault;
 use crate::handlers::{Handler, HANDLER_BYTES, MAX_HANDLERS};
-use crate::package::{Version, IMPLEMENTED, MAX_CODE};
+use crate::limits::STANDARD_CODE;
+use crate::package::{Version, IMPLEMENTED};
 
 /// Makes a file one of version 2, and gives handlers to codes that have none.
 pub fn to_second(random: &mut Random, model: &mut FileModel) {
@@ -17,8 +19,12 @@ pub fn to_second(random: &mut Random, model: &mut FileModel) {
         .iter_mut()
         .flat_map(|class| &mut class.methods);
     for method in methods.filter(|m| m.bits & IMPLEMENTED != 0 && m.handlers.is_empty()) {
-        // The longest code mostly has the most handlers.
-        let most = if method.code.len() == MAX_CODE { 80 } else { 3 };
+        // The longest codes mostly have the most handlers.
+        let most = if method.code.len() >= STANDARD_CODE {
+            80
+        } else {
+            3
+        };
         let count = match random.chance(most) {
             true => MAX_HANDLERS,
             false => *random.pick(&[0, 0, 1, 1, 2, 3]),
@@ -66,9 +72,11 @@ fn handler(start: usize, end: usize, target: usize) -> Handler {
 pub fn bad_handler(random: &mut Random, code: &[u8], fault: HandlerFault) -> Option<Handler> {
     let length = code.len();
     let starts = split(code)?;
-    let inside: Vec<usize> = (0..length).filter(|at| !starts.contains(at)).collect();
+    let splits = |at: &usize| starts.binary_search(at).is_err();
+    let inside: Vec<usize> = (0..length).filter(splits).collect();
     let mut bad = good_handler(random, length, &starts);
-    let past = *random.pick(&[length + 1, length + 2, length + 256, 0x7FFF, 0xFFFF]) as u16;
+    let far = 0x7FFF.max(length + 1);
+    let past = *random.pick(&[length + 1, length + 2, length + 256, far, 0xFFFF]) as u16;
     match fault {
         HandlerFault::Empty => bad.end = bad.start,
         HandlerFault::Turned => {
@@ -143,14 +151,15 @@ pub fn cut_off(random: &mut Random, mut model: FileModel) -> Vec<u8> {
     file
 }
 
-/// A file with the longest code and 16 handlers, now and then one of them bad.
-pub fn longest_file(random: &mut Random, aid: &[u8]) -> FileModel {
-    let code = longest_code(random);
+/// A file with a code of this length and 16 handlers, now and then one of them bad.
+pub fn longest_file(random: &mut Random, aid: &[u8], length: usize) -> FileModel {
+    let code = long_code(random, length);
     let mut handlers = good_handlers(random, &code, MAX_HANDLERS);
     if random.chance(30) {
         let fault = *random.pick(&HandlerFault::ALONE);
-        handlers[random.below(MAX_HANDLERS)] =
-            bad_handler(random, &code, fault).expect("a long code has a place for every fault");
+        if let Some(bad) = bad_handler(random, &code, fault) {
+            handlers[random.below(MAX_HANDLERS)] = bad;
+        }
     }
     let mut model = FileModel {
         version: Version::Second,
@@ -161,14 +170,14 @@ pub fn longest_file(random: &mut Random, aid: &[u8]) -> FileModel {
     model
 }
 
-/// Codes that pass by themselves, one after the other, and a short rest.
-fn longest_code(random: &mut Random) -> Vec<u8> {
-    let mut code = vec![0x10, 0x7A];
+/// A code of this length: codes that pass by themselves, one after the other, and a short
+/// rest.
+pub fn long_code(random: &mut Random, length: usize) -> Vec<u8> {
+    let mut code = Vec::new();
     loop {
         let next = valid_code(random, &[]);
-        if code.len() + next.len() >= MAX_CODE {
-            code.resize(MAX_CODE - 1, 0);
-            code.push(0x7A);
+        if code.len() + next.len() >= length {
+            code.extend(plain_code(length - code.len()));
             return code;
         }
         code.extend(next);

@@ -1,9 +1,8 @@
 //! Files at each limit and one past it, and large files that cost time to judge.
 
 use super::model::{ClassModel, FileModel, MethodModel};
-use crate::package::{
-    MAX_CLASSES, MAX_CODE, MAX_DOMAINS, MAX_IMPORTS, MAX_METHODS, MAX_PARENTS, MAX_REFERENCES,
-};
+use crate::limits::{Limits, STANDARD_CODE};
+use crate::package::{MAX_CLASSES, MAX_DOMAINS, MAX_IMPORTS, MAX_METHODS, MAX_REFERENCES};
 use crate::policy::{EVERY, MAX_ALLOWED};
 
 /// A file, its name and the number that a load with room for it answers.
@@ -14,14 +13,20 @@ pub struct LimitFile {
 }
 
 fn method(bits: u8, name: u16, allowed: Option<&[u8]>, code_length: usize) -> MethodModel {
-    let mut code = vec![0; code_length];
+    MethodModel::new(bits, name, allowed, &plain_code(code_length))
+}
+
+/// A code of so many instructions of one byte.
+pub fn plain_code(length: usize) -> Vec<u8> {
+    let mut code = vec![0; length];
     if let Some(last) = code.last_mut() {
         *last = 0x7A;
     }
-    MethodModel::new(bits, name, allowed, &code)
+    code
 }
 
-/// Every limit outside methods at its value and one past it; depth has `chain` below.
+/// Every limit outside methods at its value and one past it, parents by the standard
+/// limits; depth has `chain` below.
 /// `import` is the AID of an installed package.
 pub fn count_limits(aid: &[u8], domain: &[u8], import: Option<&[u8]>) -> Vec<LimitFile> {
     let mut files = Vec::new();
@@ -73,7 +78,7 @@ fn list_limits(aid: &[u8], domain: &[u8], past: usize) -> Vec<(&'static str, Fil
 /// The counts and the kind of a class, this much past their limits.
 fn class_limits(aid: &[u8], past: usize) -> Vec<(&'static str, FileModel)> {
     let classes = vec![ClassModel::default(); MAX_CLASSES + past];
-    let parents = vec![(0, 0); MAX_PARENTS + past];
+    let parents = vec![(0, 0); usize::from(Limits::STANDARD.parents) + past];
     let parents = vec![
         ClassModel::new(1, &[], vec![]),
         ClassModel::new(0, &parents, vec![]),
@@ -96,8 +101,8 @@ pub fn method_limits(aid: &[u8], domain: &[u8]) -> Vec<LimitFile> {
     let cases: [(&str, u8, MethodModel); 12] = [
         ("code", 11, method(0x40, 1, None, 0)),
         ("code", 0, method(0x40, 1, None, 1)),
-        ("code", 0, method(0x40, 1, None, MAX_CODE)),
-        ("code", 11, method(0x40, 1, None, MAX_CODE + 1)),
+        ("code", 0, method(0x40, 1, None, STANDARD_CODE)),
+        ("code", 11, method(0x40, 1, None, STANDARD_CODE + 1)),
         (
             "allowed",
             0,

@@ -45,7 +45,7 @@ fn line(call: &Call) -> Option<Vec<u8>> {
         Call::Delete(domain) => format!("D {}", hex(domain)),
         Call::Load { domain, file } => format!("L {} {}", hex(domain), hex(file)),
         Call::Remove(package) => format!("R {}", hex(package)),
-        Call::Fresh | Call::Query { .. } => return None,
+        Call::Fresh | Call::FreshLimits(_) | Call::Query { .. } => return None,
     };
     Some(text.into_bytes())
 }

@@ -1,13 +1,16 @@
 //! Generators of package files, stores, call sequences and lines.
 
 pub mod call_faults;
+pub mod chosen_limits;
 pub mod codes;
 pub mod damage;
 pub mod faults;
 pub mod files;
+pub mod full_stores;
 pub mod handler_cases;
 pub mod handler_limits;
 pub mod handlers;
+pub mod limit_cases;
 pub mod limits;
 pub mod lineages;
 pub mod lines;
@@ -21,5 +24,6 @@ pub mod scene;
 pub mod sequences;
 pub mod special;
 pub mod spoiled_codes;
+pub mod starts;
 pub mod stores;
 pub mod valid;

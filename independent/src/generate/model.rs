@@ -2,6 +2,7 @@
 //! faulty files can be built too.
 
 use crate::handlers::Handler;
+use crate::limits::Limits;
 use crate::package::{self, Version, IMPLEMENTED, MARK, STATIC, VISIBLE};
 use crate::policy::{Policy, EVERY};
 
@@ -81,9 +82,9 @@ impl FileModel {
         (file, places)
     }
 
-    /// The structure of a file that reads as laid out.
+    /// The structure of a file that reads as laid out, by the greatest limits.
     pub fn read(file: &[u8]) -> Option<Self> {
-        let package = package::read(file)?;
+        let package = package::read(file, Limits::GREATEST)?;
         let owned = |list: &[&[u8]]| list.iter().map(|aid| aid.to_vec()).collect();
         let references = package.references.iter();
         Some(FileModel {

@@ -96,7 +96,7 @@ pub fn override_elsewhere(
         _ => None,
     };
     let fits = |found: &Found| {
-        let declared = found.method.bits & STATIC == 0 && found.facts.depth < 8;
+        let declared = found.method.bits & STATIC == 0 && found.facts.depth < scene.limits().depth;
         let needed = |aids| !allowed || Policy::Only(aids).allows(loading);
         declared && need(found).is_some_and(needed)
     };

@@ -1,8 +1,10 @@
 //! What a generator knows about the store it builds files for.
 
 use super::model::FileModel;
+use crate::limits::Limits;
 use crate::package::{IMPLEMENTED, STATIC};
 use crate::policy::Item;
+use crate::store::StoreVersion;
 use std::collections::{BTreeMap, BTreeSet};
 
 /// The domains that a method allows.
@@ -117,9 +119,14 @@ pub struct Scene {
     pub package_pool: Vec<Vec<u8>>,
     /// Bytes after used.
     pub free: usize,
+    pub version: StoreVersion,
 }
 
 impl Scene {
+    pub fn limits(&self) -> Limits {
+        self.version.limits()
+    }
+
     pub fn package_named(&self, aid: &[u8]) -> Option<usize> {
         self.packages.iter().position(|p| p.model.aid == aid)
     }

@@ -1,13 +1,15 @@
 //! Call sequences over one buffer.
 
-use super::damage::store_damage;
+use super::chosen_limits::{bad_limits, good_limits};
+use super::damage::{opening_damage, store_damage};
 use super::files::any_file;
 use super::random::Random;
 use super::scene::Scene;
+use super::starts::{pools, some_start, Start};
 use super::stores::planted_store;
 use crate::ledger::Call;
 use crate::loader::{damage, Independent, Loader, Sequence, Step};
-use crate::store;
+use crate::store::{self, StoreVersion};
 
 /// Builds a sequence while running it, so that later calls suit the store.
 struct Run<'r> {
@@ -23,19 +25,19 @@ struct Run<'r> {
 /// The sequence for this number; equal numbers give equal sequences.
 pub fn sequence(seed: u64) -> Sequence {
     let random = &mut Random::new(seed);
-    if random.chance(6) {
+    if random.chance(8) {
         return build_over_store(random);
     }
-    let length = buffer_length(random);
-    build(random, length)
+    let Start { length, first } = some_start(random);
+    build(random, length, first)
 }
 
-/// A sequence over a buffer of this length.
+/// A sequence over a buffer of this length, of version 1 at first.
 pub fn sequence_over(length: usize, seed: u64) -> Sequence {
-    build(&mut Random::new(seed), length)
+    build(&mut Random::new(seed), length, Call::Fresh)
 }
 
-fn build(random: &mut Random, length: usize) -> Sequence {
+fn build(random: &mut Random, length: usize, first: Call) -> Sequence {
     let start = match random.below(4) {
         0 => random.bytes(length),
         1 => vec![0xFF; length],
@@ -43,8 +45,16 @@ fn build(random: &mut Random, length: usize) -> Sequence {
     };
     let scene = pools(random);
     let mut run = Run::new(random, start, scene);
+    let refused = match (64..=65_535).contains(&length) {
+        true => 2,
+        false => 50,
+    };
+    if run.random.chance(refused) {
+        let limits = bad_limits(run.random);
+        run.call(Call::FreshLimits(limits));
+    }
     if run.random.chance(96) {
-        run.call(Call::Fresh);
+        run.call(first);
     }
     run.fill()
 }
@@ -54,37 +64,9 @@ fn build_over_store(random: &mut Random) -> Sequence {
     let pools = pools(random);
     let question = *random.pick(&[0, 0, 0, 1, 2, 3, 4, 5, 10, 11, 12, 13, 14, 15, 16]);
     let later = *random.pick(&[16, 17, 24, 24, 18, 19, 20]);
-    let question = *random.pick(&[question, question, later]);
+    let question = *random.pick(&[question, question, later, 30, 30]);
     let store = planted_store(random, &pools, question);
     Run::new(random, store.bytes, store.scene).fill()
-}
-
-fn buffer_length(random: &mut Random) -> usize {
-    match random.below(100) {
-        0..=3 => *random.pick(&[0, 1, 6, 7, 32, 63, 65_536, 65_537, 70_000]),
-        4..=6 => 64,
-        7 => 65_535,
-        8..=24 => random.between(65, 500),
-        _ => random.between(500, 5000),
-    }
-}
-
-/// AIDs for domains and for packages: some begin another, some serve as both.
-fn pools(random: &mut Random) -> Scene {
-    let long = random.bytes(16);
-    let mut domains = vec![long.clone(), long[..15].to_vec(), long[..5].to_vec()];
-    let mut packages = vec![long[..6].to_vec(), long];
-    for pool in [&mut domains, &mut packages] {
-        for _ in 0..4 {
-            let length = *random.pick(&[5, 5, 6, 8, 15, 16]);
-            pool.push(random.bytes(length));
-        }
-    }
-    Scene {
-        domain_pool: domains,
-        package_pool: packages,
-        ..Scene::default()
-    }
 }
 
 impl<'r> Run<'r> {
@@ -130,9 +112,13 @@ impl<'r> Run<'r> {
     fn note(&mut self, call: &Call) {
         let scene = &mut self.scene;
         match call {
-            Call::Fresh => {
+            Call::Fresh | Call::FreshLimits(_) => {
                 scene.domains.clear();
                 scene.packages.clear();
+                scene.version = match call {
+                    Call::FreshLimits(limits) => StoreVersion::Second(*limits),
+                    _ => StoreVersion::First,
+                };
                 self.damaged = None;
             }
             Call::Create(domain) => scene.domains.push(domain.clone()),
@@ -160,8 +146,14 @@ impl<'r> Run<'r> {
         self.steps.push(Step::Damage { place, bits });
     }
 
-    /// A place and bits to flip there: in a policy or a handler, or a bit of any byte.
+    /// A place and bits to flip there: in the opening of version 2, in a policy or a
+    /// handler, or a bit of any byte.
     fn new_damage(&mut self, used: usize) -> (usize, u8) {
+        if self.random.chance(40) {
+            if let Some((place, byte)) = opening_damage(self.random, &self.store) {
+                return (place, byte ^ self.store[place]);
+            }
+        }
         if self.random.chance(40) {
             if let Some((place, byte)) = store_damage(self.random, &self.store) {
                 return (place, byte ^ self.store[place]);
@@ -176,8 +168,9 @@ impl<'r> Run<'r> {
 
     fn any_call(&mut self) -> Call {
         match self.random.below(100) {
-            0..=1 => Call::Fresh,
-            2..=15 => Call::Create(self.domain(20, 70)),
+            0 => Call::Fresh,
+            1..=2 => self.fresh_limits(),
+            3..=15 => Call::Create(self.domain(20, 70)),
             16..=24 => Call::Delete(self.domain(75, 17)),
             25..=70 => {
                 let domain = self.domain(92, 5);
@@ -187,6 +180,13 @@ impl<'r> Run<'r> {
             71..=82 => Call::Remove(self.package(75)),
             _ => self.query(),
         }
+    }
+
+    fn fresh_limits(&mut self) -> Call {
+        Call::FreshLimits(match self.random.chance(80) {
+            true => bad_limits(self.random),
+            false => good_limits(self.random),
+        })
     }
 
     /// A created domain or one from the pool this many times in a hundred; else

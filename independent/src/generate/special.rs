@@ -1,7 +1,6 @@
 //! Fixed sequences: short codes, damaged stores, buffer and argument lengths,
 //! limits, hostile files.
 
-use super::files::sized_file;
 use super::handler_cases::of_version;
 use super::limits::{chain, count_limits, ladder, method_limits, under_ladder};
 use super::model::{ClassModel, FileModel, MethodModel};
@@ -10,6 +9,7 @@ use super::random::Random;
 use super::scene::Scene;
 use super::valid::valid_file;
 use crate::ledger::Call;
+use crate::limits::Limits;
 use crate::loader::{Independent, Loader, Sequence, Step};
 use crate::package::Version;
 
@@ -19,14 +19,22 @@ pub(super) const FIRST: &[u8] = &[0xA0, 0, 0, 1, 1];
 pub(super) const SECOND: &[u8] = &[0xA0, 0, 0, 1, 2];
 pub(super) const THIRD: &[u8] = &[0xA0, 0, 0, 1, 3];
 
-fn over(start: Vec<u8>, calls: Vec<Call>) -> Sequence {
+/// Both fresh calls, with the same limits.
+pub(super) const BOTH_FRESH: [Call; 2] = [Call::Fresh, Call::FreshLimits(Limits::STANDARD)];
+
+pub(super) fn over(start: Vec<u8>, calls: Vec<Call>) -> Sequence {
     let steps = calls.into_iter().map(Step::Call).collect();
     Sequence { start, steps }
 }
 
 /// Fresh, both domains, then these calls.
 pub(super) fn after_fresh(length: usize, calls: Vec<Call>) -> Sequence {
-    let mut all = vec![Call::Fresh];
+    after(Call::Fresh, length, calls)
+}
+
+/// The same after either fresh.
+pub(super) fn after(first: Call, length: usize, calls: Vec<Call>) -> Sequence {
+    let mut all = vec![first];
     all.push(Call::Create(DOMAIN.to_vec()));
     all.push(Call::Create(OTHER.to_vec()));
     all.extend(calls);
@@ -73,11 +81,12 @@ pub fn three_byte_codes(version: Version, seed: u64) -> Sequence {
     codes_sequence(version, (0..256).map(move |_| random.bytes(3)))
 }
 
-/// A store with two domains and three packages of both versions, the later ones importing.
-pub fn test_store() -> Vec<u8> {
+/// A store with two domains and three packages of both versions, the later ones importing;
+/// this fresh made it, with the standard limits.
+pub fn test_store(first: &Call) -> Vec<u8> {
     let random = &mut Random::new(12);
     let mut store = vec![0; 2048];
-    Independent.fresh(&mut store);
+    Independent.call(&mut store, first);
     let mut scene = Scene {
         domain_pool: vec![DOMAIN.to_vec(), OTHER.to_vec(), THIRD.to_vec()],
         ..Scene::default()
@@ -107,7 +116,11 @@ pub fn test_store() -> Vec<u8> {
 
 /// Each byte of the test store flipped once, in one bit or all, then one call of each kind.
 pub fn damaged_stores() -> impl Iterator<Item = Sequence> {
-    let store = test_store();
+    BOTH_FRESH.into_iter().flat_map(damaged_by_byte)
+}
+
+fn damaged_by_byte(first: Call) -> impl Iterator<Item = Sequence> {
+    let store = test_store(&first);
     let used = crate::store::used(&store);
     let calls = every_call(DOMAIN, THIRD, &with_code(Version::Second, &[0x7A]).bytes());
     (0..used + 10).flat_map(move |place| {
@@ -195,26 +208,6 @@ pub fn own_limit_lists() -> Sequence {
         }
     }
     after_fresh(2048, calls)
-}
-
-/// Stores filled to the byte, by one package of each size around the free bytes.
-pub fn full_stores() -> Vec<Sequence> {
-    let fill = |version: Version, length: usize, past: usize| {
-        // Header, two domains, and the entry's own bytes before the file.
-        let size = length - 7 - 8 - 9 - 9 + past;
-        let file = sized_file(version, FIRST, size)?;
-        let mut calls = vec![load(&file), Call::Create(THIRD.to_vec())];
-        calls.extend([Call::Delete(OTHER.to_vec()), Call::Create(THIRD.to_vec())]);
-        calls.extend([Call::Delete(THIRD.to_vec()), load(&chain(SECOND, 0, 1))]);
-        calls.extend([Call::Create(OTHER.to_vec()), Call::Remove(FIRST.to_vec())]);
-        Some(after_fresh(length, calls))
-    };
-    let lengths = [64, 80, 100, 300, 8192, 65_535];
-    let cases = lengths.iter().flat_map(|&l| Version::BOTH.map(|v| (v, l)));
-    cases
-        .flat_map(|(version, l)| [fill(version, l, 0), fill(version, l, 1)])
-        .flatten()
-        .collect()
 }
 
 /// Deep ladders of parents with many methods.

@@ -1,11 +1,13 @@
 //! Stores that no list of calls made: laid out well, sound or with one planted fault.
 
+use super::chosen_limits::{good_limits, number_out};
 use super::faults::faulty_file;
 use super::random::Random;
 use super::scene::Scene;
 use super::valid::valid_file;
 use crate::ledger::{Entry, Ledger};
-use crate::store;
+use crate::limits::{Limit, Limits};
+use crate::store::{self, StoreVersion};
 
 /// A store, what it holds, and whether a fault was planted.
 pub struct PlantedStore {
@@ -15,15 +17,23 @@ pub struct PlantedStore {
 }
 
 /// A store that holds domains and packages; question 0 plants no fault, 3 to 5 and those
-/// about a file a fault for that question, 1 and 2 entries in a wrong order.
+/// about a file a fault for that question, 1 and 2 entries in a wrong order, 30 one in the
+/// opening of version 2.
 pub fn planted_store(random: &mut Random, pools: &Scene, question: u8) -> PlantedStore {
     let mut scene = pools.clone();
+    if question == 30 || random.chance(50) {
+        scene.version = StoreVersion::Second(good_limits(random));
+    }
     let mut entries = Vec::new();
     for domain in &pools.domain_pool[..3] {
         entries.push(Entry::Domain(domain.clone()));
         scene.domains.push(domain.clone());
     }
-    for aid in &pools.package_pool[..random.between(1, 3)] {
+    let packages = match question == 30 && random.chance(60) {
+        true => 0,
+        false => random.between(1, 3),
+    };
+    for aid in &pools.package_pool[..packages] {
         let domain = random.pick(&scene.domains).clone();
         let file = valid_file(random, &scene, &domain, aid).bytes();
         scene.install(&domain, &file);
@@ -31,15 +41,66 @@ pub fn planted_store(random: &mut Random, pools: &Scene, question: u8) -> Plante
     }
     let faulty = question != 0 && plant_entry(random, &scene, &mut entries, question);
     let mut ledger = Ledger::new(0);
+    ledger.version = scene.version;
     ledger.entries = entries;
     let used = store::used(&ledger.written_out(store::HEAD));
     let more = *random.pick(&[0, 1, 200, 1000]);
-    let bytes = ledger.written_out((used + more).max(64));
+    let mut bytes = ledger.written_out((used + more).max(64));
     scene.free = bytes.len() - used;
+    if question == 30 {
+        spoil_opening(random, &mut bytes, &scene);
+    }
     PlantedStore {
         bytes,
         scene,
         faulty,
+    }
+}
+
+/// How far the packages go towards a limit.
+fn needed(scene: &Scene, limit: Limit) -> u16 {
+    let each = scene.packages.iter();
+    let numbers: Vec<usize> = match limit {
+        Limit::Depth => each
+            .flat_map(|p| &p.classes)
+            .map(|c| c.depth.into())
+            .collect(),
+        Limit::Parents => each
+            .flat_map(|p| &p.model.classes)
+            .map(|c| c.parents.len())
+            .collect(),
+        Limit::Code => each
+            .flat_map(|p| &p.model.classes)
+            .flat_map(|c| &c.methods)
+            .map(|m| m.code.len())
+            .collect(),
+    };
+    numbers.into_iter().max().unwrap_or(0) as u16
+}
+
+/// A limit out of its range or below what a package needs, another version, or no room in
+/// used for the limits.
+fn spoil_opening(random: &mut Random, bytes: &mut [u8], scene: &Scene) {
+    match random.below(8) {
+        0..=1 => {
+            let used = random.between(store::HEAD, store::HEAD + Limits::BYTES - 1);
+            bytes[5..store::HEAD].copy_from_slice(&(used as u16).to_be_bytes());
+            bytes[store::HEAD + Limits::BYTES..].fill(0);
+        }
+        2 => {
+            let field: [u8; 2] = *random.pick(&[[0, 0], [0, 3], [0, 3], [1, 2], [2, 0], [2, 2]]);
+            bytes[3..5].copy_from_slice(&field);
+        }
+        _ => {
+            let limit = *random.pick(&[Limit::Depth, Limit::Parents, Limit::Code, Limit::Code]);
+            let needed = needed(scene, limit);
+            let number = match needed > 1 && random.chance(30) {
+                true => needed - 1,
+                false => number_out(random, limit),
+            };
+            let bad = scene.limits().with(limit, number).bytes();
+            bytes[store::HEAD..][..Limits::BYTES].copy_from_slice(&bad);
+        }
     }
 }
 
@@ -54,6 +115,7 @@ fn plant_entry(random: &mut Random, scene: &Scene, list: &mut Vec<Entry>, questi
             let other = valid_importer(random, scene, &domain);
             list.insert(3, other);
         }
+        30 => {}
         3 => {
             let length = *random.pick(&[0, 4, 17, 200]);
             let domain = random.bytes(length);

@@ -1,6 +1,7 @@
 //! Files that every question of a load accepts, room apart.
 
 use super::codes::{call, call_kinds, valid_code};
+use super::faults::RETURN;
 use super::handlers::to_second;
 use super::model::{ClassModel, FileModel, MethodModel};
 use super::own_meetings::{call_elsewhere, override_elsewhere};
@@ -22,6 +23,9 @@ struct Draft<'a> {
     classes: Vec<ClassFacts>,
 }
 
+/// The longest code of a method that only calls.
+const LONGEST_CALLER: u16 = 6;
+
 /// A file for a load in this domain, of either version.
 pub fn valid_file(random: &mut Random, scene: &Scene, domain: &[u8], aid: &[u8]) -> FileModel {
     let mut draft = Draft {
@@ -36,9 +40,10 @@ pub fn valid_file(random: &mut Random, scene: &Scene, domain: &[u8], aid: &[u8])
         classes: Vec::new(),
     };
     draft.choose_imports(random);
-    let deep = random.chance(5);
+    let most = usize::from(scene.limits().depth);
+    let deep = random.chance(if most > 8 { 12 } else { 5 });
     let count = match deep {
-        true => random.between(6, 12),
+        true => random.between(most.saturating_sub(2), most + 4),
         false => *random.pick(&[0, 1, 1, 2, 2, 3, 3, 4, 5, 8]),
     };
     for _ in 0..count {
@@ -47,7 +52,8 @@ pub fn valid_file(random: &mut Random, scene: &Scene, domain: &[u8], aid: &[u8])
     draft.add_codes(random);
     let mut model = draft.model;
     model.domains = draft.lists.domains;
-    if model.domains.len() < MAX_DOMAINS / 2 && random.chance(30) {
+    let room = model.domains.len() < MAX_DOMAINS / 2 && scene.limits().code >= LONGEST_CALLER;
+    if room && random.chance(30) {
         match random.chance(50) {
             true => call_elsewhere(random, scene, domain, &mut model, true),
             false => override_elsewhere(random, scene, domain, &mut model, true),
@@ -89,11 +95,12 @@ impl Draft<'_> {
 
     /// Parents for a class or an interface; deep ones are the deepest of three picks.
     fn parents(&self, random: &mut Random, interface: bool, deep: bool) -> Vec<Reached<'_>> {
+        let limits = self.scene.limits();
         let mut reach = self.within_reach();
-        reach.retain(|class| class.2.depth < 8);
+        reach.retain(|class| class.2.depth < limits.depth);
         let picks = if deep { 3 } else { 1 };
         let mut parents: Vec<Reached> = Vec::new();
-        for _ in 0..random.below(5) {
+        for _ in 0..random.below(usize::from(limits.parents) + 1) {
             let taken = interface || parents.iter().any(|p| !p.2.interface);
             let picked = (0..picks).filter_map(|_| random.pick_any(&reach));
             let fitting = picked.filter(|class| class.2.interface || !taken);
@@ -166,10 +173,23 @@ impl Draft<'_> {
                 if method.bits & IMPLEMENTED != 0 {
                     let policy = method.policy.clone();
                     let calls = self.calls(random, &policy);
-                    let code = valid_code(random, &calls);
+                    let code = self.fitting_code(random, &calls);
                     self.model.classes[class].methods[number].code = code;
                 }
             }
+        }
+    }
+
+    /// A code with these calls, or a shorter one where the store's limit asks for it.
+    fn fitting_code(&self, random: &mut Random, calls: &[Vec<u8>]) -> Vec<u8> {
+        let most = usize::from(self.scene.limits().code);
+        let mut code = valid_code(random, calls);
+        if code.len() > most {
+            code = valid_code(random, &[]);
+        }
+        match code.len() <= most {
+            true => code,
+            false => RETURN.to_vec(),
         }
     }
 

@@ -1,12 +1,13 @@
 //! A loader that misreads one thing.
 
 use independent::generate::sequences::sequence;
+use independent::limits::Limits;
 use independent::loader::{compare, shrink, Independent, Loader, Sequence};
 use independent::misreadings::Misreading;
 use independent::operations::asked::room;
 use independent::policy::Role;
 use independent::questions::{judge_load, number, q1, q2_by, q3, q7, q9};
-use independent::store::{append, Body};
+use independent::store::{append, write_empty, Body};
 use independent::Answer;
 
 /// A loader that misreads one thing and is right in all else.
@@ -51,7 +52,22 @@ impl Misread {
 
 impl Loader for Misread {
     fn fresh(&self, store: &mut [u8]) -> u32 {
-        Independent.fresh(store)
+        let answer = Independent.fresh(store);
+        if let (Misreading::Limits(wrong), 0) = (self.0, answer) {
+            write_empty(store, wrong.fresh_version());
+        }
+        answer
+    }
+
+    fn fresh_limits(&self, store: &mut [u8], limits: Limits) -> u32 {
+        let Misreading::Limits(wrong) = self.0 else {
+            return Independent.fresh_limits(store, limits);
+        };
+        let number = wrong.fresh_number(store, limits);
+        if let Some(version) = wrong.fresh_leaves(number, limits) {
+            write_empty(store, version);
+        }
+        number.into()
     }
 
     fn create(&self, store: &mut [u8], domain: &[u8]) -> u32 {

@@ -5,8 +5,9 @@ pub mod misread;
 
 use independent::generate::model::{ClassModel, FileModel, MethodModel};
 use independent::ledger::Ledger;
+use independent::limits::Limits;
 use independent::loader::{damage, Independent, Loader, Sequence, Step};
-use independent::operations::{create, fresh, load};
+use independent::operations::{create, fresh, fresh_limits, load};
 
 pub const D1: &[u8] = &[0xA0, 0, 0, 0, 0xD1];
 pub const D2: &[u8] = &[0xA0, 0, 0, 0, 0xD2];
@@ -25,6 +26,14 @@ pub fn store(length: usize) -> Vec<u8> {
     for domain in [D1, D2] {
         assert_eq!(create(&mut store, domain).number, 0);
     }
+    store
+}
+
+/// A store of version 2 with D1 and these limits.
+pub fn limited(limits: Limits) -> Vec<u8> {
+    let mut store = vec![0xEE; 65_535];
+    assert_eq!(fresh_limits(&mut store, limits).encoded(), 0);
+    assert_eq!(create(&mut store, D1).number, 0);
     store
 }
 

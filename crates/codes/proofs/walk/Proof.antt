@@ -2,12 +2,13 @@
 use Prim.Native.Nat.{_-_, _/_, _%_}
 use native.Mathlib.Omega.{arith}
 use mathlib.Core.Path.{_≡_, refl}
-use mathlib.Core.Bool.{true, _&&_}
+use mathlib.Core.Bool.{_&&_, _||_}
+use lib.Dec.{eqb}
 use lib.ListN.{length, set}
 use borrow.Author.Needs.{needs}
 use denote.Ref.{now}
 use Rattle.instructions.proofs.Sizes.{whole-is}
-use Rattle.codes.proofs.Walking.{Walking, passed-plain, passed-call, passed-branch, walking-start, walking-on, walking-bad, walking-done}
+use Rattle.codes.proofs.Walking.{Walking, passed-straight, passed-branch, walking-start, walking-on, walking-bad, walking-done}
 use Rattle.codes.proofs.walk.Statement.{statement}
 use Rattle.codes.proofs.walk.Tie as tie
 
@@ -78,45 +79,16 @@ loop-again c =
     (at-loop-test .loop-test .taken) (got .ensures .0) (at-if1 .if1 .left) (got .ensures .1) in
     let form = at-entry-at .entry-at .result / 16 in
     let size = at-entry-at .entry-at .result % 16 in (
-      step _ (turn .targets) (turn .inside) (turn .calls) (passed-plain code (turn .inside) (turn .calls) (turn .starts) (turn .targets)
+      step _ (turn .targets) (turn .inside) (turn .calls || eqb form 1) (passed-straight code (turn .inside) (turn .calls) (turn .starts) (turn .targets)
           (turn .inv .0 .before) (turn .inv .0 .passed) (turn .at) form size _ (at-entry-at .entry-at .ensures .0) (at-loop-test .loop-test .taken)
           (at-set .set .ensures) (omega (arith, c .if2 .taken))),
       omega (arith, turn .inv .1, at-set .set .kept),
       turn .inv .2,
     )
 
-add-at-2 : tie.Need-add-at-2 Inv-loop μ-loop
-add-at-2 c = search needs
-
-loop-less-2 : tie.Need-loop-less-2 Inv-loop μ-loop
-loop-less-2 c = search needs
-
-loop-again-2 : tie.Need-loop-again-2 Inv-loop μ-loop
-loop-again-2 c =
-    let at-set = c .before .before .before .before in
-    let at-if1 = at-set .before .before in
-    let at-instruction-length = at-if1 .before in
-    let at-entry-at = at-instruction-length .before in
-    let at-loop-test = at-entry-at .before .before in
-    let at-loop = at-loop-test .before in
-    let start = at-loop .before .before .before .before in
-    let turn = at-loop .loop in
-    let code = now (start .args .code) in
-    let got = at-instruction-length .instruction-length in
-    let step = walking-on code (turn .at) (turn .last) (turn .inside) (turn .calls) (turn .starts) (turn .targets) (turn .inv .0) (got .result)
-    (at-loop-test .loop-test .taken) (got .ensures .0) (at-if1 .if1 .left) (got .ensures .1) in
-    let form = at-entry-at .entry-at .result / 16 in
-    let size = at-entry-at .entry-at .result % 16 in (
-      step _ (turn .targets) (turn .inside) true (passed-call code (turn .inside) (turn .calls) (turn .starts) (turn .targets) (turn .inv .0 .before)
-          (turn .inv .0 .passed) (turn .at) form size _ (at-entry-at .entry-at .ensures .0) (at-loop-test .loop-test .taken) (at-set .set .ensures)
-          (omega (arith, c .before .if2 .left, c .if3 .taken))),
-      omega (arith, turn .inv .1, at-set .set .kept),
-      turn .inv .2,
-    )
-
 mark-targets-requires : tie.Need-mark-targets-requires Inv-loop μ-loop
 mark-targets-requires c κs =
-    let at-if1 = c .before .before .before .before .before .before .before in
+    let at-if1 = c .before .before .before .before .before .before in
     let at-instruction-length = at-if1 .before in
     let at-entry-at = at-instruction-length .before in
     let at-loop-test = at-entry-at .before .before in
@@ -132,17 +104,16 @@ mark-targets-requires c κs =
       ),
     )
 
-add-at-3 : tie.Need-add-at-3 Inv-loop μ-loop
-add-at-3 c = search needs
+add-at-2 : tie.Need-add-at-2 Inv-loop μ-loop
+add-at-2 c = search needs
 
-loop-less-3 : tie.Need-loop-less-3 Inv-loop μ-loop
-loop-less-3 c = search needs
+loop-less-2 : tie.Need-loop-less-2 Inv-loop μ-loop
+loop-less-2 c = search needs
 
-loop-again-3 : tie.Need-loop-again-3 Inv-loop μ-loop
-loop-again-3 c =
+loop-again-2 : tie.Need-loop-again-2 Inv-loop μ-loop
+loop-again-2 c =
     let c1 = c .before .before in
-    let at-if3 = c1 .before .before in
-    let at-set = at-if3 .before .before .before .before in
+    let at-set = c1 .before .before .before .before .before in
     let at-if1 = at-set .before .before in
     let at-instruction-length = at-if1 .before in
     let at-entry-at = at-instruction-length .before in
@@ -157,9 +128,9 @@ loop-again-3 c =
     let form = at-entry-at .entry-at .result / 16 in
     let size = at-entry-at .entry-at .result % 16 in
     let marked = c1 .mark-targets in (
-      step _ _ (turn .inside && marked .result) (turn .calls) (passed-branch code (turn .inside) (turn .calls) (turn .starts) (turn .targets)
+      step _ _ (turn .inside && marked .result) (turn .calls || eqb form 1) (passed-branch code (turn .inside) (turn .calls) (turn .starts) (turn .targets)
           (turn .inv .0 .before) (turn .inv .0 .passed) (turn .at) form size _ (at-entry-at .entry-at .ensures .0) (at-loop-test .loop-test .taken)
-          (at-set .set .ensures) (omega (arith, at-if3 .if3 .left)) _ (marked .result) (marked .ensures)),
+          (at-set .set .ensures) _ (marked .result) (marked .ensures)),
       omega
           (arith, turn .inv .1, at-set .set .kept),
       omega (arith, turn .inv .2, marked .kept),
@@ -192,13 +163,10 @@ walk-spec =
     add-at
     loop-less
     loop-again
+    mark-targets-requires
     add-at-2
     loop-less-2
     loop-again-2
-    mark-targets-requires
-    add-at-3
-    loop-less-3
-    loop-again-3
     same-length-3
     same-length-4
     returns-2)

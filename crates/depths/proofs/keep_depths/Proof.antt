@@ -1,15 +1,18 @@
 -- `depths::keep_depths` meets its contract. Assumes nothing.
-use Prim.Native.Nat.{_/_}
-use Prim.Native.Nat.{ℕ, _+_, _-_, _<_}
+use Prim.Native.Nat.{ℕ, _+_, _-_, _/_, _^_, _<_, _≤_}
 use native.Mathlib.Omega.{arith}
-use mathlib.Core.Path.{_≡_, refl, ap, _∙_}
+use mathlib.Core.Path.{_≡_, refl, sym, ap, _∙_, subst}
 use lib.ListN.{length, getD}
 use denote.Ref.{now}
 use borrow.Author.Needs.{needs}
-use Rattle.depths.specs.Depths.{keptField, FileKeptTo, depthField}
+use Rattle.depths.specs.Depths.{widthFor, depthWidth, keptField, DepthsFit, FileKeptTo, FileKept, depthField}
 use Rattle.named.specs.Named.{ClassesFrom}
 use Rattle.store.proofs.Parts.{part-length}
 use Rattle.store.specs.Entries.{part}
+use Rattle.rules.specs.Limits.{Limits}
+use Rattle.rules.specs.Store.{storeLimits}
+use Rattle.depths.proofs.Kept.{width-few}
+use Rattle.depths.proofs.ByTable.{field-room}
 use Rattle.depths.proofs.Written as written
 use Rattle.named.proofs.Rows as rows
 use Rattle.depths.proofs.Exist as exist
@@ -17,11 +20,12 @@ use Rattle.depths.proofs.keep_depths.Statement.{statement}
 use Rattle.depths.proofs.keep_depths.Tie as tie
 
 abbrev Inv-loop : tie.InvT-loop
-Inv-loop s t₀ depths from to g n₀ i₀ t n i = ClassesFrom g n i × FileKeptTo g from depths t n × ((j : ℕ) → j < from / 5 → depthField t j ≡ depthField t₀ j) ×
-    (length t ≡ length t₀)
+Inv-loop s t₀ depths from to g width n₀ i₀ t n i =
+    ClassesFrom g n i × FileKeptTo width g from depths t n × ((j : ℕ) → j < from / 5 → depthField width t j ≡ depthField width t₀ j)
+    × (length t ≡ length t₀) × (width ≡ depthWidth s)
 
 abbrev μ-loop : tie.MeasureT-loop
-μ-loop s t₀ depths from to g n₀ i₀ t n i = length g - i
+μ-loop s t₀ depths from to g width n₀ i₀ t n i = length g - i
 
 sub-g : tie.Need-sub-g Inv-loop μ-loop
 sub-g c =
@@ -38,14 +42,20 @@ part-g-end c =
     let pre = c .before .before .before .pre in
     omega (arith, pre .0 .0, pre .0 .1)
 
+limits-of-requires : tie.Need-limits-of-requires Inv-loop μ-loop
+limits-of-requires c κs = search needs
+
+width-of-requires : tie.Need-width-of-requires Inv-loop μ-loop
+width-of-requires c κs = search needs
+
 classes-at-requires : tie.Need-classes-at-requires Inv-loop μ-loop
 classes-at-requires c κs =
-    let pre = c .before .before .before .before .pre in
+    let pre = c .before .before .before .before .before .before .pre in
     (pre .1 .0)
 
 add-i : tie.Need-add-i Inv-loop μ-loop
 add-i c =
-    let start = c .before .before .before .before .before in
+    let start = c .before .before .before .before .before .before .before in
     let a = start .args in
     let pre = start .pre in
     omega (
@@ -59,24 +69,27 @@ add-i c =
 
 loop-holds : tie.Need-loop-holds Inv-loop μ-loop
 loop-holds c =
-    let a = c .before .before .before .before .before .args in (
+    let width = c .before .width-of in
+    let limits = c .before .before .limits-of in
+    let a = c .before .before .before .before .before .before .before .args in (
       rows.from-start (part (now (a .s)) (a .from) (a .to)) (c .classes-at .result) (c .classes-at .ensures),
       written.kept-start
-          (part (now (a .s)) (a .from) (a .to)) (a .from) (now (a .depths)) (now (a .t)),
+          (width .result) (part (now (a .s)) (a .from) (a .to)) (a .from) (now (a .depths)) (now (a .t)),
       λ j h. refl,
       refl,
+      width .ensures ∙ ap (λ (l : Limits). widthFor (l .depth)) (limits .ensures),
     )
 
 add-keep : tie.Need-add-keep Inv-loop μ-loop
 add-keep c =
-    let start = c .before .before .before .before .before .before .before .before in
+    let start = c .before .before .before .before .before .before .before .before .before .before in
     let a = start .args in
     let pre = start .pre in
     omega (arith, c .before .loop-test .taken, part-length (now (a .s)) (a .from) (a .to) (pre .0 .1), pre .0 .1, pre .0 .3)
 
 add-wide : tie.Need-add-wide Inv-loop μ-loop
 add-wide c =
-    let start = c .before .before .before .before .before .before .before .before in
+    let start = c .before .before .before .before .before .before .before .before .before .before in
     let a = start .args in
     let pre = start .pre in
     omega (arith, c .before .loop-test .taken, part-length (now (a .s)) (a .from) (a .to) (pre .0 .1), pre .0 .1, pre .0 .3)
@@ -86,7 +99,7 @@ shared-slice-read-wide c =
     let c1 = c .before .before in
     let c2 = c1 .before in
     let loop = c2 .loop in
-    let start = c2 .before .before .before .before .before .before in
+    let start = c2 .before .before .before .before .before .before .before .before in
     let a = start .args in
     omega (
       arith,
@@ -103,7 +116,7 @@ shared-slice-read-keep c =
     let c1 = c .before .before .before .before in
     let c2 = c1 .before in
     let loop = c2 .loop in
-    let start = c2 .before .before .before .before .before .before in
+    let start = c2 .before .before .before .before .before .before .before .before in
     let a = start .args in
     let pre = start .pre in
     omega (
@@ -118,20 +131,27 @@ keep-requires c κs =
     let c1 = c .before .before .before .before in
     let c2 = c1 .before in
     let loop = c2 .loop in
-    let start = c2 .before .before .before .before .before .before in
+    let start = c2 .before .before .before .before .before .before .before .before in
     let a = start .args in
-    let pre = start .pre in
-    λ h. let x = (pre .1 .1) .fit (loop .n) (loop .i) (loop .inv .0 .stands) (omega (arith, h, c .before .wide .ensures .0)) in
-    let inside = part-length (now (a .s)) (a .from) (a .to) (pre .0 .1) in
-    let before : a .from + loop .i < length (now (a .s)) = omega (arith, c1 .loop-test .taken, inside, pre .0 .0, pre .0 .1) in
-    (x .0, x .1, omega (arith, before, pre .0 .3), omega (arith, before, pre .0 .2, loop .inv .3))
+    let pre = start .pre in (
+      (λ h. let x = (pre .1 .1) .fit (loop .n) (loop .i) (loop .inv .0 .stands) (omega (arith, h, c .before .wide .ensures .0)) in
+          let inside = part-length (now (a .s)) (a .from) (a .to) (pre .0 .1) in
+          let width = c2 .before .before .width-of .result in
+          let before : a .from + loop .i < length (now (a .s)) = omega (arith, c1 .loop-test .taken, inside, pre .0 .0, pre .0 .1) in (
+            x .0,
+            subst (λ (w : ℕ). getD (now (a .depths)) (loop .n) 0 ≤ 2 ^ w) (sym (loop .inv .4)) (x .1),
+            omega (arith, before, pre .0 .3),
+            field-room (now (a .s)) width (loop .inv .4) before (omega (arith, pre .0 .2, loop .inv .3)),
+          )),
+      omega (arith, loop .inv .4, width-few (storeLimits (now (a .s)) .depth)),
+    )
 
 after-class-requires : tie.Need-after-class-requires Inv-loop μ-loop
 after-class-requires c κs =
     let c1 = c .before .before .before .before .before .before .before in
     let c2 = c1 .before in
     let loop = c2 .loop in
-    let start = c2 .before .before .before .before .before .before in
+    let start = c2 .before .before .before .before .before .before .before .before in
     let a = start .args in
     (rows.from-there (part (now (a .s)) (a .from) (a .to)) (loop .n) (loop .i) (record { inside = c1 .loop-test .taken; rest = loop .inv .0 })
     (start .pre .1 .0))
@@ -141,7 +161,7 @@ add-n c =
     let c1 = c .before .before .before .before .before .before .before .before in
     let c2 = c1 .before in
     let loop = c2 .loop in
-    let start = c2 .before .before .before .before .before .before in
+    let start = c2 .before .before .before .before .before .before .before .before in
     let a = start .args in
     omega (
       arith,
@@ -155,7 +175,7 @@ loop-less c =
     let loop-test = c1 .loop-test in
     let c2 = c1 .before in
     let loop = c2 .loop in
-    let start = c2 .before .before .before .before .before .before in
+    let start = c2 .before .before .before .before .before .before .before .before in
     let a = start .args in
     omega (
       arith,
@@ -174,20 +194,22 @@ loop-again c =
     let c3 = c2 .before .before .before in
     let c4 = c3 .before in
     let loop = c4 .loop in
-    let start = c4 .before .before .before .before .before .before in
+    let start = c4 .before .before .before .before .before .before .before .before in
     let a = start .args in
-    let pre = start .pre in (
+    let pre = start .pre in
+    let g = part (now (a .s)) (a .from) (a .to) in
+    let width = c4 .before .before .width-of .result in
+    let fit = subst (λ (w : ℕ). DepthsFit w g (now (a .depths))) (sym (loop .inv .4)) (pre .1 .1) in
+    let put : (j : ℕ) → depthField width (keep .last .0) j ≡ keptField width (loop .t) (a .from + loop .i) (getD g (loop .i + 1) 0)
+    (getD (now (a .depths)) (loop .n) 0) j = λ j. keep .ensures j
+    ∙ ap (λ (v : ℕ). keptField width (loop .t) (a .from + loop .i) v (getD (now (a .depths)) (loop .n) 0) j) (wide .ensures .0) in (
       rows.from-next (part (now (a .s)) (a .from) (a .to)) (loop .n) (loop .i) (c .after-class .result) (pre .1 .0)
           (record { inside = c3 .loop-test .taken; rest = loop .inv .0 }) (c .after-class .ensures),
-      written.kept-more (part (now (a .s)) (a .from) (a .to))
-          (a .from) (now (a .depths)) (pre .1 .0) (pre .1 .1) (loop .t) (keep .last .0) (loop .n) (loop .i) (loop .inv .0 .stands)
-          (λ j. keep .ensures j ∙ ap (λ (v : ℕ). keptField (loop .t) ((a .from) + loop .i) v (getD (now (a .depths)) (loop .n) 0) j) (wide .ensures .0))
-          (loop .inv .1),
-      λ j h. written.below-more (part (now (a .s)) (a .from) (a .to)) (a .from) (now (a .depths)) (pre .1 .0) (pre .1 .1) (loop .t)
-          (keep .last .0) (loop .n) (loop .i) (loop .inv .0 .stands) (λ j. keep .ensures j ∙ ap
-          (λ (v : ℕ). keptField (loop .t) ((a .from) + loop .i) v (getD (now (a .depths)) (loop .n) 0) j) (wide .ensures .0)) j h ∙ loop .inv .2 j h,
-      omega
-          (arith, loop .inv .3, keep .kept .0),
+      written.kept-more width g (a .from) (now (a .depths)) (pre .1 .0) fit (loop .t) (keep .last .0) (loop .n) (loop .i) (loop .inv .0 .stands) put (loop .inv .1),
+      λ j h. written.below-more width g (a .from) (now (a .depths)) (pre .1 .0) fit (loop .t) (keep .last .0) (loop .n) (loop .i) (loop .inv .0 .stands) put j h
+          ∙ loop .inv .2 j h,
+      omega (arith, loop .inv .3, keep .kept .0),
+      loop .inv .4,
     )
 
 same-length : tie.Need-same-length Inv-loop μ-loop
@@ -195,11 +217,15 @@ same-length c = c .before .loop .inv .3
 
 returns : tie.Need-returns Inv-loop μ-loop
 returns c =
-    let start = c .before .before .before .before .before .before .before in
-    let a = start .args in (
-      written.kept-done (part (now (a .s)) (a .from) (a .to)) (a .from) (now (a .depths)) (c .before .loop .t) (c .before .loop .n) (c .before .loop .i)
-          (start .pre .1 .0) (c .before .loop .inv .0 .stands) (c .loop-test .left) (c .before .loop .inv .1),
-      c .before .loop .inv .2,
+    let start = c .before .before .before .before .before .before .before .before .before in
+    let width = c .before .before .before .width-of .result in
+    let a = start .args in
+    let s = now (a .s) in
+    let turn = c .before .loop in (
+      subst (λ (w : ℕ). FileKept w (part s (a .from) (a .to)) (a .from) (now (a .depths)) (turn .t)) (turn .inv .4)
+          (written.kept-done width (part s (a .from) (a .to)) (a .from) (now (a .depths)) (turn .t) (turn .n) (turn .i)
+          (start .pre .1 .0) (turn .inv .0 .stands) (c .loop-test .left) (turn .inv .1)),
+      subst (λ (w : ℕ). (j : ℕ) → j < a .from / 5 → depthField w (turn .t) j ≡ depthField w (now (a .t)) j) (turn .inv .4) (turn .inv .2),
     )
 
 pub keep-depths-spec : {M : Type 1} → statement M
@@ -211,6 +237,8 @@ keep-depths-spec =
     sub-g
     part-g-start
     part-g-end
+    limits-of-requires
+    width-of-requires
     classes-at-requires
     add-i
     loop-holds

@@ -10,7 +10,7 @@ use Rattle.depths.proofs.own_depth.Tie as tie
 own-parents-requires : tie.Need-own-parents-requires
 own-parents-requires c κs =
     let pre = c .before .before .before .before .before .before .pre in
-    (((pre .0 .0), (pre .0 .1)), (((pre .1 .0 .0), (pre .1 .0 .1)), ((pre .1 .1 .0), pre .1 .1 .1 .0)))
+    (((pre .0 .0), (pre .0 .1)), (((pre .1 .0 .0), (pre .1 .0 .1)), ((pre .1 .1 .0), (pre .1 .1 .1 .0, pre .1 .1 .1 .1))))
 
 shared-slice-read-wide : tie.Need-shared-slice-read-wide
 shared-slice-read-wide c =

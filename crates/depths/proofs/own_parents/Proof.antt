@@ -1,11 +1,12 @@
 -- `depths::own_parents` meets its contract. Assumes nothing.
 use Prim.Native.Nat.{_-_, _≤_}
 use native.Mathlib.Omega.{arith}
-use mathlib.Core.Path.{_≡_, refl}
+use mathlib.Core.Path.{_≡_, refl, ap, _∙_}
 use lib.ListN.{length}
 use denote.Ref.{now}
 use borrow.Author.Needs.{needs}
 use Rattle.named.specs.Named.{homeOf, RowsTrue}
+use Rattle.depths.specs.Depths.{widthFor}
 use Rattle.depths.proofs.Walk as walk
 use Rattle.depths.proofs.ParentKinds as kinds
 use Rattle.depths.proofs.Exist as exist
@@ -13,12 +14,12 @@ use Rattle.depths.proofs.own_parents.Statement.{statement}
 use Rattle.depths.proofs.own_parents.Tie as tie
 
 abbrev Inv-loop : tie.InvT-loop
-Inv-loop f s homes rows₀ t depths o k i₀ found₀ deepest₀ rows i found deepest =
+Inv-loop f s homes rows₀ t depths o k width i₀ found₀ deepest₀ rows i found deepest =
     kinds.Kinds f s (o .end) (o .number) i found × walk.Deepest f s (o .end) (o .number) i deepest × (found ≤ i) × RowsTrue f s (o .end) homes rows
     × (length rows ≡ length rows₀)
 
 abbrev μ-loop : tie.MeasureT-loop
-μ-loop f s homes rows₀ t depths o k i₀ found₀ deepest₀ rows i found deepest = k - i
+μ-loop f s homes rows₀ t depths o k width i₀ found₀ deepest₀ rows i found deepest = k - i
 
 parent-count-requires : tie.Need-parent-count-requires Inv-loop μ-loop
 parent-count-requires c κs =
@@ -28,9 +29,12 @@ parent-count-requires c κs =
     (exist.own-record (now (a .f)) (now (a .s)) (a .o .end) (a .o .number) (a .o .place) (pre .1 .0 .1)
     (kinds.judged-here (now (a .f)) (now (a .s)) (a .o .end) (pre .0 .0))) .1 .inside
 
+width-of-requires : tie.Need-width-of-requires Inv-loop μ-loop
+width-of-requires c κs = search needs
+
 loop-holds : tie.Need-loop-holds Inv-loop μ-loop
 loop-holds c =
-    let start = c .before .before .before .before .before .before in
+    let start = c .before .before .before .before .before .before .before in
     let a = start .args in (
       kinds.kinds-start (now (a .f)) (now (a .s)) (a .o .end) (a .o .number),
       walk.deepest-start (now (a .f)) (now (a .s)) (a .o .end) (a .o .number),
@@ -41,7 +45,7 @@ loop-holds c =
 
 parent-at-requires : tie.Need-parent-at-requires Inv-loop μ-loop
 parent-at-requires c κs =
-    let c1 = c .before .before in
+    let c1 = c .before .before .before in
     let count = c1 .parent-count in
     let start = c1 .before .before .before .before .before .before in
     let a = start .args in
@@ -55,8 +59,9 @@ parent-told-requires c κs =
     let parent = c .before .parent-at in
     let c1 = c .before .before in
     let loop = c1 .before .loop in
-    let count = c1 .before .before .parent-count in
-    let start = c1 .before .before .before .before .before .before .before .before in
+    let width = c1 .before .before .width-of in
+    let count = c1 .before .before .before .parent-count in
+    let start = c1 .before .before .before .before .before .before .before .before .before in
     let a = start .args in
     let pre = start .pre in
     let listed = kinds.listed (now (a .f)) (now (a .s)) (a .o .end) (a .o .number) (a .o .place) (pre .1 .0 .1) (now (a .homes)) (pre .0 .1)
@@ -65,14 +70,14 @@ parent-told-requires c κs =
     (pre .0 .0) in
     let few = exist.own-few (now (a .f)) (a .o .number) (a .o .place) (exist.judged-reads (now (a .f)) (now (a .s)) (a .o .end)
     (kinds.judged-here (now (a .f)) (now (a .s)) (a .o .end) (pre .0 .0))) (pre .1 .0 .1) in
-    let told = pre .1 .1 .1 .2 in (
+    let told = pre .1 .1 .1 .0 .2 in (
       (pre .0 .1, listed .there),
       (
         listed .class,
         (
           loop .inv .3,
           (
-            (pre .1 .1 .1 .0, pre .1 .1 .1 .1),
+            (pre .1 .1 .1 .0 .0, pre .1 .1 .1 .0 .1, width .ensures ∙ ap widthFor (pre .1 .1 .1 .1)),
             λ z. (omega (arith, listed .smaller z, few, told .size), told .told (parent .result .class) (listed .smaller z)),
           ),
         ),
@@ -83,7 +88,7 @@ add-found : tie.Need-add-found Inv-loop μ-loop
 add-found c =
     let told = c .before .before .before in
     let inside = told .before .before .before in
-    let count = inside .before .before .parent-count in
+    let count = inside .before .before .before .parent-count in
     omega (arith, inside .before .loop .inv .2, count .ensures .1, inside .loop-test .taken, told .parent-told .ensures .0 .1)
 
 larger-requires : tie.Need-larger-requires Inv-loop μ-loop
@@ -92,7 +97,7 @@ larger-requires c κs = search needs
 add-i : tie.Need-add-i Inv-loop μ-loop
 add-i c =
     let inside = c .before .before .before .before .before .before .before in
-    let count = inside .before .before .parent-count in
+    let count = inside .before .before .before .parent-count in
     omega (arith, count .ensures .1, inside .loop-test .taken)
 
 loop-less : tie.Need-loop-less Inv-loop μ-loop
@@ -108,8 +113,8 @@ loop-again c =
     let parent = c2 .parent-at in
     let c3 = c2 .before in
     let loop = c3 .before .loop in
-    let count = c3 .before .before .parent-count in
-    let start = c3 .before .before .before .before .before .before .before .before in
+    let count = c3 .before .before .before .parent-count in
+    let start = c3 .before .before .before .before .before .before .before .before .before in
     let a = start .args in
     let pre = start .pre in
     let home = homeOf (a .o .end) (now (a .homes)) (parent .result .pack) in
@@ -133,7 +138,7 @@ same-length c = c .before .loop .inv .4
 
 returns : tie.Need-returns Inv-loop μ-loop
 returns c =
-    let c1 = c .before .before in
+    let c1 = c .before .before .before in
     let count = c1 .parent-count in
     let start = c1 .before .before .before .before .before .before in
     let loop = c .before .loop in
@@ -156,6 +161,7 @@ own-parents-spec =
     Inv-loop
     μ-loop
     parent-count-requires
+    width-of-requires
     loop-holds
     parent-at-requires
     parent-told-requires

@@ -1,6 +1,10 @@
 -- `depths::parent_told` meets its contract. Assumes nothing.
 use native.Mathlib.Omega.{arith}
-use mathlib.Core.Path.{subst}
+use Prim.Native.Nat.{ℕ}
+use mathlib.Core.Path.{subst, ap, _∙_}
+use Rattle.rules.specs.Store.{storeLimits}
+use Rattle.depths.specs.Depths.{toldDepth}
+use Rattle.depths.proofs.Kept.{width-few}
 use denote.Ref.{now}
 use borrow.Author.Needs.{needs}
 use Rattle.named.specs.Named.{ClassStands}
@@ -112,13 +116,18 @@ depth-told-requires c κs =
     let home-at = c4 .home-at in
     let start = c4 .before .before .before .before .before .before in
     let a = start .args in
-    let pre = start .pre in (
-      λ e. ((pre .1 .1 .1 .1) (kept.from-own (now (a .f)) (now (a .s)) (a .x .end) (now (a .homes)) (pre .0 .0) (a .x .pack) (a .x .class) (pre .0 .1)
-          (home-at .result) (home-at .ensures) (pre .1 .0) e)) .0,
-      λ n. let m = kept.parent-room (now (a .f)) (now (a .s)) (a .x .end) (now (a .homes))
-          (pre .0 .0) (a .x .pack) (a .x .class) (i .given .0 .0) (pre .0 .1) (home-at .result) (home-at .ensures) (now (file-of .result))
-          (file-of .ensures) (subst (ClassStands (now (file-of .result)) (a .x .class)) (i .given .1) (c2 .stands-at .ensures .0)) (pre .1 .0) n in
-          (omega (arith, m, (pre .1 .1 .1 .0 .1)), omega (arith, m, (pre .1 .1 .1 .0 .0) .room)),
+    let pre = start .pre in
+    let told = pre .1 .1 .1 in
+    let width = told .0 .2 in (
+      (
+        λ e. ((told .1) (kept.from-own (now (a .f)) (now (a .s)) (a .x .end) (now (a .homes)) (pre .0 .0) (a .x .pack) (a .x .class) (pre .0 .1)
+            (home-at .result) (home-at .ensures) (pre .1 .0) e)) .0,
+        λ n. let m = kept.parent-room (now (a .f)) (now (a .s)) (a .x .end) (now (a .homes))
+            (pre .0 .0) (a .x .pack) (a .x .class) (i .given .0 .0) (pre .0 .1) (home-at .result) (home-at .ensures) (now (file-of .result))
+            (file-of .ensures) (subst (ClassStands (now (file-of .result)) (a .x .class)) (i .given .1) (c2 .stands-at .ensures .0)) (pre .1 .0) n in
+            (omega (arith, m, (told .0 .1)), kept.field-room (now (a .s)) (a .x .width) width m ((told .0 .0) .room)),
+      ),
+      omega (arith, width, width-few (storeLimits (now (a .s)) .depth)),
     )
 
 enum-told : tie.Need-enum-told
@@ -159,7 +168,7 @@ returns c =
               (a .x .pack) (a .x .class) (i .given .0 .0) (pre .0 .1) (home-at .result) (home-at .ensures) (now (file-of .result)) (file-of .ensures)
               (subst (ClassStands (now (file-of .result)) (a .x .class)) (i .given .1) (stands-at .ensures .0)) (now (a .depths)) (now (a .t))
               (pre .1 .1 .1 .0 .0) (λ z. ((pre .1 .1 .1 .1) z) .1) (c .before .wide2 .result) (c .depth-told .result) (c .before .wide2 .ensures .0)
-              (c .depth-told .ensures .0),
+              (c .depth-told .ensures .0 ∙ ap (λ (w : ℕ). toldDepth w (now (a .depths)) (now (a .t)) (home-at .result .from) (i .given .0 .0) (a .x .class) (c .before .wide2 .result)) (pre .1 .1 .1 .0 .2)),
           c .depth-told .ensures .1,
         ),
         (numbers.rows-written (now (a .f)) (now (a .s)) (a .x .end) (now (a .homes))

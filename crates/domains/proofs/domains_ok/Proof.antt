@@ -1,9 +1,9 @@
 -- `domains::domains_ok` takes one entry a turn: those passed have accepted domains, and the table has theirs. Assumes nothing.
 use denote.Ref.{now}
-use Prim.Native.Nat.{_-_}
+use Prim.Native.Nat.{ℕ, _-_}
 use native.Mathlib.Omega.{arith}
-use mathlib.Core.Path.{_≡_, refl, subst}
-use lib.ListN.{length-set, length}
+use mathlib.Core.Path.{_≡_, refl, sym, subst}
+use lib.ListN.{length-set, length, set}
 use borrow.Author.Tests.{not-true, not-false}
 use borrow.Author.Needs.{needs}
 use Rattle.domains.specs.Domains.{DomainsIs, EntrySays, PackageSays}
@@ -26,17 +26,22 @@ slice-write-table c =
     let start = c .before .before in
     keys.table-room (now (start .args .s)) (start .args .end) (now (start .args .table)) (start .pre .0) (start .pre .1 .1)
 
+first-entry-requires : tie.Need-first-entry-requires Inv-loop μ-loop
+first-entry-requires c κs = search needs
+
 loop-holds : tie.Need-loop-holds Inv-loop μ-loop
 loop-holds c =
-    let start = c .before .before in (
-      phase.passing-start (now (start .args .s)) (start .args .end),
-      keys.domains-zero (now (start .args .s)) (start .args .end) (now (start .args .table)) (start .pre .0) (start .pre .1 .1),
+    let start = c .before .before .before in
+    let s = now (start .args .s) in
+    let at = sym (c .first-entry .ensures) in (
+      subst (phase.Passing s (start .args .end)) at (phase.passing-start s (start .args .end)),
+      subst (λ (i : ℕ). DomainsIs s i (set (now (start .args .table)) 0 0)) at (keys.domains-zero s (start .args .end) (now (start .args .table)) (start .pre .0) (start .pre .1 .1)),
       refl,
     )
 
 entry-at-requires : tie.Need-entry-at-requires Inv-loop μ-loop
 entry-at-requires c κs =
-    let start = c .before .before .before in
+    let start = c .before .before .before .before in
     phase.passing-from (now (start .args .s)) (start .args .end) (c .loop .at) (c .loop .inv .0) (start .pre .0)
 
 enum-known-from : tie.Need-enum-known-from Inv-loop μ-loop
@@ -49,7 +54,7 @@ domain-ok-requires c κs =
     let c2 = c1 .before .before in
     let c3 = c2 .before in
     let turn = c3 .loop in
-    let start = c3 .before .before .before in
+    let start = c3 .before .before .before .before in
     let first = phase.domain-first (now (start .args .s)) (start .args .end) (turn .at) (turn .inv .0) (entry .given .0 .0) (entry .given .0 .1 .0)
     (part-told (entry .given .1) (c2 .entry-at .ensures)) (start .pre .0) in
     (turn .inv .1, ((first .0, first .1), start .pre .1 .0))
@@ -57,7 +62,7 @@ domain-ok-requires c κs =
 same-length : tie.Need-same-length Inv-loop μ-loop
 same-length c =
     let c1 = c .before .before .before .before .before .before .before .before .before in
-    let start = c1 .before .before .before in
+    let start = c1 .before .before .before .before in
     omega (
       arith,
       c1 .loop .inv .2,
@@ -74,7 +79,7 @@ returns c =
     let c3 = c2 .before .before in
     let c4 = c3 .before in
     let turn = c4 .loop in
-    let start = c4 .before .before .before in
+    let start = c4 .before .before .before .before in
     phase.domain-bad (now (start .args .s)) (start .args .end) (turn .at) (turn .inv .0) (entry .given .0 .0) (entry .given .0 .1 .0)
     (part-told (entry .given .1) (c3 .entry-at .ensures))
     (subst (EntrySays (now (start .args .s)) (turn .at) (domain (part (now (start .args .s)) (entry .given .0 .0) (entry .given .0 .1 .0))))
@@ -87,7 +92,7 @@ loop-less c =
     let c2 = c1 .before .before in
     let c3 = c2 .before in
     let turn = c3 .loop in
-    let start = c3 .before .before .before in
+    let start = c3 .before .before .before .before in
     let first = phase.domain-first (now (start .args .s)) (start .args .end) (turn .at) (turn .inv .0) (entry .given .0 .0) (entry .given .0 .1 .0)
     (part-told (entry .given .1) (c2 .entry-at .ensures)) (start .pre .0) in
     omega (arith, first .2, first .3)
@@ -100,7 +105,7 @@ loop-again c =
     let c3 = c2 .before .before in
     let c4 = c3 .before in
     let turn = c4 .loop in
-    let start = c4 .before .before .before in
+    let start = c4 .before .before .before .before in
     let told = c1 .domain-ok in (
       phase.domain-on (now (start .args .s)) (start .args .end) (turn .at) (turn .inv .0) (entry .given .0 .0) (entry .given .0 .1 .0)
           (part-told (entry .given .1) (c3 .entry-at .ensures))
@@ -120,7 +125,7 @@ package-ok-requires c κs =
     let c2 = c1 .before .before in
     let c3 = c2 .before in
     let turn = c3 .loop in
-    let start = c3 .before .before .before in
+    let start = c3 .before .before .before .before in
     let first = phase.package-first (now (start .args .s)) (start .args .end) (turn .at) (turn .inv .0) (entry .given .0 .0) (entry .given .0 .1 .0)
     (entry .given .0 .1 .1 .0) (part-told (entry .given .1) (c2 .entry-at .ensures)) (start .pre .0) in
     (turn .inv .1, (first .1, omega (arith, first .2, first .0 .to)))
@@ -128,7 +133,7 @@ package-ok-requires c κs =
 same-length-2 : tie.Need-same-length-2 Inv-loop μ-loop
 same-length-2 c =
     let c1 = c .before .before .before .before .before .before .before in
-    let start = c1 .before .before .before in
+    let start = c1 .before .before .before .before in
     omega (arith, c1 .loop .inv .2, length-set (now (start .args .table)) 0 0)
 
 returns-2 : tie.Need-returns-2 Inv-loop μ-loop
@@ -138,7 +143,7 @@ returns-2 c =
     let c2 = c1 .before .before in
     let c3 = c2 .before in
     let turn = c3 .loop in
-    let start = c3 .before .before .before in
+    let start = c3 .before .before .before .before in
     phase.package-bad (now (start .args .s)) (start .args .end) (turn .at) (turn .inv .0) (entry .given .0 .0) (entry .given .0 .1 .0)
     (entry .given .0 .1 .1 .0) (part-told (entry .given .1) (c2 .entry-at .ensures))
     (subst (PackageSays (now (start .args .s)) (turn .at) (part (now (start .args .s)) (entry .given .0 .0) (entry .given .0 .1 .0)))
@@ -151,7 +156,7 @@ loop-less-2 c =
     let c2 = c1 .before .before in
     let c3 = c2 .before in
     let turn = c3 .loop in
-    let start = c3 .before .before .before in
+    let start = c3 .before .before .before .before in
     let first = phase.package-first (now (start .args .s)) (start .args .end) (turn .at) (turn .inv .0) (entry .given .0 .0) (entry .given .0 .1 .0)
     (entry .given .0 .1 .1 .0) (part-told (entry .given .1) (c2 .entry-at .ensures)) (start .pre .0) in
     omega (arith, first .3, first .4)
@@ -164,7 +169,7 @@ loop-again-2 c =
     let part-at = c2 .entry-at in
     let c3 = c2 .before in
     let turn = c3 .loop in
-    let start = c3 .before .before .before in
+    let start = c3 .before .before .before .before in
     let first = phase.package-first (now (start .args .s)) (start .args .end) (turn .at) (turn .inv .0) (entry .given .0 .0) (entry .given .0 .1 .0)
     (entry .given .0 .1 .1 .0) (part-told (entry .given .1) (part-at .ensures)) (start .pre .0) in (
       phase.package-on (now (start .args .s)) (start .args .end) (turn .at) (turn .inv .0) (entry .given .0 .0) (entry .given .0 .1 .0)
@@ -183,7 +188,7 @@ enum-told c = search needs
 same-length-3 : tie.Need-same-length-3 Inv-loop μ-loop
 same-length-3 c =
     let c1 = c .before .before .before in
-    let start = c1 .before .before .before in
+    let start = c1 .before .before .before .before in
     omega (arith, c1 .loop .inv .2, length-set (now (start .args .table)) 0 0)
 
 returns-3 : tie.Need-returns-3 Inv-loop μ-loop
@@ -191,7 +196,7 @@ returns-3 c =
     let c1 = c .before .before in
     let c2 = c1 .before in
     let turn = c2 .loop in
-    let start = c2 .before .before .before in
+    let start = c2 .before .before .before .before in
     phase.all-done (now (start .args .s)) (start .args .end) (turn .at) (turn .inv .0)
     (part-told (c .enum-told .given .1) (c1 .entry-at .ensures))
 
@@ -202,6 +207,7 @@ domains-ok-spec =
     Inv-loop
     μ-loop
     slice-write-table
+    first-entry-requires
     loop-holds
     entry-at-requires
     enum-known-from

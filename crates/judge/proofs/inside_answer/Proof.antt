@@ -29,7 +29,7 @@ inside-number-requires c κs =
     let told = subst (ParentsTold (now (a .s)) (a .end) (now (a .file)) _ _) (depth .given .1) (answer .ensures .1) in
     let asked = loading.asked-14 (now (a .s)) (a .end) (aidAt (now (a .s)) (a .domain)) (now (a .file)) (answer .result) (answer .ensures .0) (depth .given .0 .0)
     (depth .given .1) (start .pre .0 .0) in
-    ((asked, start .pre .0 .1), told .0)
+    ((asked, start .pre .0 .1), (told .0, start .pre .1 .0 .2))
 
 same-length : tie.Need-same-length
 same-length c = search needs

@@ -24,7 +24,10 @@ returns c =
     stages.names-before (now (a .s)) (a .end) (aidAt (now (a .s)) (a .domain)) (now (a .file)) no
 
 codes-number-requires : tie.Need-codes-number-requires
-codes-number-requires c κs = search needs
+codes-number-requires c κs =
+    let start = c .before .before .before .before in
+    let a = start .args in
+    (stages.read-some (now (a .s)) (a .end) (aidAt (now (a .s)) (a .domain)) (now (a .file)) (start .pre .0 .0), start .pre .1 .1)
 
 cast-result : tie.Need-cast-result
 cast-result c = search needs
@@ -46,7 +49,7 @@ calls-number-requires c κs =
     let codes = c .before .codes-number in
     let split = stages.codes-split (now (a .s)) (a .end) (aidAt (now (a .s)) (a .domain)) (now (a .file)) fifteen (codes .result) (codes .ensures) (start .pre .0 .0)
     (c .if2 .left) in
-    ((start .pre .0 .0, split, start .pre .0 .1), start .pre .1)
+    ((start .pre .0 .0, split, start .pre .0 .1), start .pre .1 .0)
 
 returns-3 : tie.Need-returns-3
 returns-3 c =

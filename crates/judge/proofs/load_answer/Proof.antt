@@ -8,27 +8,37 @@ use denote.Ref.{now}
 use borrow.Author.Needs.{needs}
 use borrow.Author.Tests.{not-true, not-false}
 use Rattle.rules.specs.Bytes.{Aid, isSome, aidLength, aid}
-use Rattle.store.specs.Answers.{spot}
+use Rattle.rules.specs.Store.{firstEntry}
+use Rattle.rules.specs.Operations.{isDomain}
+use Rattle.store.specs.Entries.{StandFrom}
+use Rattle.store.specs.Answers.{spot, SpotAt}
 use Rattle.store.specs.declared.Spot.{Spot}
 use Rattle.store.proofs.Sound.{over-stand, created-is}
 use Rattle.places.specs.Reads.{Ends}
 use Rattle.homes.specs.Homes.{aidAt}
 use Rattle.homes.proofs.Domains.{aid-inside}
-use Rattle.judge.specs.Says.{FileSays}
+use Rattle.judge.specs.Says.{usedAt, FileSays}
 use Rattle.judge.proofs.Loading as loading
+use Rattle.judge.proofs.Stages as stages
 use Rattle.judge.proofs.load_answer.Statement.{statement}
 use Rattle.judge.proofs.load_answer.Tie as tie
 
 -- the function's start, where the domain's length was asked, and where the domain was looked for
 abbrev start : tie.After-length-ok → tie.Start
-start k = k .before .before .before .before .before .before .before
+start k = k .before .before .before .before .before .before .before .before
 
 abbrev begin : tie.After-find-domain → tie.Start
-begin k = start (k .before .before)
+begin k = start (k .before .before .before)
 
 -- the domain's AID has 5 to 16 bytes
 three : (k : tie.Else1) → aidLength (length (now (start (k .before) .args .domain))) ≡ true
 three k = let x = k .before .length-ok in sym (x .ensures) ∙ not-false (x .result) (k .if1 .left)
+
+-- it was looked for among all entries of the store
+found : (x : tie.After-find-domain) → let a = begin x .args in SpotAt (isDomain (now (a .domain))) (now (a .s)) (usedAt (now (a .s))) (x .find-domain .result)
+found x =
+    let a = begin x .args in
+    subst (λ (i : ℕ). SpotAt (isDomain (now (a .domain))) (now (a .s)) i (x .find-domain .result)) (x .before .u2-at .ensures .0) (x .find-domain .ensures)
 
 -- it stands two bytes behind its entry's start
 stands : (k : tie.After-at) →
@@ -39,8 +49,8 @@ stands k =
     let x = k .before .before in
     let b = begin x in
     let at = k .at .given .0 in
-    loading.domain-place (now (b .args .s)) (b .args .end) (now (b .args .domain)) (x .find-domain .result) (at .0) (at .1 .0) (x .find-domain .ensures)
-    (k .at .given .1) (b .pre .0) (three (x .before))
+    loading.domain-place (now (b .args .s)) (usedAt (now (b .args .s))) (now (b .args .domain)) (x .find-domain .result) (at .0) (at .1 .0) (found x)
+    (k .at .given .1) (b .pre .0) (three (x .before .before))
 
 length-ok-requires : tie.Need-length-ok-requires
 length-ok-requires c κs = search needs
@@ -49,10 +59,16 @@ returns : tie.Need-returns
 returns c =
     let k = c .before in
     let a = start k .args in
-    loading.load-3 (now (a .s)) (a .end) (now (a .domain)) (now (a .file)) (sym (k .length-ok .ensures) ∙ not-true (k .length-ok .result) (c .if1 .taken))
+    loading.load-3 (now (a .s)) (usedAt (now (a .s))) (now (a .domain)) (now (a .file)) (sym (k .length-ok .ensures) ∙ not-true (k .length-ok .result) (c .if1 .taken))
+
+u2-at-requires : tie.Need-u2-at-requires
+u2-at-requires c κs = let b = start (c .before) in stages.used-inside (now (b .args .s)) (b .pre .0)
 
 find-domain-requires : tie.Need-find-domain-requires
-find-domain-requires c κs = let b = start (c .before) in over-stand (now (b .args .s)) (b .args .end) (b .pre .0)
+find-domain-requires c κs =
+    let b = start (c .before .before) in
+    let s = now (b .args .s) in
+    subst (StandFrom s (firstEntry s)) (sym (c .u2-at .ensures .0)) (over-stand s (usedAt s) (b .pre .0))
 
 enum-known-at : tie.Need-enum-known-at
 enum-known-at c = search needs
@@ -62,7 +78,7 @@ add-file-answer c = omega (arith, aid-inside ((stands (c .before)) .0))
 
 file-answer-requires : tie.Need-file-answer-requires
 file-answer-requires c κs =
-    let k = c .before .before in
+    let k = c .before .before .before in
     let pre = begin (k .before .before) .pre in
     ((pre .0, (stands k) .0), pre .1)
 
@@ -72,25 +88,28 @@ enum-told c = search needs
 same-length : tie.Need-same-length
 same-length c = search needs
 
+same-length-2 : tie.Need-same-length-2
+same-length-2 c = search needs
+
 returns-2 : tie.Need-returns-2
 returns-2 c =
-    let file = c .before .before .file-answer in
-    let k = c .before .before .before .before .before in
+    let file = c .before .before .before .before .file-answer in
+    let k = c .before .before .before .before .before .before .before .before in
     let x = k .before .before in
     let a = begin x .args in
-    let says = subst (λ (d : Aid). FileSays (now (a .s)) (a .end) d (now (a .file)) (file .result)) (sym ((stands k) .1)) (file .ensures) in
-    loading.load-file (now (a .s)) (a .end) (now (a .domain)) (now (a .file)) (three (x .before))
-    (λ es o. ap (λ (y : Spot). isSome (spot y)) (sym (k .at .given .1)) ∙ created-is (now (a .s)) (a .end) (now (a .domain)) (x .find-domain .result)
-    (x .find-domain .ensures) es o)
+    let says = subst (λ (d : Aid). FileSays (now (a .s)) (usedAt (now (a .s))) d (now (a .file)) (file .result)) (sym ((stands k) .1)) (file .ensures) in
+    loading.load-file (now (a .s)) (usedAt (now (a .s))) (now (a .domain)) (now (a .file)) (three (x .before .before))
+    (λ es o. ap (λ (y : Spot). isSome (spot y)) (sym (k .at .given .1)) ∙ created-is (now (a .s)) (usedAt (now (a .s))) (now (a .domain))
+    (x .find-domain .result) (found x) es o)
     (file .result) says
 
 returns-3 : tie.Need-returns-3
 returns-3 c =
     let x = c .before .before in
     let a = begin x .args in
-    loading.load-5 (now (a .s)) (a .end) (now (a .domain)) (now (a .file)) (three (x .before))
-    (λ es o. ap (λ (y : Spot). isSome (spot y)) (sym (c .enum-told .given .1)) ∙ created-is (now (a .s)) (a .end) (now (a .domain)) (x .find-domain .result)
-    (x .find-domain .ensures) es o)
+    loading.load-5 (now (a .s)) (usedAt (now (a .s))) (now (a .domain)) (now (a .file)) (three (x .before .before))
+    (λ es o. ap (λ (y : Spot). isSome (spot y)) (sym (c .enum-told .given .1)) ∙ created-is (now (a .s)) (usedAt (now (a .s))) (now (a .domain))
+    (x .find-domain .result) (found x) es o)
 
 pub load-answer-spec : {M : Type 1} → statement M
 load-answer-spec =
@@ -98,11 +117,13 @@ load-answer-spec =
     (tie.spec
     length-ok-requires
     returns
+    u2-at-requires
     find-domain-requires
     enum-known-at
     add-file-answer
     file-answer-requires
     enum-told
     same-length
+    same-length-2
     returns-2
     returns-3)

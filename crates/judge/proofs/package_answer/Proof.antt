@@ -16,7 +16,6 @@ use Rattle.judge.proofs.package_answer.Statement.{statement}
 use Rattle.judge.proofs.package_answer.Tie as tie
 use Rattle.judge.proofs.package_answer.Reads as reads
 use Rattle.judge.proofs.package_answer.Lts as lts
-use Rattle.store.proofs.limits_of.Reads as limits-of-reads
 use Rattle.depths.proofs.parents_ok.Reads as parents-ok-reads
 use Rattle.imports.proofs.imports_there.Reads as imports-there-reads
 use Rattle.imports.proofs.package_new.Reads as package-new-reads

@@ -16,8 +16,8 @@ use Rattle.judge.proofs.package_sound.Statement.{statement}
 use Rattle.judge.proofs.package_sound.Tie as tie
 
 -- the function's start: where 10 to 19 are asked, where they were answered, where that was yes, and where 20 is asked
-abbrev start : tie.After-slice-known3 → tie.Start
-start k = k .before .before .before .before
+abbrev start : tie.After-slice-known4 → tie.Start
+start k = k .before .before .before .before .before
 
 abbrev begin : tie.After-inside-answer → tie.Start
 begin k = start (k .before .before .before .before .before)
@@ -25,7 +25,7 @@ begin k = start (k .before .before .before .before .before)
 abbrev answered : tie.After-enum-told2 → tie.After-inside-answer
 answered k = k .before .before .before
 
-abbrev told : tie.After-slice-known4 → tie.After-enum-told2
+abbrev told : tie.After-slice-known5 → tie.After-enum-told2
 told k = k .before .before .before .before .before
 
 -- the domain and the file of the entry
@@ -43,17 +43,17 @@ asked k =
     loading.asked-inside (now (b .args .s)) (b .args .x .at) (domain b) (file b) (answer .result) (answer .ensures .0) (k .enum-told2 .given .0 .0)
     (k .enum-told2 .given .1) (b .pre .0 .0)
 
+sub-g : tie.Need-sub-g
+sub-g c = let t = start c .pre .0 .1 in omega (arith, t .file, t .stands .to)
+
+part-g-start : tie.Need-part-g-start
+part-g-start c = let t = start c .pre .0 .1 in omega (arith, t .file, t .stands .to)
+
+part-g-end : tie.Need-part-g-end
+part-g-end c = let t = start c .pre .0 .1 in omega (arith, t .file, t .stands .to)
+
 add-inside-answer : tie.Need-add-inside-answer
-add-inside-answer c = omega (arith, aid-inside (start c .pre .0 .1 .domain))
-
-sub-inside-answer : tie.Need-sub-inside-answer
-sub-inside-answer c = let t = start c .pre .0 .1 in omega (arith, t .file, t .stands .to)
-
-part-inside-answer-start : tie.Need-part-inside-answer-start
-part-inside-answer-start c = let t = start c .pre .0 .1 in omega (arith, t .file, t .stands .to)
-
-part-inside-answer-end : tie.Need-part-inside-answer-end
-part-inside-answer-end c = let t = start c .pre .0 .1 in omega (arith, t .file, t .stands .to)
+add-inside-answer c = omega (arith, aid-inside (start (c .before) .pre .0 .1 .domain))
 
 slice-aggregate-inside-answer : tie.Need-slice-aggregate-inside-answer
 slice-aggregate-inside-answer c = search needs
@@ -88,15 +88,6 @@ keep-depths-requires c κs =
 add-running-number : tie.Need-add-running-number
 add-running-number c = omega (arith, aid-inside (begin (answered (told c)) .pre .0 .1 .domain))
 
-sub-running-number : tie.Need-sub-running-number
-sub-running-number c = let t = begin (answered (told c)) .pre .0 .1 in omega (arith, t .file, t .stands .to)
-
-part-running-number-start : tie.Need-part-running-number-start
-part-running-number-start c = let t = begin (answered (told c)) .pre .0 .1 in omega (arith, t .file, t .stands .to)
-
-part-running-number-end : tie.Need-part-running-number-end
-part-running-number-end c = let t = begin (answered (told c)) .pre .0 .1 in omega (arith, t .file, t .stands .to)
-
 running-number-requires : tie.Need-running-number-requires
 running-number-requires c κs =
     let k = told (c .before .before .before) in
@@ -126,7 +117,7 @@ later c =
 
 returns : tie.Need-returns
 returns c =
-    let ran = c .before .before .before in
+    let ran = c .before .before .before .before .before in
     let b = begin (answered (told (ran .before .before .before .before))) in (
       packages.entry-no (now (b .args .s)) (b .args .x) (b .pre .0 .1) (ran .running-number .result) (c .if1 .taken) (later ran),
       λ e. let z : _≡_ {A = ℕ} 0 1 = cc in absurd (omega arith),
@@ -134,7 +125,7 @@ returns c =
 
 enter-package-requires : tie.Need-enter-package-requires
 enter-package-requires c κs =
-    let ran = c .before .before .before .before in
+    let ran = c .before .before .before .before .before .before in
     let k = told (ran .before .before .before .before) in
     let b = begin (answered k) in
     let pre = b .pre in
@@ -171,9 +162,15 @@ same-length-7 c = search needs
 same-length-8 : tie.Need-same-length-8
 same-length-8 c = search needs
 
+same-length-9 : tie.Need-same-length-9
+same-length-9 c = search needs
+
+same-length-10 : tie.Need-same-length-10
+same-length-10 c = search needs
+
 returns-3 : tie.Need-returns-3
 returns-3 c =
-    let ran = c .before .before .before .before .before .before .before in
+    let ran = c .before .before .before .before .before .before .before .before .before in
     let four = ran .before .before .before .before in
     let keep = four .before .before .keep-depths in
     let k = told four in
@@ -190,10 +187,10 @@ pub package-sound-spec : {M : Type 1} → statement M
 package-sound-spec =
     tie.close
     (tie.spec
+    sub-g
+    part-g-start
+    part-g-end
     add-inside-answer
-    sub-inside-answer
-    part-inside-answer-start
-    part-inside-answer-end
     slice-aggregate-inside-answer
     inside-answer-requires
     enum-told
@@ -201,19 +198,18 @@ package-sound-spec =
     slice-aggregate-keep-depths
     keep-depths-requires
     add-running-number
-    sub-running-number
-    part-running-number-start
-    part-running-number-end
     running-number-requires
     same-length
     same-length-2
     same-length-3
+    same-length-4
     returns
     enter-package-requires
-    same-length-4
     same-length-5
-    returns-2
     same-length-6
+    returns-2
     same-length-7
     same-length-8
+    same-length-9
+    same-length-10
     returns-3)

@@ -7,7 +7,6 @@ use Rattle.judge.proofs.parents_answer.Statement.{statement}
 use Rattle.judge.proofs.parents_answer.Tie as tie
 use Rattle.judge.proofs.parents_answer.Reads as reads
 use Rattle.judge.proofs.parents_answer.Lts as lts
-use Rattle.store.proofs.limits_of.Reads as limits-of-reads
 use Rattle.judge.proofs.package_answer.Reads as package-answer-reads
 use Rattle.reader.proofs.read_package.Reads as read-package-reads
 

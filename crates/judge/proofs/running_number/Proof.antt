@@ -16,17 +16,17 @@ use Rattle.judge.proofs.running_number.Statement.{statement}
 use Rattle.judge.proofs.running_number.Tie as tie
 
 -- the function's start, where 20 is asked, and where it was answered
-abbrev start : tie.After-running-ok-arg → tie.Start
-start k = k .before .before .before .before .before
+abbrev start : tie.After-running-ok-arg2 → tie.Start
+start k = k .before .before .before .before .before .before .before
 
-abbrev asked : tie.After-slice-known2 → tie.After-running-ok
-asked k = k .before .before
+abbrev asked : tie.After-slice-known4 → tie.After-running-ok
+asked k = k .before .before .before .before
 
-abbrev begin : tie.After-slice-known2 → tie.Start
+abbrev begin : tie.After-slice-known4 → tie.Start
 begin k = start (asked k .before)
 
 -- the answer to 20
-twenty : (k : tie.After-slice-known2) (r : Bool) → asked k .running-ok .result ≡ r →
+twenty : (k : tie.After-slice-known4) (r : Bool) → asked k .running-ok .result ≡ r →
     let a = begin k .args in
     RunningIs (now (a .file)) (now (a .s)) (a .end) (a .domain) r
 twenty k r e = let a = begin k .args in subst (RunningIs (now (a .file)) (now (a .s)) (a .end) (a .domain)) e (asked k .running-ok .ensures)
@@ -50,7 +50,7 @@ running-ok-requires c κs =
     let a = start c .args in
     let pre = start c .pre in (
       stages.judged-there (now (a .s)) (a .end) (aidAt (now (a .s)) (a .domain)) (now (a .file)) (a .domain) (pre .0 .2) refl (pre .0 .0),
-      ((pre .0 .1, pre .1 .0), pre .1 .1),
+      ((pre .0 .1, pre .1 .0), (pre .1 .1 .0, pre .1 .1 .1)),
     )
 
 same-length : tie.Need-same-length
@@ -92,6 +92,15 @@ returns-2 c = number (c .before) false (not-true _ (c .if2 .taken))
 same-length-3 : tie.Need-same-length-3
 same-length-3 c = search needs
 
+same-length-4 : tie.Need-same-length-4
+same-length-4 c = search needs
+
+same-length-5 : tie.Need-same-length-5
+same-length-5 c = search needs
+
+same-length-6 : tie.Need-same-length-6
+same-length-6 c = search needs
+
 returns-3 : tie.Need-returns-3
 returns-3 c = number (c .before) true (not-false _ (c .if2 .left))
 
@@ -101,10 +110,13 @@ running-number-spec =
     (tie.spec
     running-ok-requires
     same-length
+    same-length-2
     returns
     aid-bytes-requires
     package-fits-requires
-    same-length-2
-    returns-2
     same-length-3
+    same-length-4
+    returns-2
+    same-length-5
+    same-length-6
     returns-3)

@@ -1,8 +1,10 @@
 -- `loader::loader_fresh` keeps its promise. Assumes nothing.
+use Rattle.rules.specs.Store.{version1}
 use Rattle.loader.proofs.Additions as additions
 use borrow.Author.Tests.{not-true, not-false}
 use denote.Ref.{now}
 use mathlib.Core.Path.{sym, _∙_}
+use native.Mathlib.Omega.{arith}
 use borrow.Author.Needs.{needs}
 use Rattle.loader.proofs.loader_fresh.Statement.{statement}
 use Rattle.loader.proofs.loader_fresh.Tie as tie
@@ -17,14 +19,15 @@ returns : tie.Need-returns
 returns c =
     let start = c .before .before .before .before in
     let size = c .before .size-ok in
-    additions.fresh-refused (now (start .args .store)) (sym (size .ensures) ∙ not-true (size .result) (c .if1 .taken))
+    additions.fresh-refused (now (start .args .store)) version1 (sym (size .ensures) ∙ not-true (size .result) (c .if1 .taken))
 
 write-fresh-requires : tie.Need-write-fresh-requires
 write-fresh-requires c κs =
     let c1 = c .before .before in
     let size = c1 .size-ok in
     let start = c1 .before .before .before in
-    additions.fresh-room (now (start .args .store)) (sym (size .ensures) ∙ not-false (size .result) (c .before .if1 .left))
+    let room = additions.fresh-room (now (start .args .store)) (sym (size .ensures) ∙ not-false (size .result) (c .before .if1 .left)) in
+    omega (arith, room)
 
 same-length-2 : tie.Need-same-length-2
 same-length-2 c = search needs

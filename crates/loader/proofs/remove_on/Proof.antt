@@ -1,10 +1,9 @@
 -- `loader::remove_on` leaves what a removal in a sound store does. Assumes nothing.
-use Rattle.rules.specs.Package.{Limits, storeLimits}
-use Rattle.rules.specs.Operations.{remove, without, isPackage}
-use Rattle.rules.proofs.Limits.{store-limits}
+use Rattle.rules.specs.Store.{storeLimits}
+use Rattle.rules.specs.Operations.{remove, isPackage}
 use Rattle.loader.proofs.Cuts as cuts
 use denote.Ref.{now}
-use mathlib.Core.Path.{sym, ap}
+use mathlib.Core.Path.{refl}
 use borrow.Author.Needs.{needs}
 use Rattle.loader.proofs.remove_on.Statement.{statement}
 use Rattle.loader.proofs.remove_on.Tie as tie
@@ -57,7 +56,7 @@ returns-2 c =
     let aid = now (start .args .«package») in
     cuts.cut-done (now (start .args .store)) (start .args .used) (start .pre) (remove aid) (isPackage (storeLimits (now (start .args .store))) aid)
     (answer .result) (answer .ensures) (known .given .0 .0) (known .given .0 .1 .0) _ (known .given .1)
-    (λ es. ap (λ (l : Limits). without (isPackage l aid) es) (sym (store-limits (now (start .args .store))))) (cut .ensures)
+    (λ es. refl) (cut .ensures)
 
 pub remove-on-spec : {M : Type 1} → statement M
 remove-on-spec =

@@ -83,6 +83,26 @@ parents-pass-Inv-loop f s index names seen₀ slots₀ v count i₀ seen slots i
 abbrev parents-pass-μ-loop : parents-pass-lts.MeasureT-loop
 parents-pass-μ-loop f s index names seen₀ slots₀ v count i₀ seen slots i = count - i
 
+-- the function's start, where the class's bit is asked; that where its record is at hand
+abbrev class-start : (t : ℕ) → class-passes-lts.After-get (class-passes-claims t) (class-passes-at t) class-passes.Post →
+    class-passes-lts.Start (class-passes-claims t) (class-passes-at t) class-passes.Post
+class-start t k = k .before .before .before .before .before .before .before .before .before
+
+abbrev class-begin : (t : ℕ) → class-passes-lts.After-placed (class-passes-claims t) (class-passes-at t) class-passes.Post →
+    class-passes-lts.Start (class-passes-claims t) (class-passes-at t) class-passes.Post
+class-begin t k = class-start t (k .before .before .before)
+
+-- the function's start, where the parents are counted; that where a parent is at hand
+abbrev parents-start : (t : ℕ) →
+    parents-pass-lts.After-parents-in (parents-pass-claims t) (parents-pass-at t) parents-pass.Post parents-pass-Inv-loop parents-pass-μ-loop →
+    parents-pass-lts.Start (parents-pass-claims t) (parents-pass-at t) parents-pass.Post parents-pass-Inv-loop parents-pass-μ-loop
+parents-start t k = k .before .before .before .before .before .before
+
+abbrev counted : (t : ℕ) →
+    parents-pass-lts.In-loop (parents-pass-claims t) (parents-pass-at t) parents-pass.Post parents-pass-Inv-loop parents-pass-μ-loop →
+    parents-pass-lts.After-parents-in (parents-pass-claims t) (parents-pass-at t) parents-pass.Post parents-pass-Inv-loop parents-pass-μ-loop
+counted t k = k .before .before
+
 class-passes-cast-bit : (t : ℕ) →
     class-passes-lts.Need-cast-bit (class-passes-claims t) (class-passes-at t) class-passes.Post
 class-passes-cast-bit t c = search needs
@@ -98,7 +118,7 @@ class-passes-cast-bit-2 t c = search needs
 class-passes-add-bit : (t : ℕ) →
     class-passes-lts.Need-add-bit (class-passes-claims t) (class-passes-at t) class-passes.Post
 class-passes-add-bit t c =
-    let b = c .before .before .before .before .before .before in
+    let b = c .before .before .before .before .before .before .before in
     let f = now (b .args .f) in
     let s = now (b .args .s) in
     let v = b .args .v in
@@ -107,7 +127,7 @@ class-passes-add-bit t c =
 class-passes-get-requires : (t : ℕ) →
     class-passes-lts.Need-get-requires (class-passes-claims t) (class-passes-at t) class-passes.Post
 class-passes-get-requires t c κs =
-    let b = c .before .before .before .before .before .before .before in
+    let b = c .before .before .before .before .before .before .before .before in
     let f = now (b .args .f) in
     let s = now (b .args .s) in
     let v = b .args .v in
@@ -120,36 +140,32 @@ class-passes-same-length t c = search needs
 class-passes-returns : (t : ℕ) →
     class-passes-lts.Need-returns (class-passes-claims t) (class-passes-at t) class-passes.Post
 class-passes-returns t c =
-    let b = c .before .before .before .before .before .before .before .before .before in
+    let b = class-start t (c .before) in
     let f = now (b .args .f) in
     let s = now (b .args .s) in
     let v = b .args .v in
     let m = b .pre .1 .1 .0 in (
       walk.class-seen f s (v .end) (v .domain) (v .own) (visitHome v) (v .number) (now (b .args .seen)) m (sym (c .before .get .ensures) ∙ c .if1 .taken),
-      (
-        m,
-        b .pre .1
-            .1 .1,
-      ),
+      (m, b .pre .1 .1 .1),
     )
 
 class-passes-placed-requires : (t : ℕ) →
     class-passes-lts.Need-placed-requires (class-passes-claims t) (class-passes-at t) class-passes.Post
 class-passes-placed-requires t c κs =
-    let b = c .before .before .before .before .before .before .before .before .before .before in
+    let b = class-start t (c .before .before) in
     ((b .pre .1 .0 .there, b .pre .1 .0 .small), b .pre .1 .1 .1)
 
 class-passes-methods-apart-requires : (t : ℕ) →
     class-passes-lts.Need-methods-apart-requires (class-passes-claims t) (class-passes-at t) class-passes.Post
 class-passes-methods-apart-requires t c κs =
-    let b = c .before .before .before .before .before .before .before .before .before .before .before in
+    let b = class-begin t c in
     let f = now (b .args .f) in
     let s = now (b .args .s) in
     let v = b .args .v in
     let w = c .placed .result in
     let p = c .placed .ensures .0 in
     let from = steps.placed-from f s v w p (now (b .args .index)) (now (b .args .names)) (b .pre .1 .0) in
-    (visits.visit-placed f s v (b .pre .1 .0 .there) w p, (from .chain, from .size))
+    ((visits.visit-placed f s v (b .pre .1 .0 .there) w p, from .small), from .chain)
 
 class-passes-same-length-2 : (t : ℕ) →
     class-passes-lts.Need-same-length-2 (class-passes-claims t) (class-passes-at t) class-passes.Post
@@ -158,29 +174,31 @@ class-passes-same-length-2 t c = search needs
 class-passes-returns-2 : (t : ℕ) →
     class-passes-lts.Need-returns-2 (class-passes-claims t) (class-passes-at t) class-passes.Post
 class-passes-returns-2 t c =
-    let b = c .before .before .before .before .before .before .before .before .before .before .before .before .before in
+    let k = c .before .before in
+    let b = class-begin t k in
     let f = now (b .args .f) in
     let s = now (b .args .s) in
     let v = b .args .v in
-    let w = c .before .before .placed .result in
-    let p = c .before .before .placed .ensures .0 in
+    let w = k .placed .result in
+    let p = k .placed .ensures .0 in
     let m = c .before .methods-apart in
     let fails = subst (Passing MethodsPass f s w) (not-true (m .result) (c .if2 .taken)) (m .ensures) in
-    (steps.methods-no f s v w p fails, (b .pre .1 .1 .0, c .before .before .placed .ensures .1))
+    (steps.methods-no f s v w p fails, (b .pre .1 .1 .0, k .placed .ensures .1))
 
 class-passes-parents-pass-requires : (t : ℕ) →
     class-passes-lts.Need-parents-pass-requires (class-passes-claims t) (class-passes-at t) class-passes.Post
 class-passes-parents-pass-requires t c κs =
-    let b = c .before .before .before .before .before .before .before .before .before .before .before .before .before .before .before in
+    let k = c .before .before .before .before in
+    let b = class-begin t k in
     let f = now (b .args .f) in
     let s = now (b .args .s) in
     let v = b .args .v in
-    let w = c .before .before .before .before .placed .result in
-    let p = c .before .before .before .before .placed .ensures .0 in
+    let w = k .placed .result in
+    let p = k .placed .ensures .0 in
     let from = steps.placed-from f s v w p (now (b .args .index)) (now (b .args .names)) (b .pre .1 .0) in
     let seen = steps.placed-seen f s v w p (now (b .args .seen)) (b .pre .1 .1 .0) in
     let placed = visits.visit-placed f s v (b .pre .1 .0 .there) w p in
-    (omega (arith, b .pre .0, steps.placed-rank f s v w p), ((from, placed), (seen, c .before .before .before .before .placed .ensures .1)))
+    (omega (arith, b .pre .0, steps.placed-rank f s v w p), ((from, placed), (seen, k .placed .ensures .1)))
 
 class-passes-same-length-3 : (t : ℕ) →
     class-passes-lts.Need-same-length-3 (class-passes-claims t) (class-passes-at t) class-passes.Post
@@ -189,27 +207,28 @@ class-passes-same-length-3 t c = search needs
 class-passes-returns-3 : (t : ℕ) →
     class-passes-lts.Need-returns-3 (class-passes-claims t) (class-passes-at t) class-passes.Post
 class-passes-returns-3 t c =
-    let b = c .before .before .before .before .before .before .before .before .before .before .before .before .before .before .before .before .before
-    .before .before in
+    let called = c .before .before .before in
+    let k = called .before .before .before .before .before in
+    let b = class-begin t k in
     let f = now (b .args .f) in
     let s = now (b .args .s) in
     let v = b .args .v in
-    let w = c .before .before .before .before .before .before .before .before .placed .result in
-    let p = c .before .before .before .before .before .before .before .before .placed .ensures .0 in
-    let n = c .before .before .before .parents-pass in
+    let w = k .placed .result in
+    let p = k .placed .ensures .0 in
+    let n = called .parents-pass in
     let fails = subst (Passing ParentsPass f s w) (not-true (n .result) (c .if3 .taken)) (n .ensures .0) in
     (steps.parents-no f s v w p fails, (steps.seen-placed f s v w p _ (n .ensures .1 .0), n .ensures .1 .1))
 
 class-passes-set-requires : (t : ℕ) →
     class-passes-lts.Need-set-requires (class-passes-claims t) (class-passes-at t) class-passes.Post
 class-passes-set-requires t c κs =
-    let b = c .before .before .before .before .before .before .before .before .before .before .before .before .before .before .before .before .before
-    .before .before .before in
+    let called = c .before .before .before .before in
+    let b = class-begin t (called .before .before .before .before .before) in
     let f = now (b .args .f) in
     let s = now (b .args .s) in
     let v = b .args .v in
     walk.key-inside f s (v .end) (v .domain) (v .own) (visitHome v) (v .number) (b .pre .1 .0 .there) _
-    (c .before .before .before .before .parents-pass .ensures .1 .0 .room)
+    (called .parents-pass .ensures .1 .0 .room)
 
 class-passes-same-length-4 : (t : ℕ) →
     class-passes-lts.Need-same-length-4 (class-passes-claims t) (class-passes-at t) class-passes.Post
@@ -218,18 +237,20 @@ class-passes-same-length-4 t c = search needs
 class-passes-returns-4 : (t : ℕ) →
     class-passes-lts.Need-returns-4 (class-passes-claims t) (class-passes-at t) class-passes.Post
 class-passes-returns-4 t c =
-    let b = c .before .before .before .before .before .before .before .before .before .before .before .before .before .before .before .before .before
-    .before .before .before .before .before .before in
+    let passed = c .before .before .before .before in
+    let called = passed .before .before .before in
+    let asked = called .before .before .before in
+    let k = asked .before .before in
+    let b = class-begin t k in
     let f = now (b .args .f) in
     let s = now (b .args .s) in
     let v = b .args .v in
-    let w = c .before .before .before .before .before .before .before .before .before .before .before .before .placed .result in
-    let p = c .before .before .before .before .before .before .before .before .before .before .before .before .placed .ensures .0 in
-    let m = c .before .before .before .before .before .before .before .before .before .before .before .methods-apart in
-    let n = c .before .before .before .before .before .before .before .parents-pass in
-    let methods = subst (Passing MethodsPass f s w) (not-false (m .result) (c .before .before .before .before .before .before .before .before .before
-    .before .if2 .left)) (m .ensures) in
-    let parents = subst (Passing ParentsPass f s w) (not-false (n .result) (c .before .before .before .before .if3 .left)) (n .ensures .0) in
+    let w = k .placed .result in
+    let p = k .placed .ensures .0 in
+    let m = asked .before .methods-apart in
+    let n = called .parents-pass in
+    let methods = subst (Passing MethodsPass f s w) (not-false (m .result) (asked .if2 .left)) (m .ensures) in
+    let parents = subst (Passing ParentsPass f s w) (not-false (n .result) (passed .if3 .left)) (n .ensures .0) in
     let passes = steps.both-yes f s v w p methods parents in
     let seen = steps.seen-placed f s v w p _ (n .ensures .1 .0) in (
       passes,
@@ -242,12 +263,12 @@ class-passes-returns-4 t c =
 
 parents-pass-parents-in-requires : (t : ℕ) →
     parents-pass-lts.Need-parents-in-requires (parents-pass-claims t) (parents-pass-at t) parents-pass.Post parents-pass-Inv-loop parents-pass-μ-loop
-parents-pass-parents-in-requires t c κs = c .before .before .before .before .pre .1 .0 .1
+parents-pass-parents-in-requires t c κs = c .before .before .before .before .before .pre .1 .0 .1
 
 parents-pass-loop-holds : (t : ℕ) →
     parents-pass-lts.Need-loop-holds (parents-pass-claims t) (parents-pass-at t) parents-pass.Post parents-pass-Inv-loop parents-pass-μ-loop
 parents-pass-loop-holds t c =
-    let b = c .before .before .before .before .before in
+    let b = parents-start t c in
     let f = now (b .args .f) in
     let s = now (b .args .s) in
     let v = b .args .v in
@@ -256,40 +277,35 @@ parents-pass-loop-holds t c =
 parents-pass-parent-apart-requires : (t : ℕ) →
     parents-pass-lts.Need-parent-apart-requires (parents-pass-claims t) (parents-pass-at t) parents-pass.Post parents-pass-Inv-loop parents-pass-μ-loop
 parents-pass-parent-apart-requires t c κs =
-    let b = c .before .before .before .before .before .before .before .before in
+    let k = c .before in
+    let b = parents-start t (counted t k) in
     let f = now (b .args .f) in
     let s = now (b .args .s) in
     let v = b .args .v in
-    let n = c .before .before .before .parents-in in
-    let placed = steps.parent-placed f s v (n .result) (c .before .before .loop .i) (n .ensures .0) (c .before .loop-test .taken) (b .pre .1 .0 .1) in
-    ((placed, b .pre .1 .0 .0 .small), (b .pre .1 .0 .0 .indexed, c .before .before .loop .inv .2))
+    let n = counted t k .parents-in in
+    let placed = steps.parent-placed f s v (n .result) (k .before .loop .i) (n .ensures .0) (k .loop-test .taken) (b .pre .1 .0 .1) in
+    ((placed, b .pre .1 .0 .0 .small), (b .pre .1 .0 .0 .indexed, k .before .loop .inv .2))
 
 parents-pass-class-passes-requires : (t : ℕ) →
     parents-pass-lts.Need-class-passes-requires (parents-pass-claims t) (parents-pass-at t) parents-pass.Post parents-pass-Inv-loop parents-pass-μ-loop
 parents-pass-class-passes-requires t c κs =
-    let b = c .before .before .before .before .before .before .before .before .before .before .before in
+    let found = c .before .before in
+    let k = found .before .before in
+    let b = parents-start t (counted t k) in
     let f = now (b .args .f) in
     let s = now (b .args .s) in
     let v = b .args .v in
-    let n = c .before .before .before .before .before .before .parents-in in
-    let i = c .before .before .before .before .before .loop .i in
-    let z = c .before .before .before .before .loop-test .taken in
-    let w = c .before .before .parent-apart .result in
-    let p = c .before .before .parent-apart .ensures .0 in
+    let n = counted t k .parents-in in
+    let i = k .before .loop .i in
+    let z = k .loop-test .taken in
+    let w = found .parent-apart .result in
+    let p = found .parent-apart .ensures .0 in
     let index = now (b .args .index) in
     let names = now (b .args .names) in
     let less = steps.parent-less f s v (n .result) i (n .ensures .0) z w p index names (b .pre .1 .0 .0) in
-    let from = steps.parent-from f s v (n .result) i (n .ensures .0) z w p index names (b .pre .1 .0 .0) in (
-      omega (arith, b .pre .0, less),
-      (
-        from,
-        (
-          steps.parent-seen f s v (n .result) i (n .ensures .0) z w p _ (c .before .before .before .before .before .loop
-              .inv .1),
-          c .before .before .parent-apart .ensures .1,
-        ),
-      ),
-    )
+    let from = steps.parent-from f s v (n .result) i (n .ensures .0) z w p index names (b .pre .1 .0 .0) in
+    let seen = steps.parent-seen f s v (n .result) i (n .ensures .0) z w p _ (k .before .loop .inv .1) in
+    (omega (arith, b .pre .0, less), (from, (seen, found .parent-apart .ensures .1)))
 
 parents-pass-same-length : (t : ℕ) →
     parents-pass-lts.Need-same-length (parents-pass-claims t) (parents-pass-at t) parents-pass.Post parents-pass-Inv-loop parents-pass-μ-loop
@@ -298,34 +314,28 @@ parents-pass-same-length t c = omega (arith, c .before .before .before .before .
 parents-pass-returns : (t : ℕ) →
     parents-pass-lts.Need-returns (parents-pass-claims t) (parents-pass-at t) parents-pass.Post parents-pass-Inv-loop parents-pass-μ-loop
 parents-pass-returns t c =
-    let b = c .before .before .before .before .before .before .before .before .before .before .before .before .before .before .before in
+    let called = c .before .before .before in
+    let found = called .before .before .before in
+    let k = found .before .before in
+    let b = parents-start t (counted t k) in
     let f = now (b .args .f) in
     let s = now (b .args .s) in
     let v = b .args .v in
-    let n = c .before .before .before .before .before .before .before .before .before .before .parents-in in
-    let i = c .before .before .before .before .before .before .before .before .before .loop .i in
-    let z = c .before .before .before .before .before .before .before .before .loop-test .taken in
-    let w = c .before .before .before .before .before .before .parent-apart .result in
-    let p = c .before .before .before .before .before .before .parent-apart .ensures .0 in
-    let r = c .before .before .before .class-passes in
-    let fails = subst (Passing ClassPasses f s w) (not-true (r .result) (c .if1 .taken)) (r .ensures .0) in (
-      steps.parent-no f s v (n .result) i (n .ensures .0) z w p fails,
-      (
-        steps.seen-parent f s v (n .result) i (n .ensures .0) z w p _ (r .ensures .1 .0),
-        r
-            .ensures .1 .1,
-      ),
-    )
+    let n = counted t k .parents-in in
+    let i = k .before .loop .i in
+    let z = k .loop-test .taken in
+    let w = found .parent-apart .result in
+    let p = found .parent-apart .ensures .0 in
+    let r = called .class-passes in
+    let fails = subst (Passing ClassPasses f s w) (not-true (r .result) (c .if1 .taken)) (r .ensures .0) in
+    let seen = steps.seen-parent f s v (n .result) i (n .ensures .0) z w p _ (r .ensures .1 .0) in
+    (steps.parent-no f s v (n .result) i (n .ensures .0) z w p fails, (seen, r .ensures .1 .1))
 
 parents-pass-add-i : (t : ℕ) →
     parents-pass-lts.Need-add-i (parents-pass-claims t) (parents-pass-at t) parents-pass.Post parents-pass-Inv-loop parents-pass-μ-loop
 parents-pass-add-i t c =
-    omega (
-      arith,
-      c .before .before .before .before .before .before .before .before .loop-test .taken,
-      c .before .before .before .before .before .before
-          .before .before .before .before .parents-in .ensures .1,
-    )
+    let k = c .before .before .before .before .before .before .before .before in
+    omega (arith, k .loop-test .taken, counted t k .parents-in .ensures .1)
 
 parents-pass-loop-less : (t : ℕ) →
     parents-pass-lts.Need-loop-less (parents-pass-claims t) (parents-pass-at t) parents-pass.Post parents-pass-Inv-loop parents-pass-μ-loop
@@ -334,28 +344,23 @@ parents-pass-loop-less t c = omega (arith, c .before .before .before .before .be
 parents-pass-loop-again : (t : ℕ) →
     parents-pass-lts.Need-loop-again (parents-pass-claims t) (parents-pass-at t) parents-pass.Post parents-pass-Inv-loop parents-pass-μ-loop
 parents-pass-loop-again t c =
-    let b = c .before .before .before .before .before .before .before .before .before .before .before .before .before .before .before in
+    let called = c .before .before .before in
+    let found = called .before .before .before in
+    let k = found .before .before in
+    let b = parents-start t (counted t k) in
     let f = now (b .args .f) in
     let s = now (b .args .s) in
     let v = b .args .v in
-    let n = c .before .before .before .before .before .before .before .before .before .before .parents-in in
-    let i = c .before .before .before .before .before .before .before .before .before .loop .i in
-    let z = c .before .before .before .before .before .before .before .before .loop-test .taken in
-    let w = c .before .before .before .before .before .before .parent-apart .result in
-    let p = c .before .before .before .before .before .before .parent-apart .ensures .0 in
-    let r = c .before .before .before .class-passes in
+    let n = counted t k .parents-in in
+    let i = k .before .loop .i in
+    let z = k .loop-test .taken in
+    let w = found .parent-apart .result in
+    let p = found .parent-apart .ensures .0 in
+    let r = called .class-passes in
     let passes = subst (Passing ClassPasses f s w) (not-false (r .result) (c .if1 .left)) (r .ensures .0) in
-    let more = steps.parent-yes f s v (n .result) i (n .ensures .0) z w p passes (c .before .before .before .before .before .before .before .before .before
-    .loop .inv .0) in (
-      more,
-      steps.seen-parent f s v (n .result) i (n .ensures .0) z w p _ (r .ensures .1 .0),
-      r .ensures .1 .1,
-      omega (
-        arith,
-        c .before .before .before
-            .before .before .before .before .before .before .loop .inv .3,
-      ),
-    )
+    let more = steps.parent-yes f s v (n .result) i (n .ensures .0) z w p passes (k .before .loop .inv .0) in
+    let seen = steps.seen-parent f s v (n .result) i (n .ensures .0) z w p _ (r .ensures .1 .0) in
+    (more, seen, r .ensures .1 .1, omega (arith, k .before .loop .inv .3))
 
 parents-pass-same-length-2 : (t : ℕ) →
     parents-pass-lts.Need-same-length-2 (parents-pass-claims t) (parents-pass-at t) parents-pass.Post parents-pass-Inv-loop parents-pass-μ-loop
@@ -364,7 +369,7 @@ parents-pass-same-length-2 t c = c .before .loop .inv .3
 parents-pass-returns-2 : (t : ℕ) →
     parents-pass-lts.Need-returns-2 (parents-pass-claims t) (parents-pass-at t) parents-pass.Post parents-pass-Inv-loop parents-pass-μ-loop
 parents-pass-returns-2 t c =
-    let b = c .before .before .before .before .before .before .before in
+    let b = parents-start t (c .before .before) in
     let f = now (b .args .f) in
     let s = now (b .args .s) in
     let v = b .args .v in

@@ -33,7 +33,7 @@ abbrev μ-loop : tie.MeasureT-loop
 
 -- the function's start, where the file is at hand; that where the list of methods is, and where the loop stands
 abbrev start : tie.After-file-of Inv-loop μ-loop → tie.Start Inv-loop μ-loop
-start k = k .before .before .before .before .before
+start k = k .before .before .before .before .before .before
 
 abbrev file : tie.After-methods-of Inv-loop μ-loop → tie.After-file-of Inv-loop μ-loop
 file k = k .before .before
@@ -165,7 +165,7 @@ home-of-requires c κs = search needs
 
 file-of-requires : tie.Need-file-of-requires Inv-loop μ-loop
 file-of-requires c κs =
-    let b = c .before .before .before .before in
+    let b = c .before .before .before .before .before in
     let a = b .args in
     subst (λ (h : Home). (h .from ≤ h .to) × (h .to ≤ length (now (a .s)))) (sym (c .home-of .ensures))
     (visits.visit-bounds (now (a .f)) (now (a .s)) (a .v) (b .pre .0 .there))
@@ -208,8 +208,8 @@ method-beside-requires c κs =
     let k = file (list (c .before)) in
     let b = start k in
     let a = b .args in
-    let chain = subst (NamesIs (now (a .f)) (now (a .s)) (now (a .names))) (sym (k .before .before .names-of .ensures)) (b .pre .1 .0) in
-    ((here c) .0, (chain, b .pre .1 .1))
+    let chain = subst (NamesIs (now (a .f)) (now (a .s)) (now (a .names))) (sym (k .before .before .names-of .ensures)) (b .pre .1) in
+    ((here c) .0, chain)
 
 enum-known-x : tie.Need-enum-known-x Inv-loop μ-loop
 enum-known-x c = search needs

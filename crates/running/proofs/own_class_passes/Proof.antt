@@ -13,7 +13,7 @@ use Rattle.running.proofs.own_class_passes.Statement.{statement}
 use Rattle.running.proofs.own_class_passes.Tie as tie
 
 -- the function's start, where the names are asked, and where the walk begins
-abbrev start : tie.After-none-run-arg → tie.Start
+abbrev start : tie.After-w → tie.Start
 start k = k .before .before .before .before .before .before
 
 abbrev begin : tie.After-own-home → tie.Start
@@ -26,7 +26,7 @@ visit k =
     k .visit-for .ensures ∙ ap (λ (h : Home). visitFor (o .names) (o .domain) h (o .names .own)) (k .before .own-home .ensures)
 
 none-run-requires : tie.Need-none-run-requires
-none-run-requires c κs = start c .pre .1 .0 .0
+none-run-requires c κs = start c .pre .1 .0
 
 returns : tie.Need-returns
 returns c =
@@ -58,10 +58,9 @@ visit-for-requires : tie.Need-visit-for-requires
 visit-for-requires c κs =
     let b = begin c in
     let a = b .args in
-    let n = b .pre .1 .0 in
     let z = b .pre .1 .1 .0 .1 in
     let own = b .pre .0 .0 in
-    let small = whole.names-small (now (a .f)) (now (a .s)) (now (a .names)) (a .o .names) (n .0) (n .1) z (own .0) in
+    let small = whole.names-small (now (a .f)) (now (a .s)) (now (a .names)) (a .o .names) (b .pre .1 .0) z (own .0) in
     let home = subst SmallHome (sym (c .own-home .ensures)) (whole.own-small (a .o .names .end) (small .end)) in
     (small, whole.domain-small (own .1) z, home, small .own)
 
@@ -72,9 +71,8 @@ class-passes-requires c κs =
     let a = b .args in
     let f = now (a .f) in
     let s = now (a .s) in
-    let n = b .pre .1 .0 in
     let i = b .pre .1 .1 .0 in
-    let from = whole.own-from f s (now (a .index)) (now (a .names)) (a .o) (b .pre .0 .1) (b .pre .0 .0) (n .0) (n .1) (i .0) (i .1) in
+    let from = whole.own-from f s (now (a .index)) (now (a .names)) (a .o) (b .pre .0 .1) (b .pre .0 .0) (b .pre .1 .0) (i .0) (i .1) in
     let cleared = k .before .before .before .before .clear-to .ensures in
     let seen = whole.seen-none f s (a .o .names .end) (a .o .domain) (a .o .names .own) _ (omega (arith, b .pre .1 .1 .1 .0)) cleared in
     (subst (WalkFrom f s (now (a .index)) (now (a .names))) (sym (visit k)) from, (whole.own-seen f s (a .o) _ _ (visit k) seen, b .pre .1 .1 .1 .1))

@@ -1,16 +1,17 @@
 -- `services::imported` meets its contract: none of the entries passed imports the AID. Assumes nothing.
 use Rattle.services.specs.Answers.{OtherSays}
+use Rattle.rules.specs.Store.{storeLimits}
 use Rattle.store.proofs.Find as found
-use Rattle.store.proofs.Walk.{walk-start}
+use Rattle.store.proofs.Walk.{Walk, walk-start}
 use Rattle.store.specs.Entries.{part}
-use Rattle.rules.specs.Package.{storeLimits}
 use Rattle.services.specs.Answers.{importer}
 use Rattle.services.proofs.Importers as importers
 use denote.Ref.{now}
 use Prim.Native.Nat.{_-_}
-use mathlib.Core.Path.{refl, subst}
+use mathlib.Core.Path.{refl, sym, subst}
 use mathlib.Core.Bool.{true, false}
 use native.Mathlib.Omega.{arith}
+use borrow.Author.Needs.{needs}
 use Rattle.services.proofs.imported.Statement.{statement}
 use Rattle.services.proofs.imported.Tie as tie
 
@@ -20,12 +21,15 @@ Inv-loop s end aid at₀ at = found.Walks (importer (storeLimits s) aid) s end a
 abbrev μ-loop : tie.MeasureT-loop
 μ-loop s end aid at₀ at = end - at
 
+first-entry-requires : tie.Need-first-entry-requires Inv-loop μ-loop
+first-entry-requires c κs = search needs
+
 loop-holds : tie.Need-loop-holds Inv-loop μ-loop
-loop-holds c = λ es r. walk-start r
+loop-holds c = λ es r. subst (Walk _ _ es _) (sym (c .first-entry .ensures)) (walk-start r)
 
 entry-at-requires : tie.Need-entry-at-requires Inv-loop μ-loop
 entry-at-requires c κs =
-    let start = c .before .before .before in
+    let start = c .before .before .before .before in
     found.walks-from (c .loop .inv) (start .pre .0, start .pre .1)
 
 enum-known-next : tie.Need-enum-known-next Inv-loop μ-loop
@@ -37,7 +41,7 @@ loop-less c =
     let read = c1 .entry-at in
     let c2 = c1 .before in
     let turn = c2 .loop in
-    let start = c2 .before .before .before in
+    let start = c2 .before .before .before .before in
     let x = found.domain-in (turn .inv) (start .pre .0, start .pre .1) (found.part-told (c .before .next .given .1) (read .ensures)) in
     omega (arith, x .2, x .3)
 
@@ -57,7 +61,7 @@ sub-other-imports c =
     let read = c1 .entry-at in
     let c2 = c1 .before in
     let turn = c2 .loop in
-    let start = c2 .before .before .before in
+    let start = c2 .before .before .before .before in
     let x = found.package-in (turn .inv) (start .pre .0, start .pre .1) (found.part-told (c .before .file .given .1) (read .ensures)) in
     omega (arith, x .0, x .1, x .2)
 
@@ -67,7 +71,7 @@ part-other-imports-start c =
     let read = c1 .entry-at in
     let c2 = c1 .before in
     let turn = c2 .loop in
-    let start = c2 .before .before .before in
+    let start = c2 .before .before .before .before in
     let x = found.package-in (turn .inv) (start .pre .0, start .pre .1) (found.part-told (c .before .file .given .1) (read .ensures)) in
     omega (arith, x .0, x .1, x .2)
 
@@ -77,7 +81,7 @@ part-other-imports-end c =
     let read = c1 .entry-at in
     let c2 = c1 .before in
     let turn = c2 .loop in
-    let start = c2 .before .before .before in
+    let start = c2 .before .before .before .before in
     let x = found.package-in (turn .inv) (start .pre .0, start .pre .1) (found.part-told (c .before .file .given .1) (read .ensures)) in
     omega (arith, x .0, x .1, x .2)
 
@@ -89,7 +93,7 @@ other-imports-requires c κs =
     let read = c2 .entry-at in
     let c3 = c2 .before in
     let turn = c3 .loop in
-    let start = c3 .before .before .before in (
+    let start = c3 .before .before .before .before in (
       storeLimits (now (start .args .s)),
       (found.package-reads (turn .inv) (found.part-told (known .given .1) (read .ensures)) (start .pre .0)
           (start .pre .1) (start .pre .2)) .0,
@@ -105,7 +109,7 @@ returns c =
     let read = c2 .entry-at in
     let c3 = c2 .before in
     let turn = c3 .loop in
-    let start = c3 .before .before .before in
+    let start = c3 .before .before .before .before in
     let aid = now (start .args .aid) in
     let s = now (start .args .s) in
     importers.imported-yes aid s (start .args .end) (turn .at) (turn .inv) (known .given .0 .0) (known .given .0 .1 .0) (known .given .0 .1 .1 .0)
@@ -123,7 +127,7 @@ loop-less-2 c =
     let read = c2 .entry-at in
     let c3 = c2 .before in
     let turn = c3 .loop in
-    let start = c3 .before .before .before in
+    let start = c3 .before .before .before .before in
     let x = found.package-in (turn .inv) (start .pre .0, start .pre .1) (found.part-told (known .given .1) (read .ensures)) in
     omega (arith, x .3, x .4)
 
@@ -135,7 +139,7 @@ loop-again-2 c =
     let read = c2 .entry-at in
     let c3 = c2 .before in
     let turn = c3 .loop in
-    let start = c3 .before .before .before in
+    let start = c3 .before .before .before .before in
     let aid = now (start .args .aid) in
     let s = now (start .args .s) in
     found.walks-package (turn .inv) (found.part-told (known .given .1) (read .ensures))
@@ -154,7 +158,7 @@ returns-2 c =
     let read = c1 .entry-at in
     let c2 = c1 .before in
     let turn = c2 .loop in
-    let start = c2 .before .before .before in
+    let start = c2 .before .before .before .before in
     importers.imported-no (now (start .args .aid)) (now (start .args .s)) (start .args .end) (turn .at) (turn .inv)
     (found.part-told (c .enum-told .given .1) (read .ensures))
 
@@ -164,6 +168,7 @@ imported-spec =
     (tie.spec
     Inv-loop
     μ-loop
+    first-entry-requires
     loop-holds
     entry-at-requires
     enum-known-next

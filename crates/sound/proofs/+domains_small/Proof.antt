@@ -1,5 +1,6 @@
--- `sound::+domains_small` meets its contract. Assumes nothing.
+-- `sound::domains_small` meets its contract: it never calls itself, since no store is that long. Assumes nothing.
 use Prim.Native.Nat.{ℕ, _<_}
+use native.Mathlib.Omega.{arith}
 use borrow.Author.Needs.{needs}
 use borrow.Fn.Kinds.{In}
 use borrow.Fn.PlainCycle.{Measures, is, falls, and}
@@ -11,81 +12,39 @@ use Rattle.sound.proofs.+domains_small.{statement}
 use Rattle.sound.proofs.+domains_small.Tie.{close}
 
 abbrev μ-domains-small : Measures 1 domains-small-kinds.ps ℕ
-μ-domains-small κs a = a .1 .1 .0
+μ-domains-small κs a = 0
 
 abbrev domains-small-at : ℕ → In 1 domains-small-kinds.ps
-domains-small-at t =
-    and 1 domains-small-kinds.ps (is 1 domains-small-kinds.ps μ-domains-small t) domains-small.Pre
+domains-small-at t = and 1 domains-small-kinds.ps (is 1 domains-small-kinds.ps μ-domains-small t) domains-small.Pre
 
 abbrev domains-small-below : ℕ → In 1 domains-small-kinds.ps
-domains-small-below t =
-    and
-    1
-    domains-small-kinds.ps
-    (falls 1 domains-small-kinds.ps _<_ μ-domains-small t)
-    domains-small.Pre
+domains-small-below t = and 1 domains-small-kinds.ps (falls 1 domains-small-kinds.ps _<_ μ-domains-small t) domains-small.Pre
 
-domains-small-sub-domains-small : (t : ℕ) → domains-small-lts.Need-sub-domains-small (
-  domains-small-below t,
-  domains-small.Post,
-  domains-ok-reads.Asked,
-  domains-ok-reads.Learnt,
-) (domains-small-at t) domains-small.Post
-domains-small-sub-domains-small t c = search needs
+-- what each callee asks for and gives
+abbrev claims : ℕ → domains-small-lts.Claims
+claims t = (domains-small-below t, domains-small.Post, domains-ok-reads.Asked, domains-ok-reads.Learnt)
 
-domains-small-domains-small-requires : (t : ℕ) → domains-small-lts.Need-domains-small-requires (
-  domains-small-below t,
-  domains-small.Post,
-  domains-ok-reads.Asked,
-  domains-ok-reads.Learnt,
-) (domains-small-at t) domains-small.Post
-domains-small-domains-small-requires t c κs = search needs
+domains-small-requires : (t : ℕ) → domains-small-lts.Need-domains-small-requires (claims t) (domains-small-at t) domains-small.Post
+domains-small-requires t c κs = absurd (omega (arith, c .if1 .taken, c .before .before .pre .1 .1))
 
-domains-small-returns : (t : ℕ) → domains-small-lts.Need-returns (
-  domains-small-below t,
-  domains-small.Post,
-  domains-ok-reads.Asked,
-  domains-ok-reads.Learnt,
-) (domains-small-at t) domains-small.Post
-domains-small-returns t c = search needs
+returns : (t : ℕ) → domains-small-lts.Need-returns (claims t) (domains-small-at t) domains-small.Post
+returns t c = search needs
 
-domains-small-slice-aggregate-domains-ok :
-    (t : ℕ) → domains-small-lts.Need-slice-aggregate-domains-ok (
-      domains-small-below t,
-      domains-small.Post,
-      domains-ok-reads.Asked,
-      domains-ok-reads.Learnt,
-    ) (domains-small-at t) domains-small.Post
-domains-small-slice-aggregate-domains-ok t c = search needs
+slice-aggregate-domains-ok : (t : ℕ) → domains-small-lts.Need-slice-aggregate-domains-ok (claims t) (domains-small-at t) domains-small.Post
+slice-aggregate-domains-ok t c = search needs
 
-domains-small-domains-ok-requires : (t : ℕ) → domains-small-lts.Need-domains-ok-requires (
-  domains-small-below t,
-  domains-small.Post,
-  domains-ok-reads.Asked,
-  domains-ok-reads.Learnt,
-) (domains-small-at t) domains-small.Post
-domains-small-domains-ok-requires t c κs = search needs
+domains-ok-requires : (t : ℕ) → domains-small-lts.Need-domains-ok-requires (claims t) (domains-small-at t) domains-small.Post
+domains-ok-requires t c κs =
+    let p = c .before .before .before .pre .1 in
+    (p .0, (omega (arith, p .1), omega (arith, p .1)))
 
-domains-small-returns-2 : (t : ℕ) → domains-small-lts.Need-returns-2 (
-  domains-small-below t,
-  domains-small.Post,
-  domains-ok-reads.Asked,
-  domains-ok-reads.Learnt,
-) (domains-small-at t) domains-small.Post
-domains-small-returns-2 t c = search needs
+returns-2 : (t : ℕ) → domains-small-lts.Need-returns-2 (claims t) (domains-small-at t) domains-small.Post
+returns-2 t c = search needs
 
 pub +domains-small-spec : {M : Type 1} → statement M
-+domains-small-spec = close μ-domains-small λ t. domains-small-lts.spec (
-  domains-small-below t,
-  domains-small.Post,
-  domains-ok-reads.Asked,
-  domains-ok-reads.Learnt,
-)
-    (domains-small-at t)
-    domains-small.Post
-    (domains-small-sub-domains-small t)
-    (domains-small-domains-small-requires t)
-    (domains-small-returns t)
-    (domains-small-slice-aggregate-domains-ok t)
-    (domains-small-domains-ok-requires t)
-    (domains-small-returns-2 t)
++domains-small-spec = close μ-domains-small λ t. domains-small-lts.spec (claims t) (domains-small-at t) domains-small.Post
+    (domains-small-requires t)
+    (returns t)
+    (slice-aggregate-domains-ok t)
+    (domains-ok-requires t)
+    (returns-2 t)

@@ -1,16 +1,15 @@
--- `sound::+load_small` meets its contract. Assumes nothing.
+-- `sound::load_small` meets its contract: it never calls itself, since no store is that long. Assumes nothing.
 use Prim.Native.Nat.{ℕ, _<_}
-use Rattle.sound.proofs.Laws as laws
-use Rattle.judge.specs.Says.{PackagesSay}
-use Rattle.judge.proofs.Packages.{indexed}
-use mathlib.Core.Logic.{inl, inr}
-use mathlib.Core.Path.{refl, subst}
-use borrow.Author.Tests.{not-true, not-false}
 use native.Mathlib.Omega.{arith}
-use denote.Ref.{now}
+use mathlib.Core.Path.{refl, subst}
+use mathlib.Core.Logic.{inl, inr}
 use borrow.Author.Needs.{needs}
+use borrow.Author.Tests.{not-true, not-false}
+use denote.Ref.{now}
 use borrow.Fn.Kinds.{In}
 use borrow.Fn.PlainCycle.{Measures, is, falls, and}
+use Rattle.judge.specs.Says.{PackagesSay, LoadSays}
+use Rattle.sound.proofs.Laws as laws
 use Rattle.sound.proofs.load_small.Reads as load-small
 use Rattle.sound.proofs.load_small.Kinds as load-small-kinds
 use Rattle.sound.proofs.+load_small.Lts-load_small as load-small-lts
@@ -20,195 +19,102 @@ use Rattle.sound.proofs.+load_small.{statement}
 use Rattle.sound.proofs.+load_small.Tie.{close}
 
 abbrev μ-load-small : Measures 2 load-small-kinds.ps ℕ
-μ-load-small κs a = a .1 .1 .1 .1 .0
+μ-load-small κs a = 0
 
 abbrev load-small-at : ℕ → In 2 load-small-kinds.ps
-load-small-at t =
-    and 2 load-small-kinds.ps (is 2 load-small-kinds.ps μ-load-small t) load-small.Pre
+load-small-at t = and 2 load-small-kinds.ps (is 2 load-small-kinds.ps μ-load-small t) load-small.Pre
 
 abbrev load-small-below : ℕ → In 2 load-small-kinds.ps
-load-small-below t =
-    and 2 load-small-kinds.ps (falls 2 load-small-kinds.ps _<_ μ-load-small t) load-small.Pre
+load-small-below t = and 2 load-small-kinds.ps (falls 2 load-small-kinds.ps _<_ μ-load-small t) load-small.Pre
 
-load-small-sub-load-small : (t : ℕ) → load-small-lts.Need-sub-load-small (
-  load-small-below t,
-  load-small.Post,
-  packages-sound-reads.Asked,
-  packages-sound-reads.Learnt,
-  load-answer-reads.Asked,
-  load-answer-reads.Learnt,
-) (load-small-at t) load-small.Post
-load-small-sub-load-small t c = search needs
+-- what each callee asks for and gives
+abbrev claims : ℕ → load-small-lts.Claims
+claims t = (load-small-below t, load-small.Post, packages-sound-reads.Asked, packages-sound-reads.Learnt, load-answer-reads.Asked, load-answer-reads.Learnt)
 
-load-small-load-small-requires : (t : ℕ) → load-small-lts.Need-load-small-requires (
-  load-small-below t,
-  load-small.Post,
-  packages-sound-reads.Asked,
-  packages-sound-reads.Learnt,
-  load-answer-reads.Asked,
-  load-answer-reads.Learnt,
-) (load-small-at t) load-small.Post
-load-small-load-small-requires t c κs = search needs
+load-small-requires : (t : ℕ) → load-small-lts.Need-load-small-requires (claims t) (load-small-at t) load-small.Post
+load-small-requires t c κs = absurd (omega (arith, c .if1 .taken, c .before .before .before .before .pre .1 .1 .0))
 
-load-small-returns : (t : ℕ) → load-small-lts.Need-returns (
-  load-small-below t,
-  load-small.Post,
-  packages-sound-reads.Asked,
-  packages-sound-reads.Learnt,
-  load-answer-reads.Asked,
-  load-answer-reads.Learnt,
-) (load-small-at t) load-small.Post
-load-small-returns t c = search needs
+returns : (t : ℕ) → load-small-lts.Need-returns (claims t) (load-small-at t) load-small.Post
+returns t c = search needs
 
-load-small-slice-aggregate-packages-sound :
-    (t : ℕ) → load-small-lts.Need-slice-aggregate-packages-sound (
-      load-small-below t,
-      load-small.Post,
-      packages-sound-reads.Asked,
-      packages-sound-reads.Learnt,
-      load-answer-reads.Asked,
-      load-answer-reads.Learnt,
-    ) (load-small-at t) load-small.Post
-load-small-slice-aggregate-packages-sound t c = search needs
+slice-aggregate-packages-sound : (t : ℕ) → load-small-lts.Need-slice-aggregate-packages-sound (claims t) (load-small-at t) load-small.Post
+slice-aggregate-packages-sound t c = search needs
 
-load-small-slice-aggregate-packages-sound-2 :
-    (t : ℕ) → load-small-lts.Need-slice-aggregate-packages-sound-2 (
-      load-small-below t,
-      load-small.Post,
-      packages-sound-reads.Asked,
-      packages-sound-reads.Learnt,
-      load-answer-reads.Asked,
-      load-answer-reads.Learnt,
-    ) (load-small-at t) load-small.Post
-load-small-slice-aggregate-packages-sound-2 t c = search needs
+slice-aggregate-packages-sound-2 : (t : ℕ) → load-small-lts.Need-slice-aggregate-packages-sound-2 (claims t) (load-small-at t) load-small.Post
+slice-aggregate-packages-sound-2 t c = search needs
 
-load-small-slice-aggregate-packages-sound-3 :
-    (t : ℕ) → load-small-lts.Need-slice-aggregate-packages-sound-3 (
-      load-small-below t,
-      load-small.Post,
-      packages-sound-reads.Asked,
-      packages-sound-reads.Learnt,
-      load-answer-reads.Asked,
-      load-answer-reads.Learnt,
-    ) (load-small-at t) load-small.Post
-load-small-slice-aggregate-packages-sound-3 t c = search needs
+slice-aggregate-packages-sound-3 : (t : ℕ) → load-small-lts.Need-slice-aggregate-packages-sound-3 (claims t) (load-small-at t) load-small.Post
+slice-aggregate-packages-sound-3 t c = search needs
 
-load-small-packages-sound-requires : (t : ℕ) → load-small-lts.Need-packages-sound-requires (
-  load-small-below t,
-  load-small.Post,
-  packages-sound-reads.Asked,
-  packages-sound-reads.Learnt,
-  load-answer-reads.Asked,
-  load-answer-reads.Learnt,
-) (load-small-at t) load-small.Post
-load-small-packages-sound-requires t c κs =
-    let b = c .before .before .before .before .before .before .before in
+slice-aggregate-packages-sound-4 : (t : ℕ) → load-small-lts.Need-slice-aggregate-packages-sound-4 (claims t) (load-small-at t) load-small.Post
+slice-aggregate-packages-sound-4 t c = search needs
+
+packages-sound-requires : (t : ℕ) → load-small-lts.Need-packages-sound-requires (claims t) (load-small-at t) load-small.Post
+packages-sound-requires t c κs =
+    let b = c .before .before .before .before .before .before .before .before in
+    let s = now (b .args .s) in
     let p = b .pre .1 in (
-      (p .0, p .1),
-      laws.tables-start (now (b .args .s)) (b .args .used) 304 616 284 (p .0) (omega (arith, p .2)) (omega (arith, p .2))
-          (omega (arith, p .2)) (omega (arith, p .2)),
+      (p .0 .0, p .0 .1),
+      laws.tables-start s (b .args .used) 304 616 640 284 (p .0 .0) (omega (arith, p .1 .0)) (omega (arith, laws.shallow-length s (p .1 .1), p .1 .0)) (omega (arith, p .1 .1))
+          (omega (arith, p .1 .0)) (omega (arith, p .1 .0)),
     )
 
-load-small-returns-2 : (t : ℕ) → load-small-lts.Need-returns-2 (
-  load-small-below t,
-  load-small.Post,
-  packages-sound-reads.Asked,
-  packages-sound-reads.Learnt,
-  load-answer-reads.Asked,
-  load-answer-reads.Learnt,
-) (load-small-at t) load-small.Post
-load-small-returns-2 t c =
-    let c1 = c .before .before .before .before in
-    let b = c1 .before .before .before .before .before .before .before .before in
+returns-2 : (t : ℕ) → load-small-lts.Need-returns-2 (claims t) (load-small-at t) load-small.Post
+returns-2 t c =
+    let c1 = c .before .before .before .before .before in
+    let b = c1 .before .before .before .before .before .before .before .before .before in
     inl (subst (PackagesSay (now (b .args .s)) (b .args .used)) (not-true _ (c .if2 .taken)) (c1 .packages-sound .ensures .0), refl)
 
-load-small-slice-aggregate-load-answer : (t : ℕ) → load-small-lts.Need-slice-aggregate-load-answer (
-  load-small-below t,
-  load-small.Post,
-  packages-sound-reads.Asked,
-  packages-sound-reads.Learnt,
-  load-answer-reads.Asked,
-  load-answer-reads.Learnt,
-) (load-small-at t) load-small.Post
-load-small-slice-aggregate-load-answer t c = search needs
+slice-aggregate-load-answer : (t : ℕ) → load-small-lts.Need-slice-aggregate-load-answer (claims t) (load-small-at t) load-small.Post
+slice-aggregate-load-answer t c = search needs
 
-load-small-slice-aggregate-load-answer-2 :
-    (t : ℕ) → load-small-lts.Need-slice-aggregate-load-answer-2 (
-      load-small-below t,
-      load-small.Post,
-      packages-sound-reads.Asked,
-      packages-sound-reads.Learnt,
-      load-answer-reads.Asked,
-      load-answer-reads.Learnt,
-    ) (load-small-at t) load-small.Post
-load-small-slice-aggregate-load-answer-2 t c = search needs
+slice-aggregate-load-answer-2 : (t : ℕ) → load-small-lts.Need-slice-aggregate-load-answer-2 (claims t) (load-small-at t) load-small.Post
+slice-aggregate-load-answer-2 t c = search needs
 
-load-small-slice-aggregate-load-answer-3 :
-    (t : ℕ) → load-small-lts.Need-slice-aggregate-load-answer-3 (
-      load-small-below t,
-      load-small.Post,
-      packages-sound-reads.Asked,
-      packages-sound-reads.Learnt,
-      load-answer-reads.Asked,
-      load-answer-reads.Learnt,
-    ) (load-small-at t) load-small.Post
-load-small-slice-aggregate-load-answer-3 t c = search needs
+slice-aggregate-load-answer-3 : (t : ℕ) → load-small-lts.Need-slice-aggregate-load-answer-3 (claims t) (load-small-at t) load-small.Post
+slice-aggregate-load-answer-3 t c = search needs
 
-load-small-load-answer-requires : (t : ℕ) → load-small-lts.Need-load-answer-requires (
-  load-small-below t,
-  load-small.Post,
-  packages-sound-reads.Asked,
-  packages-sound-reads.Learnt,
-  load-answer-reads.Asked,
-  load-answer-reads.Learnt,
-) (load-small-at t) load-small.Post
-load-small-load-answer-requires t c κs =
-    let c1 = c .before .before .before in
-    let c2 = c1 .before .before .before .before in
-    let sound = c2 .packages-sound in
-    let b = c2 .before .before .before .before .before .before .before .before in
-    let yes = not-false _ (c1 .if2 .left) in
+slice-aggregate-load-answer-4 : (t : ℕ) → load-small-lts.Need-slice-aggregate-load-answer-4 (claims t) (load-small-at t) load-small.Post
+slice-aggregate-load-answer-4 t c = search needs
+
+load-answer-requires : (t : ℕ) → load-small-lts.Need-load-answer-requires (claims t) (load-small-at t) load-small.Post
+load-answer-requires t c κs =
+    let yes = not-false _ (c .before .before .before .before .if2 .left) in
+    let c1 = c .before .before .before .before .before .before .before .before .before in
+    let sound = c1 .packages-sound in
+    let b = c1 .before .before .before .before .before .before .before .before .before in
+    let s = now (b .args .s) in
     let p = b .pre .1 in
-    let over = laws.over-packages (now (b .args .s)) (b .args .used) (p .0) (subst (PackagesSay (now (b .args .s)) (b .args .used)) yes (sound .ensures .0)) in
-    let tables = sound .ensures .1 yes in
-    (over, ((indexed (now (b .args .s)) (b .args .used) _ over (tables .0), tables .1), (omega (arith, p .2), omega (arith, p .2, sound .kept .1 .1 .1 .1 .0))))
+    let over = laws.over-packages s (b .args .used) (p .0 .0) (subst (PackagesSay s (b .args .used)) yes (sound .ensures .0)) in
+    let asked = laws.over-all s (b .args .used) _ _ (p .0 .2) over (sound .ensures .1 yes) in
+    let kept = sound .kept .1 .1 .1 .1 in
+    (asked .0, (asked .1, (omega (arith, p .1 .0), (omega (arith, p .1 .1, kept .0), omega (arith, p .1 .0, kept .1 .0)))))
 
-load-small-returns-3 : (t : ℕ) → load-small-lts.Need-returns-3 (
-  load-small-below t,
-  load-small.Post,
-  packages-sound-reads.Asked,
-  packages-sound-reads.Learnt,
-  load-answer-reads.Asked,
-  load-answer-reads.Learnt,
-) (load-small-at t) load-small.Post
-load-small-returns-3 t c =
-    let c1 = c .before .before .before .before .before in
-    let c2 = c1 .before .before .before .before in
-    let b = c2 .before .before .before .before .before .before .before .before in
-    let yes = not-false _ (c1 .if2 .left) in
-    inr (subst (PackagesSay (now (b .args .s)) (b .args .used)) yes (c2 .packages-sound .ensures .0), c .before .load-answer .ensures)
+returns-3 : (t : ℕ) → load-small-lts.Need-returns-3 (claims t) (load-small-at t) load-small.Post
+returns-3 t c =
+    let yes = not-false _ (c .before .before .before .before .before .before .before .if2 .left) in
+    let c1 = c .before .before .before .before .before .before .before .before .before .before .before .before in
+    let b = c1 .before .before .before .before .before .before .before .before .before in
+    let a = b .args in
+    inr (
+      subst (PackagesSay (now (a .s)) (a .used)) yes (c1 .packages-sound .ensures .0),
+      subst (λ (u : ℕ). LoadSays (now (a .s)) u (now (a .domain)) (now (a .file)) (c .before .before .load-answer .result)) (b .pre .1 .0 .2)
+          (c .before .before .load-answer .ensures),
+    )
 
 pub +load-small-spec : {M : Type 1} → statement M
-+load-small-spec = close μ-load-small λ t. load-small-lts.spec (
-  load-small-below t,
-  load-small.Post,
-  packages-sound-reads.Asked,
-  packages-sound-reads.Learnt,
-  load-answer-reads.Asked,
-  load-answer-reads.Learnt,
-)
-    (load-small-at t)
-    load-small.Post
-    (load-small-sub-load-small t)
-    (load-small-load-small-requires t)
-    (load-small-returns t)
-    (load-small-slice-aggregate-packages-sound t)
-    (load-small-slice-aggregate-packages-sound-2 t)
-    (load-small-slice-aggregate-packages-sound-3 t)
-    (load-small-packages-sound-requires t)
-    (load-small-returns-2 t)
-    (load-small-slice-aggregate-load-answer t)
-    (load-small-slice-aggregate-load-answer-2 t)
-    (load-small-slice-aggregate-load-answer-3 t)
-    (load-small-load-answer-requires t)
-    (load-small-returns-3 t)
++load-small-spec = close μ-load-small λ t. load-small-lts.spec (claims t) (load-small-at t) load-small.Post
+    (load-small-requires t)
+    (returns t)
+    (slice-aggregate-packages-sound t)
+    (slice-aggregate-packages-sound-2 t)
+    (slice-aggregate-packages-sound-3 t)
+    (slice-aggregate-packages-sound-4 t)
+    (packages-sound-requires t)
+    (returns-2 t)
+    (slice-aggregate-load-answer t)
+    (slice-aggregate-load-answer-2 t)
+    (slice-aggregate-load-answer-3 t)
+    (slice-aggregate-load-answer-4 t)
+    (load-answer-requires t)
+    (returns-3 t)

@@ -25,7 +25,7 @@ load-judged-requires c κs =
     let c1 = c .before .before .before in
     let a = c1 .before .before .before .before .args in
     let laid = subst (LaidSays (now (a .s))) (c .before .used .given .1) (c1 .laid-out .ensures) in
-    (laid .stand, laid .domains, laid .small)
+    ((laid .stand, laid .domains, laid .field), laid .small)
 
 enum-known-n-2 : tie.Need-enum-known-n-2
 enum-known-n-2 c = search needs

@@ -26,7 +26,7 @@ packages-sound-requires c κs =
     let c1 = c .before .before .before in
     let a = c1 .before .before .args in
     let laid = subst (LaidSays (now (a .s))) (c .before .used .given .1) (c1 .laid-out .ensures) in
-    (laid .stand, laid .domains, laid .small)
+    ((laid .stand, laid .domains), laid .small)
 
 returns : tie.Need-returns
 returns c =

@@ -1,13 +1,13 @@
 -- `store::domain_in_use` tells whether a package lies in a domain: none of those passed does. Assumes nothing.
-use Rattle.store.proofs.Walk.{walk-start, place-any}
+use Rattle.store.proofs.Walk.{Walk, walk-start, place-any}
 use Rattle.store.specs.Entries.{liesIn}
 use Rattle.rules.specs.Bytes.{isSome}
-use Rattle.rules.specs.Package.{storeLimits}
+use Rattle.rules.specs.Store.{storeLimits, firstEntry}
 use Rattle.store.proofs.Asked as asked
 use Rattle.store.proofs.Find as found
 use denote.Ref.{now}
 use Prim.Native.Nat.{_-_}
-use mathlib.Core.Path.{refl, sym, ap, _∙_}
+use mathlib.Core.Path.{refl, sym, ap, _∙_, subst}
 use native.Mathlib.Omega.{arith}
 use borrow.Author.Needs.{needs}
 use Rattle.store.proofs.domain_in_use.Statement.{statement}
@@ -19,12 +19,15 @@ Inv-loop s end aid at₀ at = found.Walks (liesIn aid) s end at
 abbrev μ-loop : tie.MeasureT-loop
 μ-loop s end aid at₀ at = end - at
 
+first-entry-requires : tie.Need-first-entry-requires Inv-loop μ-loop
+first-entry-requires c κs = search needs
+
 loop-holds : tie.Need-loop-holds Inv-loop μ-loop
-loop-holds c = λ es r. walk-start r
+loop-holds c = λ es r. subst (Walk _ _ es _) (sym (c .first-entry .ensures)) (walk-start r)
 
 entry-at-requires : tie.Need-entry-at-requires Inv-loop μ-loop
 entry-at-requires c κs =
-    let pre = c .before .before .before .pre in
+    let pre = c .before .before .before .before .pre in
     found.walks-from (c .loop .inv) pre
 
 enum-known-next : tie.Need-enum-known-next Inv-loop μ-loop
@@ -34,7 +37,7 @@ loop-less : tie.Need-loop-less Inv-loop μ-loop
 loop-less c =
     let c1 = c .before .before .before in
     let c2 = c1 .before in
-    let pre = c2 .before .before .before .pre in
+    let pre = c2 .before .before .before .before .pre in
     let x = found.domain-in (c2 .loop .inv) pre (found.part-told (c .before .next .given .1) (c1 .entry-at .ensures)) in
     omega (arith, x .2, x .3)
 
@@ -51,7 +54,7 @@ sub-same-bytes : tie.Need-sub-same-bytes Inv-loop μ-loop
 sub-same-bytes c =
     let c1 = c .before .before .before in
     let c2 = c1 .before in
-    let pre = c2 .before .before .before .pre in
+    let pre = c2 .before .before .before .before .pre in
     let x = found.package-in (c2 .loop .inv) pre (found.part-told (c .before .from .given .1) (c1 .entry-at .ensures)) in
     omega (arith, x .0, x .1, x .2)
 
@@ -59,7 +62,7 @@ part-same-bytes-start : tie.Need-part-same-bytes-start Inv-loop μ-loop
 part-same-bytes-start c =
     let c1 = c .before .before .before in
     let c2 = c1 .before in
-    let pre = c2 .before .before .before .pre in
+    let pre = c2 .before .before .before .before .pre in
     let x = found.package-in (c2 .loop .inv) pre (found.part-told (c .before .from .given .1) (c1 .entry-at .ensures)) in
     omega (arith, x .0, x .1, x .2)
 
@@ -67,7 +70,7 @@ part-same-bytes-end : tie.Need-part-same-bytes-end Inv-loop μ-loop
 part-same-bytes-end c =
     let c1 = c .before .before .before in
     let c2 = c1 .before in
-    let pre = c2 .before .before .before .pre in
+    let pre = c2 .before .before .before .before .pre in
     let x = found.package-in (c2 .loop .inv) pre (found.part-told (c .before .from .given .1) (c1 .entry-at .ensures)) in
     omega (arith, x .0, x .1, x .2)
 
@@ -79,9 +82,9 @@ returns c =
     let c1 = c .before .before .before .before in
     let c2 = c1 .before .before in
     let c3 = c2 .before in
-    let start = c3 .before .before .before in
+    let start = c3 .before .before .before .before in
     let aid = now (start .args .aid) in
-    λ es r h. sym (asked.in-use (storeLimits (now (start .args .s))) es aid h ∙ sym (place-any (liesIn aid) 7 es) ∙ ap isSome
+    λ es r h. sym (asked.in-use (storeLimits (now (start .args .s))) es aid h ∙ sym (place-any (liesIn aid) (firstEntry (now (start .args .s))) es) ∙ ap isSome
     (found.found-package (c3 .loop .inv) (found.part-told (c1 .from .given .1) (c2 .entry-at .ensures))
     (sym (c .before .same-bytes .ensures) ∙ c .if1 .taken) es r))
 
@@ -90,7 +93,7 @@ loop-less-2 c =
     let c1 = c .before .before .before .before in
     let c2 = c1 .before .before in
     let c3 = c2 .before in
-    let pre = c3 .before .before .before .pre in
+    let pre = c3 .before .before .before .before .pre in
     let x = found.package-in (c3 .loop .inv) pre (found.part-told (c1 .from .given .1) (c2 .entry-at .ensures)) in
     omega (arith, x .3, x .4)
 
@@ -108,7 +111,7 @@ returns-2 : tie.Need-returns-2 Inv-loop μ-loop
 returns-2 c =
     let c1 = c .before .before in
     let c2 = c1 .before in
-    let a = c2 .before .before .before .args in
+    let a = c2 .before .before .before .before .args in
     λ es r h. sym (asked.in-use (storeLimits (now (a .s))) es (now (a .aid)) h ∙ found.found-none (c2 .loop .inv)
     (found.part-told (c .enum-told .given .1) (c1 .entry-at .ensures)) es r)
 
@@ -118,6 +121,7 @@ domain-in-use-spec =
     (tie.spec
     Inv-loop
     μ-loop
+    first-entry-requires
     loop-holds
     entry-at-requires
     enum-known-next

@@ -10,15 +10,15 @@ use Rattle.store.proofs.filled.Statement.{statement}
 use Rattle.store.proofs.filled.Tie as tie
 
 abbrev Inv-loop : tie.InvT-loop
-Inv-loop s end at₀ at = StandFrom s 7 at × (at ≤ end)
+Inv-loop s from end at₀ at = StandFrom s from at × (at ≤ end)
 
 abbrev μ-loop : tie.MeasureT-loop
-μ-loop s end at₀ at = end - at
+μ-loop s from end at₀ at = end - at
 
 loop-holds : tie.Need-loop-holds Inv-loop μ-loop
 loop-holds c =
     let start = c .before in
-    (checks.fill-start (now (start .args .s)) (omega arith), start .pre .0)
+    (checks.fill-start (now (start .args .s)) (start .args .from) (omega arith), start .pre .0)
 
 next-place-requires : tie.Need-next-place-requires Inv-loop μ-loop
 next-place-requires c κs =
@@ -39,9 +39,9 @@ loop-less c =
     let end = start .args .end in
     omega (
       arith,
-      (checks.fill-more s (turn .at) (c .before .next .given .0 .0) end (turn .inv .0)
+      (checks.fill-more s (start .args .from) (turn .at) (c .before .next .given .0 .0) end (turn .inv .0)
           (subst (λ x. NextSays s (turn .at) end x) (c .before .next .given .1) (next-place .ensures))) .1,
-      (checks.fill-more s (turn .at) (c .before .next .given .0 .0) end (turn .inv .0)
+      (checks.fill-more s (start .args .from) (turn .at) (c .before .next .given .0 .0) end (turn .inv .0)
           (subst (λ x. NextSays s (turn .at) end x) (c .before .next .given .1) (next-place .ensures))) .2,
     )
 
@@ -54,9 +54,9 @@ loop-again c =
     let start = c2 .before .before in
     let s = now (start .args .s) in
     let end = start .args .end in (
-      (checks.fill-more s (turn .at) (c .before .next .given .0 .0) end (turn .inv .0)
+      (checks.fill-more s (start .args .from) (turn .at) (c .before .next .given .0 .0) end (turn .inv .0)
           (subst (λ x. NextSays s (turn .at) end x) (c .before .next .given .1) (next-place .ensures))) .0,
-      (checks.fill-more s (turn .at) (c .before .next .given .0 .0) end (turn .inv .0)
+      (checks.fill-more s (start .args .from) (turn .at) (c .before .next .given .0 .0) end (turn .inv .0)
           (subst (λ x. NextSays s (turn .at) end x) (c .before .next .given .1) (next-place .ensures))) .2,
     )
 
@@ -72,14 +72,14 @@ returns c =
     let start = c3 .before .before in
     let s = now (start .args .s) in
     let end = start .args .end in
-    checks.fill-never s (turn .at) end (c2 .loop-test .taken) (turn .inv .0)
+    checks.fill-never s (start .args .from) (turn .at) end (c2 .loop-test .taken) (turn .inv .0)
     (subst (λ x. NextSays s (turn .at) end x) (c .enum-told .given .1) (c1 .next-place .ensures))
 
 returns-2 : tie.Need-returns-2 Inv-loop μ-loop
 returns-2 c =
     let start = c .before .before .before in
     let turn = c .before .loop in
-    checks.fill-done (now (start .args .s)) (turn .at) (start .args .end) (omega arith) (turn .inv .0)
+    checks.fill-done (now (start .args .s)) (start .args .from) (turn .at) (start .args .end) (omega arith) (turn .inv .0)
 
 pub filled-spec : {M : Type 1} → statement M
 filled-spec =

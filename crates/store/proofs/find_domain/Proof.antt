@@ -1,10 +1,11 @@
 -- `store::find_domain` tells where a domain's entry stands: none of the entries passed is the domain's. Assumes nothing.
-use Rattle.store.proofs.Walk.{walk-start, place-none}
+use Rattle.store.proofs.Walk.{Walk, walk-start, place-none}
 use Rattle.store.proofs.Find as found
 use Rattle.rules.specs.Operations.{isDomain}
+use Rattle.rules.specs.Store.{firstEntry}
 use denote.Ref.{now}
 use Prim.Native.Nat.{_-_}
-use mathlib.Core.Path.{refl, sym, _∙_}
+use mathlib.Core.Path.{refl, sym, _∙_, subst}
 use native.Mathlib.Omega.{arith}
 use borrow.Author.Needs.{needs}
 use Rattle.store.proofs.find_domain.Statement.{statement}
@@ -16,12 +17,15 @@ Inv-loop s end aid at₀ at = found.Walks (isDomain aid) s end at
 abbrev μ-loop : tie.MeasureT-loop
 μ-loop s end aid at₀ at = end - at
 
+first-entry-requires : tie.Need-first-entry-requires Inv-loop μ-loop
+first-entry-requires c κs = search needs
+
 loop-holds : tie.Need-loop-holds Inv-loop μ-loop
-loop-holds c = λ es r. walk-start r
+loop-holds c = λ es r. subst (Walk _ _ es _) (sym (c .first-entry .ensures)) (walk-start r)
 
 entry-at-requires : tie.Need-entry-at-requires Inv-loop μ-loop
 entry-at-requires c κs =
-    let pre = c .before .before .before .pre in
+    let pre = c .before .before .before .before .pre in
     found.walks-from (c .loop .inv) pre
 
 enum-known-from : tie.Need-enum-known-from Inv-loop μ-loop
@@ -31,7 +35,7 @@ sub-same-bytes : tie.Need-sub-same-bytes Inv-loop μ-loop
 sub-same-bytes c =
     let c1 = c .before .before .before in
     let c2 = c1 .before in
-    let pre = c2 .before .before .before .pre in
+    let pre = c2 .before .before .before .before .pre in
     let x = found.domain-in (c2 .loop .inv) pre (found.part-told (c .before .from .given .1) (c1 .entry-at .ensures)) in
     omega (arith, x .0, x .1)
 
@@ -39,7 +43,7 @@ part-same-bytes-start : tie.Need-part-same-bytes-start Inv-loop μ-loop
 part-same-bytes-start c =
     let c1 = c .before .before .before in
     let c2 = c1 .before in
-    let pre = c2 .before .before .before .pre in
+    let pre = c2 .before .before .before .before .pre in
     let x = found.domain-in (c2 .loop .inv) pre (found.part-told (c .before .from .given .1) (c1 .entry-at .ensures)) in
     omega (arith, x .0, x .1)
 
@@ -47,7 +51,7 @@ part-same-bytes-end : tie.Need-part-same-bytes-end Inv-loop μ-loop
 part-same-bytes-end c =
     let c1 = c .before .before .before in
     let c2 = c1 .before in
-    let pre = c2 .before .before .before .pre in
+    let pre = c2 .before .before .before .before .pre in
     let x = found.domain-in (c2 .loop .inv) pre (found.part-told (c .before .from .given .1) (c1 .entry-at .ensures)) in
     omega (arith, x .0, x .1)
 
@@ -67,7 +71,7 @@ loop-less c =
     let c1 = c .before .before .before .before in
     let c2 = c1 .before .before in
     let c3 = c2 .before in
-    let pre = c3 .before .before .before .pre in
+    let pre = c3 .before .before .before .before .pre in
     let x = found.domain-in (c3 .loop .inv) pre (found.part-told (c1 .from .given .1) (c2 .entry-at .ensures)) in
     omega (arith, x .2, x .3)
 
@@ -85,7 +89,7 @@ loop-less-2 : tie.Need-loop-less-2 Inv-loop μ-loop
 loop-less-2 c =
     let c1 = c .before .before .before in
     let c2 = c1 .before in
-    let pre = c2 .before .before .before .pre in
+    let pre = c2 .before .before .before .before .pre in
     let x = found.package-in (c2 .loop .inv) pre (found.part-told (c .before .next .given .1) (c1 .entry-at .ensures)) in
     omega (arith, x .3, x .4)
 
@@ -102,8 +106,8 @@ returns-2 : tie.Need-returns-2 Inv-loop μ-loop
 returns-2 c =
     let c1 = c .before .before in
     let c2 = c1 .before in
-    let a = c2 .before .before .before .args in
-    λ es r. sym (place-none (isDomain (now (a .aid))) 7 es (found.found-none (c2 .loop .inv)
+    let a = c2 .before .before .before .before .args in
+    λ es r. sym (place-none (isDomain (now (a .aid))) (firstEntry (now (a .s))) es (found.found-none (c2 .loop .inv)
     (found.part-told (c .enum-told .given .1) (c1 .entry-at .ensures)) es r))
 
 pub find-domain-spec : {M : Type 1} → statement M
@@ -112,6 +116,7 @@ find-domain-spec =
     (tie.spec
     Inv-loop
     μ-loop
+    first-entry-requires
     loop-holds
     entry-at-requires
     enum-known-from

@@ -1,16 +1,17 @@
 -- `store::find_package` tells where a package stands: none of the entries passed is the package's. Assumes nothing.
-use Rattle.store.proofs.Walk.{walk-start}
+use Rattle.store.proofs.Walk.{Walk, walk-start}
 use Rattle.store.specs.Entries.{part}
-use Rattle.rules.specs.Package.{storeLimits}
 use Rattle.store.proofs.Own.{own-by}
 use Rattle.store.proofs.Asked as asked
 use Rattle.store.proofs.Find as found
 use denote.Ref.{now}
 use Prim.Native.Nat.{_-_}
-use mathlib.Core.Path.{refl, sym, _∙_}
+use mathlib.Core.Path.{refl, sym, _∙_, subst}
 use native.Mathlib.Omega.{arith}
+use borrow.Author.Needs.{needs}
 use Rattle.store.proofs.find_package.Statement.{statement}
 use Rattle.store.proofs.find_package.Tie as tie
+use Rattle.rules.specs.Store.{storeLimits}
 
 abbrev Inv-loop : tie.InvT-loop
 Inv-loop s end aid at₀ at = found.Walks (asked.namedBy aid) s end at
@@ -18,12 +19,15 @@ Inv-loop s end aid at₀ at = found.Walks (asked.namedBy aid) s end at
 abbrev μ-loop : tie.MeasureT-loop
 μ-loop s end aid at₀ at = end - at
 
+first-entry-requires : tie.Need-first-entry-requires Inv-loop μ-loop
+first-entry-requires c κs = search needs
+
 loop-holds : tie.Need-loop-holds Inv-loop μ-loop
-loop-holds c = λ es r. walk-start r
+loop-holds c = λ es r. subst (Walk _ _ es _) (sym (c .first-entry .ensures)) (walk-start r)
 
 entry-at-requires : tie.Need-entry-at-requires Inv-loop μ-loop
 entry-at-requires c κs =
-    let start = c .before .before .before in
+    let start = c .before .before .before .before in
     found.walks-from (c .loop .inv) (start .pre .0, start .pre .1)
 
 enum-known-next : tie.Need-enum-known-next Inv-loop μ-loop
@@ -33,7 +37,7 @@ loop-less : tie.Need-loop-less Inv-loop μ-loop
 loop-less c =
     let c1 = c .before .before .before in
     let c2 = c1 .before in
-    let start = c2 .before .before .before in
+    let start = c2 .before .before .before .before in
     let x = found.domain-in (c2 .loop .inv) (start .pre .0, start .pre .1) (found.part-told (c .before .next .given .1) (c1 .entry-at .ensures)) in
     omega (arith, x .2, x .3)
 
@@ -50,7 +54,7 @@ sub-own-is : tie.Need-sub-own-is Inv-loop μ-loop
 sub-own-is c =
     let c1 = c .before .before .before in
     let c2 = c1 .before in
-    let start = c2 .before .before .before in
+    let start = c2 .before .before .before .before in
     let x = found.package-in (c2 .loop .inv) (start .pre .0, start .pre .1) (found.part-told (c .before .file .given .1) (c1 .entry-at .ensures)) in
     omega (arith, x .0, x .1, x .2)
 
@@ -58,7 +62,7 @@ part-own-is-start : tie.Need-part-own-is-start Inv-loop μ-loop
 part-own-is-start c =
     let c1 = c .before .before .before in
     let c2 = c1 .before in
-    let start = c2 .before .before .before in
+    let start = c2 .before .before .before .before in
     let x = found.package-in (c2 .loop .inv) (start .pre .0, start .pre .1) (found.part-told (c .before .file .given .1) (c1 .entry-at .ensures)) in
     omega (arith, x .0, x .1, x .2)
 
@@ -66,7 +70,7 @@ part-own-is-end : tie.Need-part-own-is-end Inv-loop μ-loop
 part-own-is-end c =
     let c1 = c .before .before .before in
     let c2 = c1 .before in
-    let start = c2 .before .before .before in
+    let start = c2 .before .before .before .before in
     let x = found.package-in (c2 .loop .inv) (start .pre .0, start .pre .1) (found.part-told (c .before .file .given .1) (c1 .entry-at .ensures)) in
     omega (arith, x .0, x .1, x .2)
 
@@ -76,7 +80,7 @@ own-is-requires c κs =
     let file = c1 .file in
     let c2 = c1 .before .before in
     let c3 = c2 .before in
-    let start = c3 .before .before .before in
+    let start = c3 .before .before .before .before in
     let y = found.package-reads (c3 .loop .inv) (found.part-told (file .given .1) (c2 .entry-at .ensures)) (start .pre .0) (start .pre .1) (start .pre .2) in
     let x = own-by (storeLimits (now (start .args .s))) (part (now (start .args .s)) (file .given .0 .1 .0) (file .given .0 .1 .1 .0)) (y .0) (y .1) in
     (x .inside, x .to)
@@ -87,7 +91,7 @@ returns c =
     let c2 = c1 .before .before in
     let c3 = c2 .before in
     let turn = c3 .loop in
-    let start = c3 .before .before .before in
+    let start = c3 .before .before .before .before in
     let p = (found.part-told (c1 .file .given .1) (c2 .entry-at .ensures)) in
     let x = found.package-in (turn .inv) (start .pre .0, start .pre .1) p in
     λ es r h.
@@ -99,7 +103,7 @@ loop-less-2 c =
     let c1 = c .before .before .before .before in
     let c2 = c1 .before .before in
     let c3 = c2 .before in
-    let start = c3 .before .before .before in
+    let start = c3 .before .before .before .before in
     let x = found.package-in (c3 .loop .inv) (start .pre .0, start .pre .1) (found.part-told (c1 .file .given .1) (c2 .entry-at .ensures)) in
     omega (arith, x .3, x .4)
 
@@ -117,7 +121,7 @@ returns-2 : tie.Need-returns-2 Inv-loop μ-loop
 returns-2 c =
     let c1 = c .before .before in
     let c2 = c1 .before in
-    let start = c2 .before .before .before in
+    let start = c2 .before .before .before .before in
     λ es r h. asked.package-none (now (start .args .s)) es (now (start .args .aid)) h
     (found.found-none (c2 .loop .inv) (found.part-told (c .enum-told .given .1) (c1 .entry-at .ensures)) es r)
 
@@ -127,6 +131,7 @@ find-package-spec =
     (tie.spec
     Inv-loop
     μ-loop
+    first-entry-requires
     loop-holds
     entry-at-requires
     enum-known-next

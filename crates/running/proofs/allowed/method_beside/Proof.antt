@@ -10,9 +10,9 @@ use Rattle.running.proofs.allowed.method_beside.Tie as tie
 
 -- the function's start, where the file is at hand, and that where the count of the policy's indexes is read
 abbrev start : tie.After-file-of → tie.Start
-start k = k .before .before .before
+start k = k .before .before .before .before
 
-abbrev file : tie.After-shared-slice-known3 → tie.After-file-of
+abbrev file : tie.After-shared-slice-known4 → tie.After-file-of
 file k = k .before .before .before .before
 
 -- the method there
@@ -23,7 +23,7 @@ here k =
 
 file-of-requires : tie.Need-file-of-requires
 file-of-requires c κs =
-    let b = c .before .before in
+    let b = c .before .before .before in
     let a = b .args in
     allows.method-bounds (now (a .f)) (now (a .s)) (a .w .end) (a .w .own) (a .h) (a .at) (b .pre .0)
 
@@ -62,17 +62,17 @@ returns-2 c =
     (p .ensures) (n .result) (n .ensures .0) (c .if2 .taken)
 
 name-of-requires : tie.Need-name-of-requires
-name-of-requires c κs = here (file (c .before .before .before))
+name-of-requires c κs = here (file (c .before .before))
 
 running-method-requires : tie.Need-running-method-requires
 running-method-requires c κs =
-    let b = start (file (c .before .before .before .before)) in
+    let b = start (file (c .before .before .before)) in
     let a = b .args in
-    (allows.method-running (now (a .f)) (now (a .s)) (a .w .end) (a .w .own) (a .h) (a .at) (b .pre .0), b .pre .1 .0)
+    (allows.method-running (now (a .f)) (now (a .s)) (a .w .end) (a .w .own) (a .h) (a .at) (b .pre .0), b .pre .1)
 
 returns-3 : tie.Need-returns-3
 returns-3 c =
-    let read = c .before .before .before .before .before in
+    let read = c .before .before .before .before in
     let k = file read in
     let a = start k .args in
     let g = now (k .file-of .result) in
