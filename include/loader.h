@@ -97,10 +97,10 @@
  * operation takes about 0.06 ms over a full store of 8,192 bytes and 0.5 ms over
  * one of 65,535. These are no bounds. Packages can be made for the purpose of
  * taking longer: an operation over the slowest store of 65,535 bytes that was
- * found takes 1 to 3 seconds. For each package judged the time is at most a
- * constant times its file's bytes times the bytes of the packages that it imports,
- * directly or not. It does not grow with the number of ways up through the
- * classes, whatever the limits.
+ * found takes 1 to 3 seconds, with larger limits (see below) 3 to 5. For each
+ * package judged the time is at most a constant times its file's bytes times the
+ * bytes of the packages that it imports, directly or not. It does not grow with
+ * the number of ways up through the classes, whatever the limits.
  *
  * Stack in bytes on x86-64: no call takes more, whatever the bytes. The figures
  * are read off the library's machine code, every frame and the longest chain of

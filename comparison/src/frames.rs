@@ -102,17 +102,30 @@ impl Frames {
         let Some(function) = self.functions.get(name) else {
             return OUTSIDE + RETURN_ADDRESS;
         };
-        let together = self.recursions.iter().find(|r| r.members.iter().any(|m| m == name));
+        let together = self
+            .recursions
+            .iter()
+            .find(|r| r.members.iter().any(|m| m == name));
         let Some(recursion) = together else {
-            let calls = function.calls.iter().filter(|(callee, _)| !(of.left_out)(callee));
-            let deepest = calls.map(|(callee, depth)| depth + self.bound(callee, of)).max();
+            let calls = function
+                .calls
+                .iter()
+                .filter(|(callee, _)| !(of.left_out)(callee));
+            let deepest = calls
+                .map(|(callee, depth)| depth + self.bound(callee, of))
+                .max();
             return RETURN_ADDRESS + function.deepest.max(deepest.unwrap_or(0));
         };
-        let members = || recursion.members.iter().filter_map(|member| self.functions.get(member));
+        let members = || {
+            recursion
+                .members
+                .iter()
+                .filter_map(|member| self.functions.get(member))
+        };
         let once: usize = members().map(|f| f.deepest + RETURN_ADDRESS).sum();
-        let callees = members().flat_map(|f| &f.calls).filter(|(callee, _)| {
-            !(of.left_out)(callee) && !recursion.members.contains(callee)
-        });
+        let callees = members()
+            .flat_map(|f| &f.calls)
+            .filter(|(callee, _)| !(of.left_out)(callee) && !recursion.members.contains(callee));
         let beyond = callees.map(|(callee, _)| self.bound(callee, of)).max();
         recursion.most[usize::from(of.larger)] * once + beyond.unwrap_or(0)
     }
@@ -148,19 +161,27 @@ fn split(text: &str) -> Vec<(String, Vec<Instruction>)> {
 
 /// Follows a function's jumps, with the depth of its frame at each instruction.
 fn walk(name: &str, code: &[Instruction]) -> Result<Function, String> {
-    let places: BTreeMap<usize, usize> = code.iter().enumerate().map(|(i, c)| (c.address, i)).collect();
+    let places: BTreeMap<usize, usize> = code
+        .iter()
+        .enumerate()
+        .map(|(i, c)| (c.address, i))
+        .collect();
     let mut function = Function::default();
     let mut depths: BTreeMap<usize, usize> = BTreeMap::new();
     let mut left = vec![(0, 0)];
     // The depth at a jump through a table, whose targets the listing does not show: what no other
     // jump reaches is taken for them.
     let mut by_table = None;
-    while let Some((mut at, mut depth)) = left.pop().or_else(|| unreached(code, &depths, by_table)) {
+    while let Some((mut at, mut depth)) = left.pop().or_else(|| unreached(code, &depths, by_table))
+    {
         while at < code.len() && !depths.get(&at).is_some_and(|known| *known >= depth) {
             depths.insert(at, depth);
             let probed = probe(code, at);
             let instruction = &code[at];
-            let (word, operands) = instruction.text.split_once(' ').unwrap_or((&instruction.text, ""));
+            let (word, operands) = instruction
+                .text
+                .split_once(' ')
+                .unwrap_or((&instruction.text, ""));
             let operands = operands.trim();
             if let Some((bytes, next)) = probed {
                 depth += bytes;
@@ -172,8 +193,13 @@ fn walk(name: &str, code: &[Instruction]) -> Result<Function, String> {
                 "push" => depth += 8,
                 "pop" => depth = depth.saturating_sub(8),
                 "sub" | "add" if operands.ends_with(",%rsp") => {
-                    let bytes = immediate(operands).ok_or(format!("{name}: {}", instruction.text))?;
-                    depth = if word == "sub" { depth + bytes } else { depth.saturating_sub(bytes) };
+                    let bytes =
+                        immediate(operands).ok_or(format!("{name}: {}", instruction.text))?;
+                    depth = if word == "sub" {
+                        depth + bytes
+                    } else {
+                        depth.saturating_sub(bytes)
+                    };
                 }
                 "and" if operands.ends_with(",%rsp") => depth += 64,
                 "call" => {
@@ -195,7 +221,9 @@ fn walk(name: &str, code: &[Instruction]) -> Result<Function, String> {
                         break;
                     }
                 }
-                "lea" if operands.ends_with(",%rsp") => return Err(format!("{name}: {}", instruction.text)),
+                "lea" if operands.ends_with(",%rsp") => {
+                    return Err(format!("{name}: {}", instruction.text))
+                }
                 _ => {}
             }
             function.deepest = function.deepest.max(depth);
@@ -206,7 +234,11 @@ fn walk(name: &str, code: &[Instruction]) -> Result<Function, String> {
 }
 
 /// The first instruction that no jump has reached, where there is a jump through a table.
-fn unreached(code: &[Instruction], depths: &BTreeMap<usize, usize>, by_table: Option<usize>) -> Option<(usize, usize)> {
+fn unreached(
+    code: &[Instruction],
+    depths: &BTreeMap<usize, usize>,
+    by_table: Option<usize>,
+) -> Option<(usize, usize)> {
     let depth = by_table?;
     let place = (0..code.len()).find(|place| !depths.contains_key(place))?;
     Some((place, depth))
@@ -218,7 +250,14 @@ fn probe(code: &[Instruction], at: usize) -> Option<(usize, usize)> {
     if !texts.first()?.starts_with("mov") || !texts.first()?.ends_with("%rsp,%r11") {
         return None;
     }
-    let bytes = immediate(texts.get(1)?.strip_prefix("sub")?.trim().strip_suffix(",%r11").map(|_| texts[1])?)?;
+    let bytes = immediate(
+        texts
+            .get(1)?
+            .strip_prefix("sub")?
+            .trim()
+            .strip_suffix(",%r11")
+            .map(|_| texts[1])?,
+    )?;
     let ends = texts.iter().position(|text| text.starts_with("jne"))?;
     Some((bytes, at + ends + 1))
 }
@@ -226,7 +265,10 @@ fn probe(code: &[Instruction], at: usize) -> Option<(usize, usize)> {
 /// The number in `$0x1000,%rsp`, wherever it stands.
 fn immediate(operands: &str) -> Option<usize> {
     let from = operands.find("$0x")? + 3;
-    let digits: String = operands[from..].chars().take_while(char::is_ascii_hexdigit).collect();
+    let digits: String = operands[from..]
+        .chars()
+        .take_while(char::is_ascii_hexdigit)
+        .collect();
     usize::from_str_radix(&digits, 16).ok()
 }
 

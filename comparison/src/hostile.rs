@@ -43,6 +43,8 @@ pub const WIDE_HANDLERS: &str = "the longest codes of any instructions, 16 handl
 pub const CHAIN_SECOND: &str = "the chain in version 2";
 pub const CALLED_SECOND: &str = "the references called, in 16 handlers' ranges";
 pub const CHAIN_DEEP: &str = "limits 16 and 8: a chain of 15 × 64 names, 8 parents a level";
+pub const TURNS_DEEP: &str =
+    "limits 16 and 8: by turns, each domain twice, and listed by its second place";
 pub const BELOW_DEEP: &str = "limits 16 and 8: small packages below a ladder of 15 levels";
 pub const CROSSING_DEEP: &str = "limits 16 and 8: parents crossing eight packages a level";
 pub const LONGEST_HANDLERS: &str = "codes of 32,767 and 32,400 bytes, 16 handlers each";

@@ -14,8 +14,10 @@ use independent::policy::OWN;
 /// The classes of the chain by the standard limits: one above the depth limit.
 const CLASSES: u8 = Limits::STANDARD.depth - 1;
 
-/// The most levels of interfaces by these limits.
-const LEVELS: usize = 6;
+/// The most levels of interfaces by limits, a class between them and the limit.
+fn levels_most(limits: Limits) -> usize {
+    usize::from(limits.depth) - 2
+}
 
 /// A package whose classes of kind 0 are a chain of so many, each with so many names of its
 /// own.
@@ -50,12 +52,12 @@ struct Level {
 }
 
 impl Level {
-    fn of(lists: &Lists) -> Self {
+    fn of(lists: &Lists, limits: Limits) -> Self {
         Level {
             home: lists.home,
             domains: lists.asked.clone(),
             count: 8,
-            parents: 4,
+            parents: limits.parents,
             names: 4,
             asking: lists.asking.clone(),
         }
@@ -131,7 +133,8 @@ fn chain_with(name: &'static str, kb: usize, list: &[u8]) -> Workload {
         names,
         asking: list.to_vec(),
     };
-    let entries = below_class(entries, length, (&[level], LEVELS), 2, (1, CLASSES - 1));
+    let levels = (&[level][..], levels_most(Limits::STANDARD));
+    let entries = below_class(entries, length, levels, 2, (1, CLASSES - 1));
     workload(name, &entries, length)
 }
 
@@ -165,17 +168,27 @@ pub(crate) fn own_alone() -> Workload {
 }
 
 pub(crate) fn chain_of_lists(name: &'static str, lists: Lists) -> Workload {
-    let level = Level::of(&lists);
+    let level = Level::of(&lists, Limits::STANDARD);
     let mut entries = start();
     entries.push(chain_package(CLASSES, 4, lists.running, &lists.listed));
-    let entries = below_class(entries, LARGEST, (&[level], LEVELS), 4, (1, CLASSES - 1));
+    let levels = (&[level][..], levels_most(Limits::STANDARD));
+    let entries = below_class(entries, LARGEST, levels, 4, (1, CLASSES - 1));
     workload(name, &entries, LARGEST)
 }
 
 /// The same where the methods that run lie in two packages by turns, and the interfaces
 /// in the homes of both.
 pub(crate) fn lists_by_turns(name: &'static str, lists: [Lists; 2]) -> Workload {
-    let levels = [Level::of(&lists[0]), Level::of(&lists[1])];
+    turns_within(name, &lists, Limits::STANDARD, LARGEST)
+}
+
+/// The same at the greatest limits; room for these is left.
+pub(crate) fn deep_turns(name: &'static str, lists: [Lists; 2]) -> Workload {
+    turns_within(name, &lists, Limits::GREATEST, LARGEST - Limits::BYTES)
+}
+
+fn turns_within(name: &'static str, lists: &[Lists; 2], limits: Limits, room: usize) -> Workload {
+    let levels = [Level::of(&lists[0], limits), Level::of(&lists[1], limits)];
     let package = |number: usize, imports, lists: &Lists, parents: &[(u8, u8)], names: [u16; 2]| {
         let methods = names.map(|name| runs(name, Some(&lists.listed)));
         let model = FileModel {
@@ -193,6 +206,7 @@ pub(crate) fn lists_by_turns(name: &'static str, lists: [Lists; 2]) -> Workload 
     }
     entries.push(package(1, vec![], &lists[0], &[], [1, 3]));
     entries.push(package(50, vec![aid(1)], &lists[1], &[(1, 0)], [0, 2]));
-    let entries = below_class(entries, LARGEST, (&levels, LEVELS), 4, (50, 0));
+    let levels = (&levels[..], levels_most(limits));
+    let entries = below_class(entries, room, levels, 4, (50, 0));
     workload(name, &entries, LARGEST)
 }

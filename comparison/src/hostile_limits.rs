@@ -1,9 +1,12 @@
 //! Hostile stores of version 2 with the greatest limits.
 
 use crate::hostile::{aid, packed, start, workload, LARGEST};
-use crate::hostile::{BELOW_DEEP, CHAIN_DEEP, CROSSING_DEEP, LONGEST_HANDLERS, SWITCHES};
-use crate::hostile_chains::deep_chain;
+use crate::hostile::{
+    BELOW_DEEP, CHAIN_DEEP, CROSSING_DEEP, LONGEST_HANDLERS, SWITCHES, TURNS_DEEP,
+};
+use crate::hostile_chains::{deep_chain, deep_turns};
 use crate::hostile_handlers::one_byte_code;
+use crate::hostile_lists::Lists;
 use crate::hostile_tables::{below, crossing, Levels};
 use crate::ordinary_limits::limited;
 use crate::workloads::Workload;
@@ -15,6 +18,7 @@ pub(crate) fn with_limits() -> Vec<Workload> {
     let found = [
         deep_chain(CHAIN_DEEP, 8),
         deep_chain(CHAIN_DEEP, 64),
+        deep_turns(TURNS_DEEP, [Lists::twice(), Lists::twice()]),
         below(&levels(BELOW_DEEP, 8)),
         crossing(&levels(CROSSING_DEEP, 1), 8),
         longest_codes(),

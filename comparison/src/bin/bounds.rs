@@ -13,7 +13,9 @@ use std::process::ExitCode;
 
 /// The words of each line.
 fn lines(text: &str) -> impl Iterator<Item = Vec<&str>> {
-    let lines = text.lines().map(|line| line.split('#').next().unwrap_or(""));
+    let lines = text
+        .lines()
+        .map(|line| line.split('#').next().unwrap_or(""));
     lines.map(|line| line.split_whitespace().collect())
 }
 
