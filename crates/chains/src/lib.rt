@@ -140,7 +140,8 @@ fn stored_names<'a>(
     requires { ⌜ PartRoom (now f) (now s) (kept .end) 0 (storeLimits (now s) .depth) (d .home) (d .number) × (0 < d .home .from) ⌝ }
     requires { ⌜ Kept (now f) (now s) (now names) kept × Room (now f) (now s) (now names) ⌝ }
     requires { ⌜ Indexed (now s) (kept .end) (now index) × SlotsTrue (now f) (now s) (now slots) ⌝ }
-    ensures { λ r. ⌜ KeptFor (now (f .entry)) (now (s .entry)) (now (names .exit)) (d .home) (d .number) r × Same (now (names .entry)) (now (names .exit)) 64 namesStart × (length (now (names .exit)) ≡ length (now (names .entry))) ⌝ }
+    ensures { λ r. ⌜ KeptFor (now (f .entry)) (now (s .entry)) (now (names .exit)) (d .home) (d .number) r ×
+        Same (now (names .entry)) (now (names .exit)) 64 namesStart × (length (now (names .exit)) ≡ length (now (names .entry))) ⌝ }
     ensures { λ _. ⌜ SlotsTrue (now (f .entry)) (now (s .entry)) (now (slots .exit)) ⌝ }
 {
     let g = d.home;

@@ -51,7 +51,8 @@ pub depths-start : (s : Bytes) (n : ℕ) → depthsLength s ≤ n → DepthsKept
 depths-start s n r = record {
   room = omega (arith, r, length-replicate {A = ℕ} n 0);
   told = λ es size stand sound h x t.
-      absurd (among-none (t .pre) (loaded (x .domain) (part s (h .from) (h .to))) (t .post) (sym (entries-over s (firstEntry s) es (firstEntry s) (omega arith) stand) ∙ t .are));
+      absurd (among-none (t .pre) (loaded (x .domain) (part s (h .from) (h .to))) (t .post)
+      (sym (entries-over s (firstEntry s) es (firstEntry s) (omega arith) stand) ∙ t .are));
 }
 
 -- the depths of an accepted file's classes are within the limit

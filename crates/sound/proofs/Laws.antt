@@ -93,7 +93,8 @@ told-used : (s : Bytes) (r : Layout) (u : ℕ) → r ≡ layouts.Used u → used
     (es : List Entry) × (entriesOf s ≡ some es) × (used (storeOpening s) es ≡ u)
 told-used s r u q e = go (entriesOf s) refl (ap usedTold (sym q) ∙ e)
   where
-    go : (o : Option (List Entry)) → entriesOf s ≡ o → some u ≡ (o andThen λ es. some (used (storeOpening s) es)) → (es : List Entry) × (entriesOf s ≡ some es) × (used (storeOpening s) es ≡ u)
+    go : (o : Option (List Entry)) → entriesOf s ≡ o → some u ≡ (o andThen λ es. some (used (storeOpening s) es)) →
+        (es : List Entry) × (entriesOf s ≡ some es) × (used (storeOpening s) es ≡ u)
     go none h x = let z : _≡_ {A = ℕ} 0 1 = cc in absurd (omega arith)
     go (some es) h x = (es, h, sym (Option·some-injective _ _ x))
 

@@ -117,8 +117,9 @@ named-place l a i (e ∷ es) h =
     ap₂ (λ (b : Bool) (o : Option (ℕ × ℕ)). pick b (some (i, n)) o) (named-is l a e (h .0)) (named-place l a n es (h .1))
 
 -- what the search for a package answers
-pub package-found : {s : Bytes} {es : List Entry} {k : ℕ} {a : Aid} {i j m : ℕ} {d : Bytes} → Entries s (firstEntry s) es k → AllRead (storeLimits s) es → placeOf
-    (namedBy a) (firstEntry s) es ≡ some (i, m) → j ≤ m → m ≤ length s → ((e : Entry) → EntryAt s i e m → e ≡ loaded d (part s j m)) → FileSays s es a (File i j m)
+pub package-found : {s : Bytes} {es : List Entry} {k : ℕ} {a : Aid} {i j m : ℕ} {d : Bytes} → Entries s (firstEntry s) es k → AllRead (storeLimits s) es →
+    placeOf (namedBy a) (firstEntry s) es ≡ some (i, m) → j ≤ m → m ≤ length s →
+    ((e : Entry) → EntryAt s i e m → e ≡ loaded d (part s j m)) → FileSays s es a (File i j m)
 package-found {s} {es} {k} {a} {i} {j} {m} {d} r h q from to file = go (found-at (isPackage (storeLimits s) a) s (firstEntry s) es k i m r place)
   where
     place : placeOf (isPackage (storeLimits s) a) (firstEntry s) es ≡ some (i, m)
@@ -130,8 +131,8 @@ package-found {s} {es} {k} {a} {i} {j} {m} {d} r h q from to file = go (found-at
         let p = package-is (storeLimits s) a (f .one) (f .found) in
         done f (p .0) (p .1) (p .2) (p .3) (p .4) (p .5) (cc)
       where
-        done : (f : FoundAt (isPackage (storeLimits s) a) s (firstEntry s) es k i m) (d₁ f₁ : Bytes) (p : Package) → f .one ≡ loaded d₁ f₁ → readFile (storeLimits s)
-            f₁ ≡ some p → same a (p .aid) ≡ true → f₁ ≡ part s j m → PackageAt s es a i j m
+        done : (f : FoundAt (isPackage (storeLimits s) a) s (firstEntry s) es k i m) (d₁ f₁ : Bytes) (p : Package) → f .one ≡ loaded d₁ f₁ →
+            readFile (storeLimits s) f₁ ≡ some p → same a (p .aid) ≡ true → f₁ ≡ part s j m → PackageAt s es a i j m
         done f d₁ f₁ p o e t w =
             let stands : EntryAt s i (loaded d₁ (part s j m)) m = subst (λ (x : Entry). EntryAt s i x m) (o ∙ ap (loaded d₁) w) (f .stands) in
             record {
@@ -151,10 +152,13 @@ package-found {s} {es} {k} {a} {i} {j} {m} {d} r h q from to file = go (found-at
 
 pub package-none : (s : Bytes) (es : List Entry) (a : Aid) → AllRead (storeLimits s) es → any (namedBy a) es ≡ false → FileSays s es a Missing
 package-none s es a h n =
-    let p : placeOf (isPackage (storeLimits s) a) (firstEntry s) es ≡ none = sym (named-place (storeLimits s) a (firstEntry s) es h) ∙ place-none (namedBy a) (firstEntry s) es n in
+    let p : placeOf (isPackage (storeLimits s) a) (firstEntry s) es ≡ none =
+    sym (named-place (storeLimits s) a (firstEntry s) es h) ∙ place-none (namedBy a) (firstEntry s) es n in
     (p, by-aid-none (storeLimits s) a es (sym (place-any (isPackage (storeLimits s) a) (firstEntry s) es) ∙ ap isSome p))
 
 -- 21. an entry that stands in the buffer behind others fits
-pub fits-standing : (s : Bytes) (es : List Entry) (i : ℕ) (e : Entry) (j : ℕ) → Entries s (firstEntry s) es i → EntryAt s i e j → q21-fits (storeOpening s) (length s) es e ≡ true
+pub fits-standing : (s : Bytes) (es : List Entry) (i : ℕ) (e : Entry) (j : ℕ) → Entries s (firstEntry s) es i → EntryAt s i e j →
+    q21-fits (storeOpening s) (length s) es e ≡ true
 unfolding q21-fits
-fits-standing s es i e j r t = le-leb (used (storeOpening s) es + length (entryBytes e)) (length s) (omega (arith, entries-next s (firstEntry s) es i r, entry-next s i e j t, t .to))
+fits-standing s es i e j r t =
+    le-leb (used (storeOpening s) es + length (entryBytes e)) (length s) (omega (arith, entries-next s (firstEntry s) es i r, entry-next s i e j t, t .to))

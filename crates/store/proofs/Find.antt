@@ -103,8 +103,8 @@ module _ {q : Entry → Bool} {s : Bytes} {k i : ℕ} (w : Walks q s k i) where
   pub walks-package : {a m j : ℕ} → PartAt s i k (Package a m j) → q (loaded (part s a m) (part s m j)) ≡ false → Walks q s k j
   walks-package {a} {m} {j} p h es r = let v = w es r in walk-more v ((p (v .rest) (v .from)) .2) h
 
-  pub found-domain : {a j : ℕ} → PartAt s i k (Domain a j) → q (domain (part s a j)) ≡ true → (es : List Entry) → Entries s (firstEntry s) es k → placeOf q (firstEntry s) es ≡ some
-      (i, j)
+  pub found-domain : {a j : ℕ} → PartAt s i k (Domain a j) → q (domain (part s a j)) ≡ true → (es : List Entry) → Entries s (firstEntry s) es k →
+      placeOf q (firstEntry s) es ≡ some (i, j)
   found-domain {a} {j} p h es r = let v = w es r in walk-found v ((p (v .rest) (v .from)) .1) h
 
   pub found-package : {a m j : ℕ} → PartAt s i k (Package a m j) → q (loaded (part s a m) (part s m j)) ≡ true → (es : List Entry) → Entries s (firstEntry s) es k →

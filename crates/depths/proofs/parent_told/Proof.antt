@@ -168,7 +168,8 @@ returns c =
               (a .x .pack) (a .x .class) (i .given .0 .0) (pre .0 .1) (home-at .result) (home-at .ensures) (now (file-of .result)) (file-of .ensures)
               (subst (ClassStands (now (file-of .result)) (a .x .class)) (i .given .1) (stands-at .ensures .0)) (now (a .depths)) (now (a .t))
               (pre .1 .1 .1 .0 .0) (λ z. ((pre .1 .1 .1 .1) z) .1) (c .before .wide2 .result) (c .depth-told .result) (c .before .wide2 .ensures .0)
-              (c .depth-told .ensures .0 ∙ ap (λ (w : ℕ). toldDepth w (now (a .depths)) (now (a .t)) (home-at .result .from) (i .given .0 .0) (a .x .class) (c .before .wide2 .result)) (pre .1 .1 .1 .0 .2)),
+              (c .depth-told .ensures .0
+              ∙ ap (λ (w : ℕ). toldDepth w (now (a .depths)) (now (a .t)) (home-at .result .from) (i .given .0 .0) (a .x .class) (c .before .wide2 .result)) (pre .1 .1 .1 .0 .2)),
           c .depth-told .ensures .1,
         ),
         (numbers.rows-written (now (a .f)) (now (a .s)) (a .x .end) (now (a .homes))

@@ -33,9 +33,10 @@ loop-holds : tie.Need-loop-holds Inv-loop μ-loop
 loop-holds c =
     let start = c .before .before .before in
     let s = now (start .args .s) in
+    let table = now (start .args .table) in
     let at = sym (c .first-entry .ensures) in (
       subst (phase.Passing s (start .args .end)) at (phase.passing-start s (start .args .end)),
-      subst (λ (i : ℕ). DomainsIs s i (set (now (start .args .table)) 0 0)) at (keys.domains-zero s (start .args .end) (now (start .args .table)) (start .pre .0) (start .pre .1 .1)),
+      subst (λ (i : ℕ). DomainsIs s i (set table 0 0)) at (keys.domains-zero s (start .args .end) table (start .pre .0) (start .pre .1 .1)),
       refl,
     )
 

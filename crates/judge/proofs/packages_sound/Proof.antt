@@ -152,7 +152,9 @@ returns c =
     let st = start .pre .0 .0 in (
       packages.package-bad (now (a .s)) (a .end) (turn .at) (turn .inv .0) (from .given .0 .0) (from .given .0 .1 .0) (from .given .0 .1 .1 .0)
           (subst (PartAt (now (a .s)) (turn .at) (a .end)) (from .given .1) (c3 .entry-at .ensures))
-          (subst (EntrySays (now (a .s)) (turn .at) (entryOf (now (a .s)) (record { at = turn .at; file = from .given .0 .1 .0; next = from .given .0 .1 .1 .0 }))) (not-true _ (c .if1 .taken)) (c1 .package-sound .ensures .0)),
+          (subst (EntrySays (now (a .s)) (turn .at)
+          (entryOf (now (a .s)) (record { at = turn .at; file = from .given .0 .1 .0; next = from .given .0 .1 .1 .0 })))
+          (not-true _ (c .if1 .taken)) (c1 .package-sound .ensures .0)),
       λ e. let z :
           _≡_ {A = ℕ} 0 1 = cc in absurd (omega arith),
     )
@@ -186,7 +188,9 @@ loop-again-2 c =
     let kept = package-sound .ensures .1 (not-false _ (c .if1 .left)) in (
       packages.package-on (now (a .s)) (a .end) (turn .at) (turn .inv .0) (from .given .0 .0) (from .given .0 .1 .0) (from .given .0 .1 .1 .0)
           (subst (PartAt (now (a .s)) (turn .at) (a .end)) (from .given .1) (c3 .entry-at .ensures))
-          (subst (EntrySays (now (a .s)) (turn .at) (entryOf (now (a .s)) (record { at = turn .at; file = from .given .0 .1 .0; next = from .given .0 .1 .1 .0 }))) (not-false _ (c .if1 .left)) (package-sound .ensures .0)),
+          (subst (EntrySays (now (a .s)) (turn .at)
+          (entryOf (now (a .s)) (record { at = turn .at; file = from .given .0 .1 .0; next = from .given .0 .1 .1 .0 })))
+          (not-false _ (c .if1 .left)) (package-sound .ensures .0)),
       kept .0,
       kept .1,
       omega (arith, turn .inv .3, package-sound .kept .1 .1 .0),

@@ -10,74 +10,75 @@ use borrow.Fn.Kinds.{In}
 use borrow.Fn.PlainCycle.{Measures, is, falls, and}
 use Rattle.judge.specs.Says.{PackagesSay, LoadSays}
 use Rattle.sound.proofs.Laws as laws
-use Rattle.sound.proofs.load_large.Reads as load-large
-use Rattle.sound.proofs.load_large.Kinds as load-large-kinds
-use Rattle.sound.proofs.+load_large.Lts-load_large as load-large-lts
+use Rattle.sound.proofs.load_large.Reads as reads
+use Rattle.sound.proofs.load_large.Kinds as kinds
+use Rattle.sound.proofs.+load_large.Lts-load_large as lts
 use Rattle.judge.proofs.load_answer.Reads as load-answer-reads
 use Rattle.judge.proofs.packages_sound.Reads as packages-sound-reads
 use Rattle.sound.proofs.+load_large.{statement}
 use Rattle.sound.proofs.+load_large.Tie.{close}
 
-abbrev μ-load-large : Measures 2 load-large-kinds.ps ℕ
-μ-load-large κs a = 0
+abbrev μ : Measures 2 kinds.ps ℕ
+μ κs a = 0
 
-abbrev load-large-at : ℕ → In 2 load-large-kinds.ps
-load-large-at t = and 2 load-large-kinds.ps (is 2 load-large-kinds.ps μ-load-large t) load-large.Pre
+abbrev here : ℕ → In 2 kinds.ps
+here t = and 2 kinds.ps (is 2 kinds.ps μ t) reads.Pre
 
-abbrev load-large-below : ℕ → In 2 load-large-kinds.ps
-load-large-below t = and 2 load-large-kinds.ps (falls 2 load-large-kinds.ps _<_ μ-load-large t) load-large.Pre
+abbrev below : ℕ → In 2 kinds.ps
+below t = and 2 kinds.ps (falls 2 kinds.ps _<_ μ t) reads.Pre
 
 -- what each callee asks for and gives
-abbrev claims : ℕ → load-large-lts.Claims
-claims t = (load-large-below t, load-large.Post, packages-sound-reads.Asked, packages-sound-reads.Learnt, load-answer-reads.Asked, load-answer-reads.Learnt)
+abbrev claims : ℕ → lts.Claims
+claims t = (below t, reads.Post, packages-sound-reads.Asked, packages-sound-reads.Learnt, load-answer-reads.Asked, load-answer-reads.Learnt)
 
-load-large-requires : (t : ℕ) → load-large-lts.Need-load-large-requires (claims t) (load-large-at t) load-large.Post
-load-large-requires t c κs = absurd (omega (arith, c .if1 .taken, c .before .before .before .before .pre .1 .1 .0))
+itself-requires : (t : ℕ) → lts.Need-load-large-requires (claims t) (here t) reads.Post
+itself-requires t c κs = absurd (omega (arith, c .if1 .taken, c .before .before .before .before .pre .1 .1 .0))
 
-returns : (t : ℕ) → load-large-lts.Need-returns (claims t) (load-large-at t) load-large.Post
+returns : (t : ℕ) → lts.Need-returns (claims t) (here t) reads.Post
 returns t c = search needs
 
-slice-aggregate-packages-sound : (t : ℕ) → load-large-lts.Need-slice-aggregate-packages-sound (claims t) (load-large-at t) load-large.Post
+slice-aggregate-packages-sound : (t : ℕ) → lts.Need-slice-aggregate-packages-sound (claims t) (here t) reads.Post
 slice-aggregate-packages-sound t c = search needs
 
-slice-aggregate-packages-sound-2 : (t : ℕ) → load-large-lts.Need-slice-aggregate-packages-sound-2 (claims t) (load-large-at t) load-large.Post
+slice-aggregate-packages-sound-2 : (t : ℕ) → lts.Need-slice-aggregate-packages-sound-2 (claims t) (here t) reads.Post
 slice-aggregate-packages-sound-2 t c = search needs
 
-slice-aggregate-packages-sound-3 : (t : ℕ) → load-large-lts.Need-slice-aggregate-packages-sound-3 (claims t) (load-large-at t) load-large.Post
+slice-aggregate-packages-sound-3 : (t : ℕ) → lts.Need-slice-aggregate-packages-sound-3 (claims t) (here t) reads.Post
 slice-aggregate-packages-sound-3 t c = search needs
 
-slice-aggregate-packages-sound-4 : (t : ℕ) → load-large-lts.Need-slice-aggregate-packages-sound-4 (claims t) (load-large-at t) load-large.Post
+slice-aggregate-packages-sound-4 : (t : ℕ) → lts.Need-slice-aggregate-packages-sound-4 (claims t) (here t) reads.Post
 slice-aggregate-packages-sound-4 t c = search needs
 
-packages-sound-requires : (t : ℕ) → load-large-lts.Need-packages-sound-requires (claims t) (load-large-at t) load-large.Post
+packages-sound-requires : (t : ℕ) → lts.Need-packages-sound-requires (claims t) (here t) reads.Post
 packages-sound-requires t c κs =
     let b = c .before .before .before .before .before .before .before .before in
     let s = now (b .args .s) in
     let p = b .pre .1 in (
       (p .0 .0, p .0 .1),
-      laws.tables-start s (b .args .used) 2428 4917 640 2239 (p .0 .0) (omega (arith, p .1 .0)) (omega (arith, laws.shallow-length s (p .1 .1), p .1 .0)) (omega (arith, p .1 .1))
+      laws.tables-start s (b .args .used) 2428 4917 640 2239 (p .0 .0)
+          (omega (arith, p .1 .0)) (omega (arith, laws.shallow-length s (p .1 .1), p .1 .0)) (omega (arith, p .1 .1))
           (omega (arith, p .1 .0)) (omega (arith, p .1 .0)),
     )
 
-returns-2 : (t : ℕ) → load-large-lts.Need-returns-2 (claims t) (load-large-at t) load-large.Post
+returns-2 : (t : ℕ) → lts.Need-returns-2 (claims t) (here t) reads.Post
 returns-2 t c =
     let c1 = c .before .before .before .before .before in
     let b = c1 .before .before .before .before .before .before .before .before .before in
     inl (subst (PackagesSay (now (b .args .s)) (b .args .used)) (not-true _ (c .if2 .taken)) (c1 .packages-sound .ensures .0), refl)
 
-slice-aggregate-load-answer : (t : ℕ) → load-large-lts.Need-slice-aggregate-load-answer (claims t) (load-large-at t) load-large.Post
+slice-aggregate-load-answer : (t : ℕ) → lts.Need-slice-aggregate-load-answer (claims t) (here t) reads.Post
 slice-aggregate-load-answer t c = search needs
 
-slice-aggregate-load-answer-2 : (t : ℕ) → load-large-lts.Need-slice-aggregate-load-answer-2 (claims t) (load-large-at t) load-large.Post
+slice-aggregate-load-answer-2 : (t : ℕ) → lts.Need-slice-aggregate-load-answer-2 (claims t) (here t) reads.Post
 slice-aggregate-load-answer-2 t c = search needs
 
-slice-aggregate-load-answer-3 : (t : ℕ) → load-large-lts.Need-slice-aggregate-load-answer-3 (claims t) (load-large-at t) load-large.Post
+slice-aggregate-load-answer-3 : (t : ℕ) → lts.Need-slice-aggregate-load-answer-3 (claims t) (here t) reads.Post
 slice-aggregate-load-answer-3 t c = search needs
 
-slice-aggregate-load-answer-4 : (t : ℕ) → load-large-lts.Need-slice-aggregate-load-answer-4 (claims t) (load-large-at t) load-large.Post
+slice-aggregate-load-answer-4 : (t : ℕ) → lts.Need-slice-aggregate-load-answer-4 (claims t) (here t) reads.Post
 slice-aggregate-load-answer-4 t c = search needs
 
-load-answer-requires : (t : ℕ) → load-large-lts.Need-load-answer-requires (claims t) (load-large-at t) load-large.Post
+load-answer-requires : (t : ℕ) → lts.Need-load-answer-requires (claims t) (here t) reads.Post
 load-answer-requires t c κs =
     let yes = not-false _ (c .before .before .before .before .if2 .left) in
     let c1 = c .before .before .before .before .before .before .before .before .before in
@@ -90,7 +91,7 @@ load-answer-requires t c κs =
     let kept = sound .kept .1 .1 .1 .1 in
     (asked .0, (asked .1, (omega (arith, p .1 .0), (omega (arith, p .1 .1, kept .0), omega (arith, p .1 .0, kept .1 .0)))))
 
-returns-3 : (t : ℕ) → load-large-lts.Need-returns-3 (claims t) (load-large-at t) load-large.Post
+returns-3 : (t : ℕ) → lts.Need-returns-3 (claims t) (here t) reads.Post
 returns-3 t c =
     let yes = not-false _ (c .before .before .before .before .before .before .before .if2 .left) in
     let c1 = c .before .before .before .before .before .before .before .before .before .before .before .before in
@@ -103,8 +104,8 @@ returns-3 t c =
     )
 
 pub +load-large-spec : {M : Type 1} → statement M
-+load-large-spec = close μ-load-large λ t. load-large-lts.spec (claims t) (load-large-at t) load-large.Post
-    (load-large-requires t)
++load-large-spec = close μ λ t. lts.spec (claims t) (here t) reads.Post
+    (itself-requires t)
     (returns t)
     (slice-aggregate-packages-sound t)
     (slice-aggregate-packages-sound-2 t)

@@ -7,60 +7,61 @@ use borrow.Fn.Kinds.{In}
 use borrow.Fn.PlainCycle.{Measures, is, falls, and}
 use Rattle.rules.proofs.Limits.{limits-range}
 use Rattle.sound.proofs.Laws as laws
-use Rattle.sound.proofs.packages_deep_small.Reads as packages-deep-small
-use Rattle.sound.proofs.packages_deep_small.Kinds as packages-deep-small-kinds
-use Rattle.sound.proofs.+packages_deep_small.Lts-packages_deep_small as packages-deep-small-lts
+use Rattle.sound.proofs.packages_deep_small.Reads as reads
+use Rattle.sound.proofs.packages_deep_small.Kinds as kinds
+use Rattle.sound.proofs.+packages_deep_small.Lts-packages_deep_small as lts
 use Rattle.judge.proofs.packages_sound.Reads as packages-sound-reads
 use Rattle.sound.proofs.+packages_deep_small.{statement}
 use Rattle.sound.proofs.+packages_deep_small.Tie.{close}
 
-abbrev μ-packages-deep-small : Measures 1 packages-deep-small-kinds.ps ℕ
-μ-packages-deep-small κs a = 0
+abbrev μ : Measures 1 kinds.ps ℕ
+μ κs a = 0
 
-abbrev packages-deep-small-at : ℕ → In 1 packages-deep-small-kinds.ps
-packages-deep-small-at t = and 1 packages-deep-small-kinds.ps (is 1 packages-deep-small-kinds.ps μ-packages-deep-small t) packages-deep-small.Pre
+abbrev here : ℕ → In 1 kinds.ps
+here t = and 1 kinds.ps (is 1 kinds.ps μ t) reads.Pre
 
-abbrev packages-deep-small-below : ℕ → In 1 packages-deep-small-kinds.ps
-packages-deep-small-below t = and 1 packages-deep-small-kinds.ps (falls 1 packages-deep-small-kinds.ps _<_ μ-packages-deep-small t) packages-deep-small.Pre
+abbrev below : ℕ → In 1 kinds.ps
+below t = and 1 kinds.ps (falls 1 kinds.ps _<_ μ t) reads.Pre
 
 -- what each callee asks for and gives
-abbrev claims : ℕ → packages-deep-small-lts.Claims
-claims t = (packages-deep-small-below t, packages-deep-small.Post, packages-sound-reads.Asked, packages-sound-reads.Learnt)
+abbrev claims : ℕ → lts.Claims
+claims t = (below t, reads.Post, packages-sound-reads.Asked, packages-sound-reads.Learnt)
 
-packages-deep-small-requires : (t : ℕ) → packages-deep-small-lts.Need-packages-deep-small-requires (claims t) (packages-deep-small-at t) packages-deep-small.Post
-packages-deep-small-requires t c κs = absurd (omega (arith, c .if1 .taken, c .before .before .pre .1 .1))
+itself-requires : (t : ℕ) → lts.Need-packages-deep-small-requires (claims t) (here t) reads.Post
+itself-requires t c κs = absurd (omega (arith, c .if1 .taken, c .before .before .pre .1 .1))
 
-returns : (t : ℕ) → packages-deep-small-lts.Need-returns (claims t) (packages-deep-small-at t) packages-deep-small.Post
+returns : (t : ℕ) → lts.Need-returns (claims t) (here t) reads.Post
 returns t c = search needs
 
-slice-aggregate-packages-sound : (t : ℕ) → packages-deep-small-lts.Need-slice-aggregate-packages-sound (claims t) (packages-deep-small-at t) packages-deep-small.Post
+slice-aggregate-packages-sound : (t : ℕ) → lts.Need-slice-aggregate-packages-sound (claims t) (here t) reads.Post
 slice-aggregate-packages-sound t c = search needs
 
-slice-aggregate-packages-sound-2 : (t : ℕ) → packages-deep-small-lts.Need-slice-aggregate-packages-sound-2 (claims t) (packages-deep-small-at t) packages-deep-small.Post
+slice-aggregate-packages-sound-2 : (t : ℕ) → lts.Need-slice-aggregate-packages-sound-2 (claims t) (here t) reads.Post
 slice-aggregate-packages-sound-2 t c = search needs
 
-slice-aggregate-packages-sound-3 : (t : ℕ) → packages-deep-small-lts.Need-slice-aggregate-packages-sound-3 (claims t) (packages-deep-small-at t) packages-deep-small.Post
+slice-aggregate-packages-sound-3 : (t : ℕ) → lts.Need-slice-aggregate-packages-sound-3 (claims t) (here t) reads.Post
 slice-aggregate-packages-sound-3 t c = search needs
 
-slice-aggregate-packages-sound-4 : (t : ℕ) → packages-deep-small-lts.Need-slice-aggregate-packages-sound-4 (claims t) (packages-deep-small-at t) packages-deep-small.Post
+slice-aggregate-packages-sound-4 : (t : ℕ) → lts.Need-slice-aggregate-packages-sound-4 (claims t) (here t) reads.Post
 slice-aggregate-packages-sound-4 t c = search needs
 
-packages-sound-requires : (t : ℕ) → packages-deep-small-lts.Need-packages-sound-requires (claims t) (packages-deep-small-at t) packages-deep-small.Post
+packages-sound-requires : (t : ℕ) → lts.Need-packages-sound-requires (claims t) (here t) reads.Post
 packages-sound-requires t c κs =
     let b = c .before .before .before .before .before .before in
     let s = now (b .args .s) in
     let p = b .pre .1 in (
       (p .0 .0, p .0 .1),
-      laws.tables-start s (b .args .used) 304 821 1152 284 (p .0 .0) (omega (arith, p .1)) (omega (arith, laws.deep-length s, p .1)) (omega (arith, (limits-range s) .0))
+      laws.tables-start s (b .args .used) 304 821 1152 284 (p .0 .0)
+          (omega (arith, p .1)) (omega (arith, laws.deep-length s, p .1)) (omega (arith, (limits-range s) .0))
           (omega (arith, p .1)) (omega (arith, p .1)),
     )
 
-returns-2 : (t : ℕ) → packages-deep-small-lts.Need-returns-2 (claims t) (packages-deep-small-at t) packages-deep-small.Post
+returns-2 : (t : ℕ) → lts.Need-returns-2 (claims t) (here t) reads.Post
 returns-2 t c = c .before .before .before .before .packages-sound .ensures .0
 
 pub +packages-deep-small-spec : {M : Type 1} → statement M
-+packages-deep-small-spec = close μ-packages-deep-small λ t. packages-deep-small-lts.spec (claims t) (packages-deep-small-at t) packages-deep-small.Post
-    (packages-deep-small-requires t)
++packages-deep-small-spec = close μ λ t. lts.spec (claims t) (here t) reads.Post
+    (itself-requires t)
     (returns t)
     (slice-aggregate-packages-sound t)
     (slice-aggregate-packages-sound-2 t)
