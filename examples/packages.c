@@ -7,6 +7,7 @@
 const struct aid CANTEEN = {"canteen", 5, {0xA0, 0x00, 0x00, 0x00, 0xC1}};
 const struct aid DIRECTORY = {"directory", 5, {0xA0, 0x00, 0x00, 0x00, 0xD1}};
 const struct aid PHARMACY = {"pharmacy", 5, {0xA0, 0x00, 0x00, 0x00, 0xF1}};
+const struct aid DOORS = {"doors", 5, {0xA0, 0x00, 0x00, 0x00, 0xB1}};
 const struct aid RADIOLOGY = {"radiology", 5, {0xA0, 0x00, 0x00, 0x00, 0xE1}};
 
 const struct aid MEALS = {"meals", 6, {0xA0, 0x00, 0x00, 0x00, 0xC1, 0x01}};
@@ -14,8 +15,10 @@ const struct aid TREATS = {"treats", 6, {0xA0, 0x00, 0x00, 0x00, 0xC1, 0x02}};
 const struct aid STATEMENTS = {"statements", 6, {0xA0, 0x00, 0x00, 0x00, 0xD1, 0x01}};
 const struct aid REQUESTS = {"requests", 6, {0xA0, 0x00, 0x00, 0x00, 0xD1, 0x02}};
 const struct aid ROTA = {"rota", 6, {0xA0, 0x00, 0x00, 0x00, 0xD1, 0x03}};
+const struct aid CLOCK = {"clock", 6, {0xA0, 0x00, 0x00, 0x00, 0xD1, 0x04}};
 const struct aid DIET = {"diet", 6, {0xA0, 0x00, 0x00, 0x00, 0xF1, 0x01}};
 const struct aid CABINET = {"cabinet", 6, {0xA0, 0x00, 0x00, 0x00, 0xF1, 0x02}};
+const struct aid LOCK = {"lock", 6, {0xA0, 0x00, 0x00, 0x00, 0xB1, 0x01}};
 
 /* Where the size of the whole file stands: behind the mark and the version. */
 enum { SIZE_PLACE = 5 };
@@ -79,13 +82,19 @@ static void end_file(struct file *file)
     file->bytes[SIZE_PLACE + 1] = (uint8_t)(file->length % 256);
 }
 
-/* The domain list: every file of the week has these three, so that a policy's indexes are 0, 1, 2. */
+/* The domain list: these three, so that a policy's indexes are 0, 1, 2. */
 static void put_domains(struct file *file)
 {
     put_u1(file, 3);
     put_aid(file, &CANTEEN);
     put_aid(file, &DIRECTORY);
     put_aid(file, &PHARMACY);
+}
+
+/* No domain list: policies may have FE or FF alone. */
+static void put_no_domains(struct file *file)
+{
+    put_u1(file, 0);
 }
 
 static void put_no_imports(struct file *file)
@@ -145,12 +154,16 @@ static void put_bare_class(struct file *file, unsigned kind, unsigned parents, u
     put_u1(file, 0);
 }
 
-/* The allowed count, and the index of each domain of the set, FE for the own one. */
+/* The allowed count, and the index of each domain of the set, FE for the own one; FF alone for every domain. */
 static void put_allowed(struct file *file, unsigned allowed)
 {
     static const unsigned indexes[] = {0, 1, 2, 0xFE};
     unsigned count = 0;
 
+    if (allowed == BY_EVERY) {
+        put_u1(file, 0xFF);
+        return;
+    }
     for (unsigned i = 0; i < 4; i++) {
         count += allowed >> i & 1u;
     }
@@ -302,5 +315,44 @@ void write_rota(struct file *file, unsigned depth, unsigned parents)
         put_bare_class(file, KIND_INTERFACE, 1, i - 1);
     }
     put_bare_class(file, KIND_CLASS, parents, depth - 2);
+    end_file(file);
+}
+
+void write_clock(struct file *file)
+{
+    static const uint8_t minutes_code[] = {
+        0x14, 0x00, 0x01, 0x51, 0x80, /* iipush 86400: the seconds of a day */
+        0x12, 0x3C,                   /* bipush 60 */
+        0x48,                         /* idiv */
+        0x5E,                         /* i2s */
+        0x78                          /* sreturn */
+    };
+
+    begin_file(file, VERSION_1, &CLOCK);
+    put_no_domains(file);
+    put_no_imports(file);
+    put_no_references(file);
+    put_one_class(file, 1);
+    put_method(file, VISIBLE | STATIC, NAME_MINUTES, BY_EVERY, minutes_code, sizeof minutes_code);
+    end_file(file);
+}
+
+void write_lock(struct file *file, bool draft)
+{
+    static const uint8_t open_code[] = {
+        0x8D, 0x00, 0x00, /* invokestatic, reference 0: minutes */
+        0x78,             /* sreturn */
+        0x0A,             /* iconst_0: from here on in the draft only */
+        0x79              /* ireturn */
+    };
+    enum { UP_TO_RETURN = 4 };
+
+    begin_file(file, VERSION_1, &LOCK);
+    put_no_domains(file);
+    put_one_import(file, &CLOCK);
+    put_one_reference(file, IMPORT_1, NAME_MINUTES);
+    put_one_class(file, 1);
+    put_method(file, VISIBLE | STATIC, NAME_OPEN, BY_OWN, open_code,
+               draft ? sizeof open_code : UP_TO_RETURN);
     end_file(file);
 }

@@ -2,6 +2,7 @@
 #ifndef PACKAGES_H
 #define PACKAGES_H
 
+#include <stdbool.h>
 #include <stddef.h>
 #include <stdint.h>
 
@@ -14,11 +15,11 @@ struct aid {
     uint8_t bytes[LOADER_AID_MOST];
 };
 
-/* Domains: the canteen, the staff directory and the pharmacy; radiology is never created. */
-extern const struct aid CANTEEN, DIRECTORY, PHARMACY, RADIOLOGY;
+/* Domains: the canteen, the staff directory, the pharmacy and the doors; radiology is never created. */
+extern const struct aid CANTEEN, DIRECTORY, PHARMACY, DOORS, RADIOLOGY;
 
 /* Packages: each vendor's bytes and a number of its own. */
-extern const struct aid MEALS, TREATS, STATEMENTS, REQUESTS, ROTA, DIET, CABINET;
+extern const struct aid MEALS, TREATS, STATEMENTS, REQUESTS, ROTA, CLOCK, DIET, CABINET, LOCK;
 
 /* Method names. A name stands for name and descriptor. */
 enum {
@@ -27,7 +28,9 @@ enum {
     NAME_TREAT = 0x0103,
     NAME_STATEMENT = 0x0201,
     NAME_FORWARD = 0x0202,
-    NAME_BOOK = 0x0301
+    NAME_MINUTES = 0x0203,
+    NAME_BOOK = 0x0301,
+    NAME_OPEN = 0x0401
 };
 
 /* The domains that a method allows, as a set. */
@@ -36,7 +39,8 @@ enum {
     BY_CANTEEN = 1,
     BY_DIRECTORY = 2,
     BY_PHARMACY = 4,
-    BY_OWN = 8 /* FE: the domain that the package is loaded in */
+    BY_OWN = 8,   /* FE: the domain that the package is loaded in */
+    BY_EVERY = 16 /* FF: every domain; it stands alone */
 };
 
 /* A package file while it is written. */
@@ -77,5 +81,14 @@ void write_treats(struct file *file);
  * the shift, which has the given depth. It has no methods.
  */
 void write_rota(struct file *file, unsigned depth, unsigned parents);
+
+/* Directory: minutes tells the minutes of a day; it computes in int and answers a short. */
+void write_clock(struct file *file);
+
+/*
+ * Doors: open calls the clock's minutes; it allows its own domain. In the draft, instructions with int stand
+ * behind its return, where nothing leads.
+ */
+void write_lock(struct file *file, bool draft);
 
 #endif

@@ -141,6 +141,14 @@ static void create(struct store store, const struct aid *domain, uint32_t expect
     line(store, 'C', domain, NULL);
 }
 
+/* A domain for door readers: its packages must keep to the subset without int. */
+static void create_without_int(struct store store, const struct aid *domain, uint32_t expected)
+{
+    remember(store);
+    row(store, loader_create_without_int(store.bytes, store.length, domain->bytes, domain->length),
+        expected, loader_number_text(LOADER_DONE), "create domain %s, without int", domain->name);
+}
+
 static void delete_domain(struct store store, const struct aid *domain, uint32_t expected)
 {
     remember(store);
@@ -379,6 +387,36 @@ static void next_series(void)
     load(next_card, "meals", &CANTEEN, &meals, 1, LOADER_DONE);
 }
 
+/* A domain without int, which the simulated card has no line for. */
+static void door_readers(void)
+{
+    struct file clock, lock;
+
+    say("Last: door readers, which run the Java Card subset without int. The doors get a domain without\n"
+        "  int; no other domain, of whatever kind, may then have its AID.");
+    fresh(next_card, LOADER_DONE);
+    create(next_card, &DIRECTORY, LOADER_DONE);
+    create_without_int(next_card, &DOORS, LOADER_DONE);
+    create(next_card, &DOORS, LOADER_DOMAIN_EXISTS);
+    say("  Minutes of clock computes in int: the doors refuse it, the directory does not.");
+    write_clock(&clock);
+    load(next_card, "clock", &DOORS, &clock, 1, LOADER_CODE_INT);
+    load(next_card, "clock", &DIRECTORY, &clock, 1, LOADER_DONE);
+    say("  Open of lock calls minutes: clock may use int, as it lies in another domain. In the first draft\n"
+        "  lock itself has instructions with int, behind its return, where nothing leads.");
+    write_lock(&lock, true);
+    load(next_card, "lock, draft,", &DOORS, &lock, 1, LOADER_CODE_INT);
+    write_lock(&lock, false);
+    load(next_card, "lock", &DOORS, &lock, 1, LOADER_DONE);
+    say("  New readers know int. The domain is deleted and comes back as one of the other kind.");
+    delete_domain(next_card, &DOORS, LOADER_DOMAIN_OCCUPIED);
+    remove_package(next_card, &LOCK, LOADER_DONE);
+    delete_domain(next_card, &DOORS, LOADER_DONE);
+    create(next_card, &DOORS, LOADER_DONE);
+    write_lock(&lock, true);
+    load(next_card, "lock, draft,", &DOORS, &lock, 1, LOADER_DONE);
+}
+
 int main(int count, char **words)
 {
     if (count == 2 && strcmp(words[1], "card") == 0) {
@@ -396,5 +434,6 @@ int main(int count, char **words)
     saturday();
     sunday();
     next_series();
+    door_readers();
     return as_expected ? 0 : 1;
 }

@@ -1,5 +1,5 @@
 /*
- * The staff card loader: seven operations on a store that the caller lends.
+ * The staff card loader: eight operations on a store that the caller lends.
  *
  * Every operation answers number + 256 * figure. The number is 0 when the
  * operation was done; else it is that of the first question answered no
@@ -30,6 +30,16 @@
  * import one another. A load checks that handlers fit their code (24) and runs
  * none. A call that a handler guards, or that stands where it goes on, is a call
  * of its method like any other.
+ *
+ * Domains without int. Door readers run the Java Card subset without int, the
+ * type of 32 bits. A domain that loader_create_without_int creates is of kind 3:
+ * its packages must keep to this subset. A load into it refuses a file with a
+ * barred instruction in any of its codes, reached or not, with 26; operands are no
+ * instructions. docs/FORMATS.md lists what is barred. Stored in such a domain, a
+ * file of this sort makes the store unsound (2). In all else a domain of kind 3 is
+ * like one of kind 1. No two domains have the same AID, whatever their kinds. A
+ * deleted domain may be created again as either kind. Packages of domains of both
+ * kinds may import and call one another.
  *
  * Limits of a series. A store has three limits: the greatest depth of a class,
  * the greatest number of its parents and the greatest length of a code. They are
@@ -65,7 +75,9 @@
  *
  *     loader_fresh,
  *     loader_fresh_limits            every byte
- *     loader_create, loader_load     the entry, at used, its first byte first;
+ *     loader_create,
+ *     loader_create_without_int,
+ *     loader_load                    the entry, at used, its first byte first;
  *                                    then used (bytes 5 and 6)
  *     loader_delete, loader_remove   the later entries, moved up, the first of
  *                                    them first; zeros up to the old used; then
@@ -110,15 +122,16 @@
  * The limit on parents does not matter. Each has a column for stores to 8,192
  * bytes, and one for longer stores.
  *
- *                           standard limits      larger limits
- *                            8,192   longer      8,192   longer
- *     loader_fresh             300      300        300      300
- *     loader_fresh_limits      300      300        300      300
- *     loader_create          7,900   18,430     16,270   28,210
- *     loader_delete          7,900   18,430     16,270   28,210
- *     loader_load            7,900   18,430     16,270   28,210
- *     loader_remove          7,900   18,430     16,270   28,210
- *     loader_query           7,900   18,430     16,270   28,210
+ *                                 standard limits      larger limits
+ *                                  8,192   longer      8,192   longer
+ *     loader_fresh                   300      300        300      300
+ *     loader_fresh_limits            300      300        300      300
+ *     loader_create                7,900   18,430     16,270   28,210
+ *     loader_create_without_int    7,900   18,430     16,270   28,210
+ *     loader_delete                7,900   18,430     16,270   28,210
+ *     loader_load                  7,900   18,430     16,270   28,210
+ *     loader_remove                7,900   18,430     16,270   28,210
+ *     loader_query                 7,900   18,430     16,270   28,210
  *
  * Linking. libloader.a is for x86-64 Linux. It needs one function from outside:
  * memset, as C99 has it. This header compiles where int has 16 bits or more, and
@@ -144,14 +157,16 @@ extern "C" {
  * refused with 10. To a library before 1.3, a store that holds one is not sound.
  * Since 1.4 stores of version 2 have limits of their own, and loader_fresh_limits
  * makes them; LOADER_DEPTH_MOST, the greatest depth in any store, was 8. To a
- * library before 1.4, a store of version 2 is not sound.
+ * library before 1.4, a store of version 2 is not sound. Since 1.5 domains may be
+ * of kind 3, loader_create_without_int creates them, and a load into one may be
+ * refused with 26. To a library before 1.5, a store that has one is not sound.
  */
 #define LOADER_VERSION_MAJOR 1u
-#define LOADER_VERSION_MINOR 4u
+#define LOADER_VERSION_MINOR 5u
 #define LOADER_VERSION (LOADER_VERSION_MAJOR * 256u + LOADER_VERSION_MINOR)
 
-/* The number of an answer: the question that was answered no. 22, 23 and 25 to 29 are no numbers
-   of the loader. */
+/* The number of an answer: the question that was answered no. 22, 23, 25 and 27 to 29 are no
+   numbers of the loader. */
 enum loader_number {
     /* Done: every question was answered yes. */
     LOADER_DONE = 0,
@@ -206,6 +221,8 @@ enum loader_number {
     /* Is each handler's start below its end, its end at most the code length; do start and target
        begin an instruction, and does end begin one or equal the length? */
     LOADER_HANDLER = 24,
+    /* If the domain is of kind 3, is no instruction of any code barred? */
+    LOADER_CODE_INT = 26,
     /* Does each limit given lie in its range: depth 1 to 16, parents 1 to 8, code length 1 to
        32,767? */
     LOADER_LIMITS = 30
@@ -262,7 +279,7 @@ uint32_t loader_fresh_limits(uint8_t *store, size_t store_length,
                              uint8_t depth, uint8_t parents, uint16_t code);
 
 /*
- * Creates a domain.
+ * Creates a domain of kind 1: one whose packages may use int.
  *
  * In:      store; domain: the AID of the new domain.
  * Numbers: 1, 2, 3, 4, 21, asked in this order.
@@ -274,8 +291,22 @@ uint32_t loader_create(uint8_t *store, size_t store_length,
                        const uint8_t *domain, size_t domain_length);
 
 /*
- * Deletes a domain in which no package lies. Policies that name it stay as they
- * are, and do not prevent it.
+ * Creates a domain of kind 3: one whose packages must keep to the subset without
+ * int. On the same bytes its number is that of loader_create.
+ *
+ * In:      store; domain: the AID of the new domain.
+ * Numbers: 1, 2, 3, 4, 21, asked in this order.
+ * Changes: the domain's entry is written at used, as by loader_create but for its
+ *          kind, and used grows by its 3 + domain_length bytes. All other bytes
+ *          stay.
+ * Figure:  0.
+ */
+uint32_t loader_create_without_int(uint8_t *store, size_t store_length,
+                                   const uint8_t *domain, size_t domain_length);
+
+/*
+ * Deletes a domain, of either kind, in which no package lies. Policies that name
+ * it stay as they are, and do not prevent it.
  *
  * In:      store; domain: the AID of a created domain.
  * Numbers: 1, 2, 3, 5, 6, asked in this order.
@@ -288,12 +319,13 @@ uint32_t loader_delete(uint8_t *store, size_t store_length,
                        const uint8_t *domain, size_t domain_length);
 
 /*
- * Checks a package file and installs it in a domain.
+ * Checks a package file and installs it in a domain of either kind.
  *
  * In:      store; domain: the AID of the loading domain, a created one;
  *          file: the whole package file.
- * Numbers: 1, 2, 3, 5, 10, 11, 12, 13, 14, 15, 16, 17, 24, 18, 19, 20, 21, asked
- *          in this order, each of the whole file before the next.
+ * Numbers: 1, 2, 3, 5, 10, 11, 12, 13, 14, 15, 16, 17, 24, 26, 18, 19, 20, 21,
+ *          asked in this order, each of the whole file before the next. 26 is never
+ *          answered where the domain is of kind 1.
  * Changes: the package's entry is written at used: kind, length, the domain's
  *          AID with its length, the file as it is. Used grows by its
  *          4 + domain_length + file_length bytes. All other bytes stay.

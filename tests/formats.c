@@ -14,6 +14,10 @@
  *     handler NUMBER START END TARGET BYTES
  *                                   a load of a package of version 2 with this code and this handler; a store that holds
  *                                   it is sound where the number is 0, and is not where it is another
+ *     subset NUMBER BYTES           a load of a package with this code into a domain of kind 3; in one of kind 1 it is never 26, and
+ *                                   else the same; where that is accepted, the store with the domain of kind 3 is sound where the
+ *                                   number is 0, and is not where it is another
+ *     barred ANSWER OPCODE BYTE     the same of the opcode with this byte behind it: 1: it is barred, 0: it is not
  *     length LENGTH OPCODE          an instruction has this many bytes; 0: there is no such instruction
  *     branch KIND OPCODE            1 or 2: it branches by an s1 or an s2; 0: it does not
  *     call PLACE OPCODE             it calls the reference at this byte; 0: it does not
@@ -37,6 +41,9 @@ static uint8_t length_of[256];
 
 /* The limits of the stores that loads are tried in: depth, parents, code; all 0 for a store of version 1. */
 static unsigned limits[3];
+
+/* Whether their domain is one without int. */
+static int without_int;
 
 static const uint8_t domain[] = {0xA0, 0, 0, 0, 0xD1};
 static const uint8_t imported[] = {0xA0, 0, 0, 0, 0xB1};
@@ -187,6 +194,16 @@ static void new_store(void)
     }
 }
 
+/* Creates the domain that loads are tried in. */
+static void create_domain(void)
+{
+    if (without_int) {
+        loader_create_without_int(store, LOADER_STORE_MOST, domain, sizeof domain);
+    } else {
+        loader_create(store, LOADER_STORE_MOST, domain, sizeof domain);
+    }
+}
+
 /* The number of a load of the file into a new store with its domain and its import. */
 static unsigned loaded(void)
 {
@@ -194,7 +211,7 @@ static unsigned loaded(void)
     size_t length = at;
     memcpy(kept, file, length);
     new_store();
-    loader_create(store, LOADER_STORE_MOST, domain, sizeof domain);
+    create_domain();
     begin(5, 0, 0, 0);
     memcpy(file + 8, imported, sizeof imported);
     u1(0), end();
@@ -292,6 +309,7 @@ static int all_unsound(size_t length)
     memcpy(kept, store, length);
     begin(5, 0, 0, 0), u1(0), end();
     if (loader_create(store, length, domain, 5) != LOADER_STORE_UNSOUND ||
+        loader_create_without_int(store, length, domain, 5) != LOADER_STORE_UNSOUND ||
         loader_delete(store, length, domain, 5) != LOADER_STORE_UNSOUND ||
         loader_load(store, length, domain, 5, file, at) != LOADER_STORE_UNSOUND ||
         loader_remove(store, length, domain, 5) != LOADER_STORE_UNSOUND || memcmp(kept, store, length) != 0 ||
@@ -424,10 +442,55 @@ static int handler_holds(unsigned number, const char *text)
     return said == (number == 0 ? LOADER_PACKAGE_UNKNOWN : LOADER_STORE_UNSOUND);
 }
 
+/* A code in a domain of kind 3 and in one of kind 1; then the latter's store with the kind of its domain, the first entry, changed. */
+static int subset_holds(unsigned number, const uint8_t *code, unsigned length)
+{
+    enum { FIRST_KIND = 7 };
+    unsigned with_int, said;
+    without_int = 1;
+    said = code_number(code, length);
+    without_int = 0;
+    with_int = code_number(code, length);
+    if (said != number || (number == LOADER_CODE_INT ? with_int == number : with_int != number)) {
+        return 0;
+    }
+    if (with_int != 0) {
+        return 1;
+    }
+    store[FIRST_KIND] = 3;
+    said = LOADER_NUMBER(loader_query(store, LOADER_STORE_MOST, domain, 5, domain, 5, 0, 0));
+    return said == (number == 0 ? LOADER_PACKAGE_UNKNOWN : LOADER_STORE_UNSOUND);
+}
+
+/* An instruction with this byte behind its opcode, zeros up to its end, and 7A; a switch has one offset or no pair. */
+static int barred_holds(unsigned barred, unsigned opcode, unsigned byte)
+{
+    static const uint8_t switches[4][14] = {
+        {0x73, 0x00, 0x09, 0x00, 0x00, 0x00, 0x00, 0x00, 0x09, 0x7A},
+        {0x74, 0x00, 0x0D, 0x00, 0x00, 0x00, 0x00, 0x00, 0x00, 0x00, 0x00, 0x00, 0x0D, 0x7A},
+        {0x75, 0x00, 0x05, 0x00, 0x00, 0x7A},
+        {0x76, 0x00, 0x05, 0x00, 0x00, 0x7A}};
+    static const unsigned lengths[4] = {10, 14, 6, 6};
+    uint8_t code[32] = {0};
+    unsigned length = length_of[opcode];
+    if (opcode >= 0x73 && opcode <= 0x76) {
+        return subset_holds(barred ? LOADER_CODE_INT : 0, switches[opcode - 0x73], lengths[opcode - 0x73]);
+    }
+    code[0] = (uint8_t)opcode;
+    if (length > 1) {
+        code[1] = (uint8_t)byte;
+    }
+    /* a branch by this byte goes to an instruction of one byte too */
+    length += 16;
+    code[length++] = 0x7A;
+    without_int = 0;
+    return subset_holds(barred ? LOADER_CODE_INT : code_number(code, length), code, length);
+}
+
 static int holds(char *line)
 {
     char kind[8], name[80] = "";
-    unsigned first, value = 0;
+    unsigned first, value = 0, byte = 0;
     int rest = 0;
     static uint8_t bytes[4096];
 
@@ -452,7 +515,12 @@ static int holds(char *line)
     if (strcmp(kind, "handler") == 0) {
         return handler_holds(first, line + rest);
     }
-    sscanf(line + rest, "%x", &value);
+    if (strcmp(kind, "subset") == 0) {
+        return subset_holds(first, bytes, bytes_of(line + rest, bytes));
+    }
+    if (sscanf(line + rest, "%x %x", &value, &byte) == 2 && strcmp(kind, "barred") == 0) {
+        return barred_holds(first, value, byte);
+    }
     if (strcmp(kind, "length") == 0) {
         return length_holds(value, first);
     }

@@ -3,7 +3,8 @@
 # their opening changed; every limit holds at its value and is refused one past it, in a store of version 1 and with the limits that
 # one of version 2 chooses; these are taken at the edges of their ranges and refused one past them, given and stored; lengths,
 # branches, calls and last instructions of all opcodes are those of the tables; the codes and handlers are answered as said, and a
-# store that holds a handler is sound where its load is accepted, and only there.
+# store that holds a handler is sound where its load is accepted, and only there; a domain without int bars just the opcodes of the
+# table, and a store that holds a code in such a domain is sound where its load is accepted, and only there.
 #
 # Prints a line that begins with "ok", or what is wrong; exit status 0 only if all is right.
 set -u
@@ -105,6 +106,15 @@ marked() {
     echo "store 0 $length $store"
     echo "store 0 300 $store"
     for place in 0000 0001 0002 0003 0004 0005 0006 0007; do echo "store 2 $length $(with "$store" "$place" EE)"; done
+    # kinds of the domain's entry, and both kinds with one AID
+    echo "store 0 $length $(with "$store" 0007 03)"
+    for kind in 00 02 04 FF; do echo "store 2 $length $(with "$store" 0007 "$kind")"; done
+    for kinds in 0101 0103 0301 0303; do
+        before=$(with "$(with "$store" 0007 "${kinds%??}")" 0005 0032 | cut -c1-84)
+        behind=$(echo "$store" | cut -c15-30 | sed "s/^../${kinds#??}/")
+        echo "store 2 300 $before$behind"
+        echo "store 0 300 $before${behind%??}D2"
+    done
     # its package has no codes, so that version 2 is laid out alike
     echo "store 0 $length $(with "$store" 001B 0002)"
     echo "store 2 $length $(with "$store" 001B 0003)"
@@ -152,6 +162,17 @@ marked() {
     rows Code | sed 's/^\([^|]*\)|\([^|]*\).*/code \2 \1/'
     code=$(sed -n 's/^Handlers of the code `\([0-9A-F ]*\)`.*/\1/p' "$page")
     rows Start | while IFS='|' read -r start end target number; do echo "handler $number $start $end $target $code"; done
+    rows 'Code without int' | sed 's/^\([^|]*\)|\([^|]*\).*/subset \2 \1/'
+    # each instruction by its opcode, with 00 and with 0D behind it
+    rows 'Barred opcodes' | cut -d'|' -f1 | opcodes | sort >"$out/barred"
+    rows 'Barred by type' | cut -d'|' -f1 | opcodes | sort >"$out/typed"
+    { list '^[1-5]$'; list '^a switch'; } | sort | while read -r opcode; do
+        by_opcode=0 by_type=0
+        if grep -qx "$opcode" "$out/barred"; then by_opcode=1 by_type=1; fi
+        if grep -qx "$opcode" "$out/typed"; then by_type=1; fi
+        echo "barred $by_opcode $opcode 00"
+        echo "barred $by_type $opcode 0D"
+    done
 } >"$out/lines" || fail "the page cannot be read"
 
 # the packages of the first two dumps are loaded in the week
@@ -191,9 +212,11 @@ FIELDS
     list '^none'
 } | sort >"$out/opcodes"
 awk 'BEGIN { for (i = 0; i < 256; i++) printf "%02X\n", i }' | cmp -s - "$out/opcodes" || fail "the table has not each opcode once"
-for kind in limit chosen fresh load store length branch call last code handler; do
+# 51 opcodes are barred, each once, and three by type
+[ "$(wc -l <"$out/barred") $(sort -u "$out/barred" | wc -l) $(wc -l <"$out/typed")" = "51 51 3" ] || fail "other opcodes are barred"
+for kind in limit chosen fresh load store length branch call last code handler subset barred; do
     grep -q "^$kind " "$out/lines" || fail "nothing is tried of: $kind"
 done
 "$out/formats" <"$out/lines" >"$out/said" || fail "the library says otherwise:" "$out/said"
 
-echo "ok formats: $(cat "$out/said") of the page's limits, chosen limits, dumps, instructions, codes and handlers"
+echo "ok formats: $(cat "$out/said") of the page's limits, chosen limits, dumps, instructions, codes, handlers and kinds of domains"

@@ -1,7 +1,7 @@
 #!/bin/sh
 # header.sh: the C headers compile by themselves as C99, C11, C++98 and C++17, with other compilers at hand too, and where int has
-# 16 bits; each number from 0 to 21, 24 and 30 has one constant; the limits that a comment tells are those of the constants; the
-# static library exports the seven operations and needs memset alone.
+# 16 bits; each number from 0 to 21, 24, 26 and 30 has one constant; the limits that a comment tells are those of the constants; both
+# creations have the same numbers; the static library exports the eight operations and needs memset alone.
 #
 # Prints a line that begins with "ok", or what is wrong; exit status 0 only if all is right.
 set -u
@@ -58,11 +58,14 @@ fi
 sed -n '/^enum loader_number {/,/^};/s/^ *LOADER_[A-Z_]* = \([0-9]*\),\{0,1\}$/\1/p' include/loader.h >"$out/numbers"
 {
     seq 0 21
-    printf '%s\n' 24 30
-} | cmp -s - "$out/numbers" || fail "the numbers are not 0 to 21, 24 and 30, each once" "$out/numbers"
+    printf '%s\n' 24 26 30
+} | cmp -s - "$out/numbers" || fail "the numbers are not 0 to 21, 24, 26 and 30, each once" "$out/numbers"
 # each of them but 0 is asked by an operation, and no other is
 sed -n '/^ \* Numbers: /,/^ \* Changes: /{/Changes/d; s/;.*//; p}' include/loader.h | grep -o '[0-9][0-9]*' | sort -nu >"$out/asked"
 sed 1d "$out/numbers" | cmp -s - "$out/asked" || fail "the operations' lists have other numbers" "$out/asked"
+# the second creation asks what the first asks
+sed -n '/^ \* Creates a domain/,/^uint32_t/s/^ \* Numbers: //p' include/loader.h >"$out/creations"
+[ "$(sort -u "$out/creations" | wc -l) $(wc -l <"$out/creations")" = "1 2" ] || fail "the two creations have other numbers" "$out/creations"
 # constant NAME: its value
 constant() { sed -n "s/^#define LOADER_$1 \([0-9]*\)u\$/\1/p" include/loader.h; }
 # comments SED: the comments as one line of words, figures without commas
@@ -75,7 +78,7 @@ comments '/^ \* Makes the buffer/,/^uint32_t/p' | grep -qF "with the limits $sta
 
 need_library
 nm -g "$library" | awk 'NF == 2 && $1 == "U" { print "needs " $2 } NF == 3 { print "has " $3 }' | sort >"$out/symbols"
-printf '%s\n' create delete fresh fresh_limits load query remove | sed 's/^/has loader_/' >"$out/symbols.expected"
+printf '%s\n' create create_without_int delete fresh fresh_limits load query remove | sed 's/^/has loader_/' >"$out/symbols.expected"
 echo 'needs memset' >>"$out/symbols.expected"
 same "$out/symbols.expected" "$out/symbols"
 

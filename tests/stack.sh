@@ -15,7 +15,7 @@ within() {
         !($1 in names) { print $1 " is not in the header"; bad = 1; next }
         { for (i = 2; i <= 5; i++) { if ($i == 0 || $i > most[$1, i]) { print $0 ": figure " i - 1 " is 0 or exceeds " most[$1, i]; bad = 1 } } }
         { seen[$1] = 1 }
-        END { for (name in names) { if (!(name in seen)) { print name " was not measured"; bad = 1 } } exit bad || n != 7 }' \
+        END { for (name in names) { if (!(name in seen)) { print name " was not measured"; bad = 1 } } exit bad || n != 8 }' \
         "$out/header" "$out/$1" || fail "the $1 exceed the header's figures"
 }
 

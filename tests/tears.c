@@ -1,11 +1,11 @@
 /*
  * tears LINES: what a call leaves in the store when it is cut off at any byte that it writes.
  *
- * LINES are lines of the simulated card; they run on a store of each version. Each call runs on a store
- * whose pages are write-protected: a write faults, is let through for one instruction, and the bytes that
- * it changed are kept. The call is then replayed on a copy and cut off before every byte, within one write
- * from its first byte on and from its last one back; each cut is shown to the loader. For x86-64 Linux, as
- * the library is.
+ * LINES are lines of the simulated card; they run on a store of each version, with domains of each kind and
+ * of both. Each call runs on a store whose pages are write-protected: a write faults, is let through for one
+ * instruction, and the bytes that it changed are kept. The call is then replayed on a copy and cut off before
+ * every byte, within one write from its first byte on and from its last one back; each cut is shown to the
+ * loader. For x86-64 Linux, as the library is.
  *
  * Holds what include/loader.h says under "Power loss", prints the counts, and says what does not hold;
  * exit status 0 only if all does.
@@ -40,11 +40,14 @@ static uint8_t before[STORE_BYTES];
 static uint8_t copy[STORE_BYTES];
 static struct change changes[CHANGES_MOST];
 static volatile size_t change_count, write_count;
-static struct counts counts[6];
+static struct counts counts[7];
 static int failures;
 
-/* Operations as the counts have them, behind those of lines. */
-enum { FRESH = 4, FRESH_LIMITS = 5, OPERATIONS = 6 };
+/* Operations as the counts have them, behind those of lines; of all but fresh ones, the even ones append an entry. */
+enum { FRESH = 4, FRESH_LIMITS = 5, CREATE_WITHOUT_INT = 6, OPERATIONS = 7 };
+
+/* Which kind of domain a creation makes: kind 1, kind 3, or both by turns. */
+static enum { WITH_INT, WITHOUT_INT, BY_TURNS } kinds;
 
 static void wrong(const char *what, unsigned long line)
 {
@@ -103,6 +106,16 @@ static size_t bytes_of(const char *text, uint8_t *bytes)
     return n;
 }
 
+/* A creation, of the kind whose turn it is. */
+static uint32_t create(const uint8_t *domain, size_t length, int *operation)
+{
+    static unsigned long turn;
+    int without_int = kinds == WITHOUT_INT || (kinds == BY_TURNS && turn++ % 2 == 0);
+    *operation = without_int ? CREATE_WITHOUT_INT : 0;
+    return without_int ? loader_create_without_int(store, STORE_BYTES, domain, length)
+                       : loader_create(store, STORE_BYTES, domain, length);
+}
+
 /* The call of a line, with its operation: 0 create, 1 delete, 2 load, 3 remove. */
 static uint32_t call(char *line, int *operation)
 {
@@ -114,8 +127,7 @@ static uint32_t call(char *line, int *operation)
     watch();
     switch (letter == NULL ? ' ' : letter[0]) {
     case 'C':
-        *operation = 0;
-        return loader_create(store, STORE_BYTES, first, a);
+        return create(first, a, operation);
     case 'D':
         *operation = 1;
         return loader_delete(store, STORE_BYTES, first, a);
@@ -285,7 +297,7 @@ static unsigned long run_lines(FILE *lines)
 
 int main(int argument_count, char **words)
 {
-    static const char *const names[] = {"create", "delete", "load", "remove", "fresh", "fresh, limits"};
+    static const char *const names[] = {"create", "delete", "load", "remove", "fresh", "fresh, limits", "create, no int"};
     struct sigaction fault = {0}, step = {0};
     unsigned long refused;
     FILE *lines = argument_count == 2 ? fopen(words[1], "r") : NULL;
@@ -303,20 +315,23 @@ int main(int argument_count, char **words)
     refused = run_lines(lines);
     /* over entries, in turn from version 1 to 2, from 2 to other limits, and back to 1 */
     hold_fresh_limits(LOADER_DEPTH_STANDARD, LOADER_PARENTS_STANDARD, LOADER_CODE_STANDARD);
+    kinds = WITHOUT_INT;
     refused += run_lines(lines);
     hold_fresh_limits(LOADER_DEPTH_MOST, LOADER_PARENTS_MOST, LOADER_CODE_MOST);
+    kinds = BY_TURNS;
     refused += run_lines(lines);
     hold_fresh();
-    puts("operation      calls   cuts  as before  answered 2  as after  sound, neither");
+    refused += run_lines(lines);
+    puts("operation       calls   cuts  as before  answered 2  as after  sound, neither");
     for (int i = 0; i < OPERATIONS; i++) {
-        printf("%-13s %6lu %6lu %10lu %11lu %9lu %15lu\n", names[i], counts[i].calls, counts[i].cuts, counts[i].as_before,
+        printf("%-14s %6lu %6lu %10lu %11lu %9lu %15lu\n", names[i], counts[i].calls, counts[i].cuts, counts[i].as_before,
                counts[i].unsound, counts[i].as_after, counts[i].neither);
         if (counts[i].calls == 0) {
             wrong("an operation was never done", 0);
         }
     }
     printf("refused calls: %lu, none of which wrote\n", refused);
-    if (counts[0].neither + counts[2].neither + counts[FRESH].neither != 0) {
+    if (counts[0].neither + counts[2].neither + counts[FRESH].neither + counts[CREATE_WITHOUT_INT].neither != 0) {
         wrong("a cut creation, load or fresh leaves a sound store that is neither the old nor the new one", 0);
     }
     if (counts[FRESH_LIMITS].neither != counts[FRESH_LIMITS].neither_empty) {

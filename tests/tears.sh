@@ -1,6 +1,6 @@
 #!/bin/sh
-# tears.sh: what a call leaves when it is cut off at any byte that it writes, in a store of each version, as include/loader.h says
-# under "Power loss".
+# tears.sh: what a call leaves when it is cut off at any byte that it writes, in a store of each version, with domains of each kind,
+# as include/loader.h says under "Power loss".
 #
 # Prints the counts and a line that begins with "ok", or what does not hold; exit status 0 only if all does.
 set -u

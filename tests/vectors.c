@@ -3,9 +3,9 @@
  * reader: number, depth figure of a load, yes or no of a query, and all bytes of the store after the call.
  *
  * CALLS, a step a line: N length fill bytes (a new buffer: the bytes, then the fill byte), P offset bytes
- * (bytes written into it), F (fresh), G (fresh with limits: depth, parents, code), C and D (domain), L
- * (domain, file), R (package), Q (domain, package, class, name). ANSWERS, a line a call: step, number,
- * depth, yes or no, and the FNV-1a hash of the buffer.
+ * (bytes written into it), F (fresh), G (fresh with limits: depth, parents, code), C (creation), K (creation
+ * without int) and D (deletion) with a domain, L (domain, file), R (package), Q (domain, package, class, name).
+ * ANSWERS, a line a call: step, number, depth, yes or no, and the FNV-1a hash of the buffer.
  * Bytes are in hexadecimal, - for none.
  *
  * Prints how many calls were answered alike, or the first that was not; exit status 0 only for the former.
@@ -127,6 +127,8 @@ static uint32_t call(char kind, unsigned long step)
     switch (kind) {
     case 'C':
         return loader_create(store.at, store.length, first.at, first.length);
+    case 'K':
+        return loader_create_without_int(store.at, store.length, first.at, first.length);
     case 'D':
         return loader_delete(store.at, store.length, first.at, first.length);
     case 'R':

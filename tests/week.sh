@@ -22,7 +22,7 @@ same examples/week.card.expected "$out/card.out"
 awk -F ' *[|] *' '$2 ~ /^[0-9]+$/ { gsub(/`/, "", $4); print $2 " " $4 ($5 == "" ? "" : " " $5) }' examples/README.md >"$out/table"
 same examples/week.card.expected "$out/table"
 
-# of other series, the loads and what is refused: answer, used, depth
+# of other series and door readers, the loads and what is refused: answer, used, depth
 awk -F ' *[|] *' '/^## Other series/ { on = 1 } on && $5 ~ /^[0-9]+$/ { sub(/, depth/, "", $4); split($4, said, " "); print said[1], $5, said[2] }' \
     examples/README.md >"$out/series"
 sed -n '/^Next: /,$s/^  \(.*[^ ]\)  *\([0-9][0-9]*\)   used  *\([0-9]*\)   \(.*\)$/\1|\2|\3|\4/p' examples/week.expected |

@@ -1,8 +1,9 @@
 //! How often each operation answered each number, loads by their depth figure, and what
-//! FE, handlers and limits decided.
+//! FE, handlers, limits and kinds of domains decided.
 
 use independent::depths::DepthCounts;
 use independent::handler_counts::HandlerCounts;
+use independent::int_counts::IntCounts;
 use independent::ledger::Call;
 use independent::limit_counts::LimitCounts;
 use independent::limits::Limits;
@@ -11,53 +12,33 @@ use independent::own_domain::OwnCounts;
 use independent::questions::NUMBERS;
 use std::cell::RefCell;
 
-pub const OPERATIONS: [&str; 7] = [
-    "fresh",
-    "create",
-    "delete",
-    "load",
-    "remove",
-    "query",
-    "fresh_limits",
-];
-
 const GREATEST: usize = NUMBERS[NUMBERS.len() - 1] as usize;
-const LOAD: usize = 3;
-const QUERY: usize = 5;
+const LOAD: usize = Call::LOAD;
+const QUERY: usize = Call::QUERY;
 
 /// The numbers that each operation can answer.
-const CAN_ANSWER: [&[usize]; OPERATIONS.len()] = [
+const CAN_ANSWER: [&[usize]; Call::OPERATIONS.len()] = [
     &[0, 1],
-    &[0, 1, 2, 3, 4, 21],
+    &[0, 1, 30],
+    &CREATION,
+    &CREATION,
     &[0, 1, 2, 3, 5, 6],
     &[
-        0, 1, 2, 3, 5, 10, 11, 12, 13, 14, 15, 16, 17, 24, 18, 19, 20, 21,
+        0, 1, 2, 3, 5, 10, 11, 12, 13, 14, 15, 16, 17, 24, 26, 18, 19, 20, 21,
     ],
     &[0, 1, 2, 3, 7, 8],
     &[0, 1, 2, 3, 7, 9],
-    &[0, 1, 30],
 ];
-
-/// The place of a call among the operations.
-pub fn operation(call: &Call) -> usize {
-    match call {
-        Call::Fresh => 0,
-        Call::Create(_) => 1,
-        Call::Delete(_) => 2,
-        Call::Load { .. } => LOAD,
-        Call::Remove(_) => 4,
-        Call::Query { .. } => QUERY,
-        Call::FreshLimits(_) => 6,
-    }
-}
+const CREATION: [usize; 6] = [0, 1, 2, 3, 4, 21];
 
 #[derive(Default)]
 pub struct Counts {
-    answers: [[u64; GREATEST + 1]; OPERATIONS.len()],
+    answers: [[u64; GREATEST + 1]; Call::OPERATIONS.len()],
     depths: DepthCounts,
     own: OwnCounts,
     handlers: HandlerCounts,
     limits: LimitCounts,
+    int: IntCounts,
     /// Queries answered yes.
     yes: u64,
 }
@@ -65,7 +46,7 @@ pub struct Counts {
 impl Counts {
     /// Notes a call; the store is as it left it.
     fn note(&mut self, call: &Call, answer: u32, store: &[u8]) {
-        let operation = operation(call);
+        let operation = call.operation();
         let (number, figure) = ((answer & 0xFF) as usize, answer >> 8);
         self.answers[operation][number] += 1;
         if matches!(operation, LOAD | QUERY) {
@@ -73,6 +54,7 @@ impl Counts {
             self.handlers.note(call, answer, store);
         }
         self.limits.note(call, answer, store);
+        self.int.note(call, answer, store);
         match (operation, number) {
             (LOAD, 0) => self.depths.note(figure, store),
             (QUERY, 0) => self.yes += u64::from(figure),
@@ -90,11 +72,11 @@ impl Counts {
 
     /// Rows are operations, columns numbers; a dash where there is nothing to reach.
     pub fn print(&self) {
-        print!("{:12}", "");
+        print!("{:18}", "");
         NUMBERS.iter().for_each(|number| print!("{number:>7}"));
         println!();
-        for (operation, name) in OPERATIONS.iter().enumerate() {
-            print!("{name:12}");
+        for (operation, name) in Call::OPERATIONS.iter().enumerate() {
+            print!("{name:18}");
             for number in NUMBERS.map(usize::from) {
                 match self.answers[operation][number] {
                     0 if !CAN_ANSWER[operation].contains(&number) => print!("{:>7}", "-"),
@@ -108,18 +90,19 @@ impl Counts {
         let (yes, queries) = (self.yes, self.answers[QUERY][0]);
         println!("{yes} of {queries} queries answered yes");
         println!("{}\n{}\n{}", self.own, self.handlers, self.limits);
+        println!("{}", self.int);
     }
 
     /// What falls short of this many answers of each number, this many accepted loads by
-    /// each depth and origin, this many decisions of each kind by FE, by handlers and by
-    /// limits, and a fifth of loads accepted.
+    /// each depth and origin, this many decisions of each kind by FE, by handlers, by limits
+    /// and by kinds of domains, and a fifth of loads accepted.
     pub fn shortfalls(&self, least: u64) -> Vec<String> {
         let mut found = Vec::new();
         for (operation, numbers) in CAN_ANSWER.iter().enumerate() {
             for &number in *numbers {
                 let count = self.answers[operation][number];
                 if count < least {
-                    let name = OPERATIONS[operation];
+                    let name = Call::OPERATIONS[operation];
                     found.push(format!("{name} answered {number} only {count} times"));
                 }
             }
@@ -131,6 +114,7 @@ impl Counts {
         found.extend(self.own.shortfalls(least));
         found.extend(self.handlers.shortfalls(least));
         found.extend(self.limits.shortfalls(least));
+        found.extend(self.int.shortfalls(least));
         found
     }
 }
@@ -164,6 +148,10 @@ impl Loader for Counting {
 
     fn create(&self, store: &mut [u8], domain: &[u8]) -> u32 {
         self.call(store, &Call::Create(domain.to_vec()))
+    }
+
+    fn create_without_int(&self, store: &mut [u8], domain: &[u8]) -> u32 {
+        self.call(store, &Call::CreateWithoutInt(domain.to_vec()))
     }
 
     fn delete(&self, store: &mut [u8], domain: &[u8]) -> u32 {

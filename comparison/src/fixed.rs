@@ -1,22 +1,18 @@
 //! The cases that every run compares, whatever its count.
 
-use independent::generate::faults::faulty_file;
+use crate::seeded::{flipped, over, with_faults};
 use independent::generate::full_stores::full_stores;
 use independent::generate::handler_cases;
+use independent::generate::int_cases;
+use independent::generate::kind_cases;
 use independent::generate::limit_cases;
 use independent::generate::lineages::lineages;
 use independent::generate::own_pairs::own_pairs;
-use independent::generate::random::Random;
-use independent::generate::scene::Scene;
 use independent::generate::special;
-use independent::generate::stores::planted_store;
-use independent::generate::valid::valid_file;
-use independent::ledger::Call;
-use independent::loader::{Sequence, Step};
+use independent::loader::Sequence;
 use independent::package::Version;
 use independent::questions::OF_A_FILE;
-
-const DOMAIN: &[u8] = &[0xA0, 0, 0, 0, 0xD1];
+use independent::without_int::DomainKind;
 
 pub struct Group {
     pub name: &'static str,
@@ -33,6 +29,7 @@ pub fn groups(seed: u64) -> Vec<Group> {
     let mut found = at_limits();
     found.extend(of_version_2());
     found.extend(of_limits());
+    found.extend(of_kinds());
     found.extend(given());
     found.extend(seeded(seed));
     found
@@ -89,6 +86,32 @@ fn of_limits() -> Vec<Group> {
     ]
 }
 
+/// Domains of both kinds, and barred instructions.
+fn of_kinds() -> Vec<Group> {
+    vec![
+        group(
+            "every instruction in domains of both kinds",
+            int_cases::instructions().into_iter(),
+        ),
+        group(
+            "faults of three codes, 26 among them, in every order",
+            int_cases::orders().into_iter(),
+        ),
+        group(
+            "domains of both kinds under one AID",
+            kind_cases::domains().into_iter().chain(kind_cases::rooms()),
+        ),
+        group(
+            "kinds of entries in every way",
+            kind_cases::kinds().into_iter(),
+        ),
+        group(
+            "packages that call across kinds",
+            kind_cases::meetings().into_iter(),
+        ),
+    ]
+}
+
 /// Stores and codes that are the same in every run.
 fn given() -> Vec<Group> {
     let codes = Version::BOTH.into_iter().flat_map(special::short_codes);
@@ -110,7 +133,10 @@ fn given() -> Vec<Group> {
 /// Files and stores by the seed.
 fn seeded(seed: u64) -> Vec<Group> {
     let seeds = move |count: u64| (0..count).map(move |n| seed.wrapping_mul(257).wrapping_add(n));
-    let faults = seeds(30).flat_map(|s| [with_faults(s, 1), with_faults(s, 2)]);
+    let faults = seeds(30).flat_map(|s| {
+        let kind = DomainKind::BOTH[s as usize % 2];
+        [with_faults(s, kind, 1), with_faults(s, kind, 2)]
+    });
     let questions = (0..=5).chain(OF_A_FILE).chain([30]);
     let stores = questions.flat_map(move |question| seeds(10).map(move |s| over(s, question)));
     let codes = seeds(64).map(|s| special::three_byte_codes(Version::BOTH[s as usize % 2], s));
@@ -123,101 +149,4 @@ fn seeded(seed: u64) -> Vec<Group> {
         ),
         group("codes of three bytes", codes),
     ]
-}
-
-/// AIDs of which one begins another, and some serve as both.
-fn pools() -> Scene {
-    Scene {
-        domain_pool: vec![DOMAIN.to_vec(), vec![1; 5], vec![1; 6], vec![2; 16]],
-        package_pool: vec![vec![3; 9], vec![1; 5], vec![8; 16]],
-        ..Scene::default()
-    }
-}
-
-fn load(file: Vec<u8>) -> Step {
-    let domain = DOMAIN.to_vec();
-    Step::Call(Call::Load { domain, file })
-}
-
-/// Four packages, then files with this many faults for every choice of questions,
-/// then the file without a fault.
-fn with_faults(seed: u64, faults: usize) -> Sequence {
-    let random = &mut Random::new(seed);
-    let mut scene = pools();
-    scene.domains.push(DOMAIN.to_vec());
-    let mut steps = vec![
-        Step::Call(Call::Fresh),
-        Step::Call(Call::Create(DOMAIN.to_vec())),
-    ];
-    for number in 0..4 {
-        let file = valid_file(random, &scene, DOMAIN, &[0xB0, 0, 0, 0, number]).bytes();
-        scene.install(DOMAIN, &file);
-        steps.push(load(file));
-    }
-    let model = valid_file(random, &scene, DOMAIN, &[0xC0; 6]);
-    for (place, &first) in OF_A_FILE.iter().enumerate() {
-        let seconds = match faults {
-            1 => &OF_A_FILE[place..=place],
-            _ => &OF_A_FILE[place + 1..],
-        };
-        for &second in seconds {
-            let questions = [first, second];
-            let file = faulty_file(random, &scene, DOMAIN, &model, &questions[..faults]);
-            steps.extend(file.map(load));
-        }
-    }
-    steps.push(load(model.bytes()));
-    let start = vec![0xEE; 16_384];
-    Sequence { start, steps }
-}
-
-/// Calls over a store that has a fault for this question, or none.
-fn over(seed: u64, question: u8) -> Sequence {
-    let random = &mut Random::new(seed);
-    let planted = planted_store(random, &pools(), question);
-    let scene = &planted.scene;
-    // The first package that is there, if any is.
-    let (domain, package) = (scene.domains[0].clone(), scene.package_pool[0].clone());
-    let file = valid_file(random, scene, &domain, &[0xC0; 6]).bytes();
-    let calls = [
-        Call::Create(domain.clone()),
-        Call::Create(vec![7; 5]),
-        query(&domain, &package),
-        Call::Load {
-            domain: domain.clone(),
-            file,
-        },
-        Call::Delete(domain),
-        Call::Remove(package),
-        Call::Delete(vec![7; 5]),
-    ];
-    Sequence {
-        start: planted.bytes,
-        steps: calls.into_iter().map(Step::Call).collect(),
-    }
-}
-
-fn query(domain: &[u8], package: &[u8]) -> Call {
-    Call::Query {
-        domain: domain.to_vec(),
-        package: package.to_vec(),
-        class: 0,
-        name: 1,
-    }
-}
-
-/// Each byte of a sound store flipped, asked about and flipped back.
-fn flipped(seed: u64) -> Sequence {
-    let random = &mut Random::new(seed);
-    let planted = planted_store(random, &pools(), 0);
-    let scene = &planted.scene;
-    let call = query(&scene.domains[0], &scene.packages[0].model.aid);
-    let mut steps = Vec::new();
-    for place in 0..planted.bytes.len() {
-        let bits = *random.pick(&[0xFF, 0x01, 0x80, 0x10]);
-        let damage = Step::Damage { place, bits };
-        steps.extend([damage.clone(), Step::Call(call.clone()), damage]);
-    }
-    let start = planted.bytes;
-    Sequence { start, steps }
 }

@@ -41,6 +41,10 @@ impl<L: Loader> Loader for Guarded<L> {
         within(store, |s| self.0.create(s, domain))
     }
 
+    fn create_without_int(&self, store: &mut [u8], domain: &[u8]) -> u32 {
+        within(store, |s| self.0.create_without_int(s, domain))
+    }
+
     fn delete(&self, store: &mut [u8], domain: &[u8]) -> u32 {
         within(store, |s| self.0.delete(s, domain))
     }

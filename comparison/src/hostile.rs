@@ -4,6 +4,7 @@
 
 use crate::hostile_chains::{chain, chain_of_lists, lists_by_turns, own_alone};
 use crate::hostile_handlers::{in_second, long_codes, short_codes};
+use crate::hostile_kinds::with_kinds;
 use crate::hostile_limits::with_limits;
 use crate::hostile_lists::Lists;
 use crate::hostile_tables::{below, crossing, domains, maps, names, packages, references};
@@ -49,6 +50,14 @@ pub const BELOW_DEEP: &str = "limits 16 and 8: small packages below a ladder of 
 pub const CROSSING_DEEP: &str = "limits 16 and 8: parents crossing eight packages a level";
 pub const LONGEST_HANDLERS: &str = "codes of 32,767 and 32,400 bytes, 16 handlers each";
 pub const SWITCHES: &str = "switches of 16,379 and 16,300 offsets, a code each";
+pub const FAR_TURNS: &str = "half domains of both kinds, half smallest packages, by turns in them";
+pub const FAR_FIRST: &str = "the same, all packages in the first two domains";
+pub const FAR_LAST: &str = "the same, all packages in the last two domains";
+pub const FAR_CODES: &str =
+    "the same, by turns in the domains without int, a code of one byte each";
+pub const PLAIN_CODES: &str = "the longest codes of one-byte instructions, without int";
+pub const TYPED_CODES: &str = "the longest codes of 90 0C, without int";
+pub const LONGEST_PLAIN: &str = "codes of 32,767 and 32,600 one-byte instructions, without int";
 
 /// The sizes of the chain's stores, for its growth.
 pub const CHAIN_SIZES: [usize; 4] = [8, 16, 32, 64];
@@ -89,6 +98,7 @@ pub fn all() -> Vec<Workload> {
     found.push(names());
     found.extend(with_handlers());
     found.extend(with_limits());
+    found.extend(with_kinds());
     found
 }
 
@@ -129,7 +139,7 @@ pub(crate) fn long(number: usize) -> Vec<u8> {
 
 /// The domain that packages lie in where nothing else is said.
 pub(crate) fn start() -> Vec<Entry> {
-    vec![Entry::Domain(domain(0))]
+    vec![Entry::domain(&domain(0))]
 }
 
 pub(crate) fn packed(model: FileModel) -> Entry {

@@ -202,7 +202,7 @@ fn turns_within(name: &'static str, lists: &[Lists; 2], limits: Limits, room: us
     };
     let mut entries = start();
     if lists[1].home != lists[0].home {
-        entries.push(Entry::Domain(domain(lists[1].home)));
+        entries.push(Entry::domain(&domain(lists[1].home)));
     }
     entries.push(package(1, vec![], &lists[0], &[], [1, 3]));
     entries.push(package(50, vec![aid(1)], &lists[1], &[(1, 0)], [0, 2]));

@@ -71,7 +71,7 @@ pub(crate) fn in_second(name: &'static str, of: &Workload, handlers: usize) -> W
     let mut entries: Vec<Entry> = Vec::new();
     for entry in entries_of(&of.store) {
         entries.push(match entry {
-            Entry::Domain(_) => entry,
+            Entry::Domain(..) => entry,
             Entry::Package { domain, file } => {
                 let model = FileModel::read(&file).expect("a file that reads");
                 let file = second(model, |_| handlers).bytes();

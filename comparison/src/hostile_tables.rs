@@ -95,7 +95,7 @@ pub(crate) fn domains(name: &'static str, order: impl Fn(&mut Vec<u32>)) -> Work
     let mut numbers: Vec<u32> = (0..8_191).collect();
     order(&mut numbers);
     let aid = |number: &u32| [&[0xA0][..], &number.to_be_bytes()].concat();
-    let entries: Vec<Entry> = numbers.iter().map(|n| Entry::Domain(aid(n))).collect();
+    let entries: Vec<Entry> = numbers.iter().map(|n| Entry::domain(&aid(n))).collect();
     workload(name, &entries, LARGEST)
 }
 

@@ -1,4 +1,4 @@
-//! The seven C functions of `include/loader.h` as the trait that comparisons ask for.
+//! The eight C functions of `include/loader.h` as the trait that comparisons ask for.
 
 #![allow(unsafe_code)]
 
@@ -16,6 +16,12 @@ extern "C" {
         code: u16,
     ) -> u32;
     fn loader_create(
+        store: *mut u8,
+        store_length: usize,
+        domain: *const u8,
+        domain_length: usize,
+    ) -> u32;
+    fn loader_create_without_int(
         store: *mut u8,
         store_length: usize,
         domain: *const u8,
@@ -92,6 +98,12 @@ impl Loader for Library {
 
     fn create(&self, store: &mut [u8], domain: &[u8]) -> u32 {
         unsafe { loader_create(start_mut(store), store.len(), start(domain), domain.len()) }
+    }
+
+    fn create_without_int(&self, store: &mut [u8], domain: &[u8]) -> u32 {
+        unsafe {
+            loader_create_without_int(start_mut(store), store.len(), start(domain), domain.len())
+        }
     }
 
     fn delete(&self, store: &mut [u8], domain: &[u8]) -> u32 {

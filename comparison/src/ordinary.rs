@@ -5,6 +5,7 @@ use independent::generate::codes::{call, valid_code};
 use independent::generate::model::{ClassModel, FileModel, MethodModel};
 use independent::generate::random::Random;
 use independent::policy::OWN;
+use independent::without_int::DomainKind;
 
 /// How many bytes a code has at least, where nothing else is asked for.
 pub const CODE: usize = 24;
@@ -67,6 +68,8 @@ struct Draft<'r> {
     random: &'r mut Random,
     model: FileModel,
     own: Own,
+    /// The kind of domain whose instructions the codes have.
+    kind: DomainKind,
     /// The least length of a code.
     code: usize,
     /// Calls that every method may have, and those for methods that only allow
@@ -78,6 +81,15 @@ struct Draft<'r> {
 /// The package of this number, with this many groups of three classes, over earlier
 /// packages from number 1 on: nothing imports package 0.
 pub fn ordinary(number: usize, groups: u8, code: usize, own: Own) -> FileModel {
+    drafted(number, groups, code, own, DomainKind::WithInt)
+}
+
+/// The package of this number, of one group with short codes that a domain of this kind takes.
+pub fn ordinary_of(kind: DomainKind, number: usize) -> FileModel {
+    drafted(number, 1, CODE, Own::Index, kind)
+}
+
+fn drafted(number: usize, groups: u8, code: usize, own: Own, kind: DomainKind) -> FileModel {
     let random = &mut Random::new(number as u64);
     let mut model = FileModel {
         aid: package(number),
@@ -95,6 +107,7 @@ pub fn ordinary(number: usize, groups: u8, code: usize, own: Own) -> FileModel {
         closed: Vec::new(),
         model,
         own,
+        kind,
         code,
     };
     for import in 1..=draft.model.imports.len() as u8 {
@@ -152,7 +165,7 @@ impl Draft<'_> {
         let mut code = Vec::new();
         while code.len() < self.code {
             let calls = [self.call(closed)];
-            code.extend(valid_code(self.random, &calls));
+            code.extend(valid_code(self.random, self.kind, &calls));
         }
         code
     }
@@ -193,7 +206,7 @@ pub fn of_codes(number: usize, methods: u16, length: usize) -> FileModel {
     for name in 0..methods {
         let mut code = Vec::new();
         while code.len() < length {
-            code.extend(valid_code(random, &[]));
+            code.extend(valid_code(random, DomainKind::WithInt, &[]));
         }
         declared.push(MethodModel::new(STATIC_BODY, name, None, &code));
     }

@@ -13,6 +13,7 @@ use independent::ledger::{Call, Entry, Ledger};
 use independent::limits::Limits;
 use independent::package::MAX_CLASSES;
 use independent::store::{self, Body, StoreVersion};
+use independent::without_int::DomainKind;
 
 /// The sizes of stores, in KB.
 const SIZES: [usize; 2] = [8, 64];
@@ -82,7 +83,12 @@ fn below_levels(name: &'static str, kind: u8) -> Workload {
 fn codes(name: &'static str, lengths: &[usize]) -> Workload {
     let random = &mut Random::new(lengths.len() as u64);
     let method = |(name, &length): (usize, &usize)| {
-        MethodModel::new(0xE0, name as u16, None, &long_code(random, length))
+        MethodModel::new(
+            0xE0,
+            name as u16,
+            None,
+            &long_code(random, DomainKind::WithInt, length),
+        )
     };
     let methods = lengths.iter().enumerate().map(method).collect();
     let model = FileModel {
@@ -94,11 +100,11 @@ fn codes(name: &'static str, lengths: &[usize]) -> Workload {
     limited(Limits::GREATEST, load)
 }
 
-/// The entries of a store of version 1 that is laid out.
+/// The entries of a store that is laid out.
 pub(crate) fn entries_of(store: &[u8]) -> Vec<Entry> {
     let layout = store::layout(store).expect("a store that is laid out");
     let owned = |entry: store::Entry| match entry.body {
-        Body::Domain(aid) => Entry::Domain(aid.to_vec()),
+        Body::Domain(kind, aid) => Entry::Domain(kind, aid.to_vec()),
         Body::Package { domain, file } => {
             let (domain, file) = (domain.to_vec(), file.to_vec());
             Entry::Package { domain, file }

@@ -44,6 +44,9 @@ fn line(step: &Step) -> String {
         Step::Call(Call::Fresh) => "fresh".into(),
         Step::Call(Call::FreshLimits(limits)) => format!("fresh {limits:?}"),
         Step::Call(Call::Create(domain)) => format!("create {}", described(domain)),
+        Step::Call(Call::CreateWithoutInt(domain)) => {
+            format!("create without int {}", described(domain))
+        }
         Step::Call(Call::Delete(domain)) => format!("delete {}", described(domain)),
         Step::Call(Call::Load { domain, file }) => {
             format!("load {} {}", described(domain), described(file))

@@ -3,7 +3,6 @@
 
 #![allow(unsafe_code)]
 
-use crate::counts::{operation, OPERATIONS};
 use crate::library::Library;
 use independent::ledger::Call;
 use independent::limits::Limits;
@@ -22,7 +21,7 @@ const SHORT: usize = 8_192;
 
 /// For each operation the stack in bytes: standard limits, stores to 8,192 bytes and longer
 /// ones; then larger limits, the same.
-pub type Peaks = [[usize; 4]; OPERATIONS.len()];
+pub type Peaks = [[usize; 4]; Call::OPERATIONS.len()];
 
 /// The column of a store: its limits are larger than the standard ones by depth or by code.
 fn column(store: &[u8]) -> usize {
@@ -55,7 +54,7 @@ fn follow(sequence: &Sequence, peaks: &mut Peaks) {
             Step::Damage { place, bits } => damage(&mut store, *place, *bits),
             Step::Call(call) => {
                 let mut copy = store.clone();
-                let peak = &mut peaks[operation(call)][column(&store)];
+                let peak = &mut peaks[call.operation()][column(&store)];
                 // A byte may be written with the paint's own value: two paints.
                 let first = depth(0xA5A5_A5A5_A5A5_A5A5, &mut copy, call);
                 let second = depth(0x3C3C_3C3C_3C3C_3C3C, &mut store, call);

@@ -1,12 +1,13 @@
 //! The benchmark's tables, as docs/BENCHMARKS.md has them.
 
-use crate::counts::OPERATIONS;
 use crate::hostile;
 use crate::ordinary_handlers as handled;
+use crate::ordinary_kinds as kinds;
 use crate::ordinary_limits as limited;
 use crate::stack::Peaks;
 use crate::timing::Times;
 use crate::workloads::{self as named, Workload};
+use independent::ledger::Call;
 
 /// What was timed, and how long it took.
 pub struct Measured {
@@ -93,6 +94,9 @@ impl Measured {
             handled::QUERY,
             handled::OVER_FIRST,
             limited::LOAD,
+            kinds::QUARTER,
+            kinds::HALF,
+            kinds::ALL,
         ] {
             let (small, large) = (self.of(name, "8 KB"), self.of(name, "64 KB"));
             let library = large.library.best() / small.library.best();
@@ -136,7 +140,7 @@ pub fn print_stack(peaks: &Peaks) {
     println!("\n## Peak stack of the library\n");
     println!("| Operation | Standard limits, to 8,192 bytes | longer | Larger limits, to 8,192 bytes | longer |");
     println!("|---|---:|---:|---:|---:|");
-    for (name, [short, long, larger_short, larger_long]) in OPERATIONS.iter().zip(peaks) {
+    for (name, [short, long, larger_short, larger_long]) in Call::OPERATIONS.iter().zip(peaks) {
         println!("| `loader_{name}` | {short} | {long} | {larger_short} | {larger_long} |");
     }
 }

@@ -3,11 +3,13 @@
 use crate::below_ladder::below_ladder;
 use crate::ordinary::{domain, home, of_codes, of_size, ordinary, package, Own, CODE};
 use crate::ordinary_handlers::with_handlers;
+use crate::ordinary_kinds::{of_domains, with_kinds};
 use crate::ordinary_limits::with_limits;
 use independent::generate::limits::ladder;
 use independent::generate::model::FileModel;
 use independent::ledger::{Call, Entry, Ledger};
 use independent::store;
+use independent::without_int::DomainKind;
 
 pub struct Workload {
     pub name: &'static str,
@@ -52,7 +54,11 @@ pub fn all() -> Vec<Workload> {
     }));
     found.extend(with_own());
     for count in [1_023, 8_191] {
-        found.extend(of_domains(count));
+        found.extend(of_domains(
+            [CREATE, DELETE],
+            count,
+            [DomainKind::WithInt; 2],
+        ));
     }
     let hostile = ladder(&package(0), 64, true).bytes();
     let as_large = of_size(0, hostile.len()).bytes();
@@ -64,6 +70,7 @@ pub fn all() -> Vec<Workload> {
     found.push(empty());
     found.extend(with_handlers());
     found.extend(with_limits());
+    found.extend(with_kinds());
     found
 }
 
@@ -80,14 +87,16 @@ pub fn written(entries: &[Entry], length: usize) -> Vec<u8> {
 /// The bytes in use once these entries are written.
 pub fn used(entries: &[Entry]) -> usize {
     let entry_bytes = |entry: &Entry| match entry {
-        Entry::Domain(aid) => 3 + aid.len(),
+        Entry::Domain(_, aid) => 3 + aid.len(),
         Entry::Package { domain, file } => 4 + domain.len() + file.len(),
     };
     store::HEAD + entries.iter().map(entry_bytes).sum::<usize>()
 }
 
 pub(crate) fn four_domains() -> Vec<Entry> {
-    (0..4).map(|number| Entry::Domain(domain(number))).collect()
+    (0..4)
+        .map(|number| Entry::domain(&domain(number)))
+        .collect()
 }
 
 /// Four domains, and ordinary packages for the largest store and one more.
@@ -97,7 +106,12 @@ fn full_entries(own: Own) -> Vec<Entry> {
 
 /// The same of packages made from their numbers.
 pub(crate) fn full_of(make: impl Fn(usize) -> FileModel) -> Vec<Entry> {
-    let mut entries = four_domains();
+    full_over(four_domains(), make)
+}
+
+/// The same over these domains.
+pub(crate) fn full_over(domains: Vec<Entry>, make: impl Fn(usize) -> FileModel) -> Vec<Entry> {
+    let mut entries = domains;
     for number in 0.. {
         entries.push(Entry::Package {
             domain: home(number),
@@ -177,24 +191,6 @@ pub(crate) fn query(number: usize) -> Call {
         class: 0,
         name: 1,
     }
-}
-
-/// Two calls over a store that is full of domains with the shortest AIDs.
-fn of_domains(count: u32) -> [Workload; 2] {
-    let aid = |number: u32| [&[0xA0][..], &number.to_be_bytes()].concat();
-    let entries: Vec<Entry> = (0..count).map(|n| Entry::Domain(aid(n))).collect();
-    let store = written(&entries, used(&entries));
-    let workload = |name, call, number| Workload {
-        name,
-        size: format!("{count} domains"),
-        store: store.clone(),
-        call,
-        number,
-    };
-    [
-        workload(CREATE, Call::Create(aid(count - 1)), 4),
-        workload(DELETE, Call::Delete(aid(0)), 0),
-    ]
 }
 
 /// A file loaded into a store without packages, and a query of it there.

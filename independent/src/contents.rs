@@ -4,6 +4,7 @@ use crate::limits::Limits;
 use crate::misreadings::Misreading;
 use crate::package::{Class, Method, Package};
 use crate::policy::{Role, Standing};
+use crate::without_int::DomainKind;
 use std::collections::HashMap;
 use std::ops::Range;
 
@@ -44,10 +45,17 @@ pub struct Installed<'a> {
     classes_before: usize,
 }
 
+/// A created domain.
+pub struct Domain {
+    pub kind: DomainKind,
+    /// The bytes of its entry in the store.
+    pub entry: Range<usize>,
+}
+
 #[derive(Default)]
 pub struct Contents<'a> {
-    /// Each created domain and the bytes of its entry in the store.
-    pub domains: HashMap<&'a [u8], Range<usize>>,
+    /// Of both kinds, by their AIDs.
+    pub domains: HashMap<&'a [u8], Domain>,
     pub packages: Vec<Installed<'a>>,
     package_numbers: HashMap<&'a [u8], usize>,
     domain_numbers: HashMap<&'a [u8], usize>,
@@ -92,6 +100,11 @@ impl<'a> Contents<'a> {
             own_number,
             classes_before,
         });
+    }
+
+    /// The kind of the domain that an installed package lies in.
+    pub fn kind_of(&self, package: usize) -> DomainKind {
+        self.domains[self.packages[package].domain].kind
     }
 
     /// The number of a domain that a file lists or that an entry has.

@@ -9,6 +9,7 @@ use crate::operations::asked;
 use crate::package::{self, Reading, Version};
 use crate::questions::{judge_codes, judge_load, q2, q2_by};
 use crate::store::StoreVersion;
+use crate::without_int::DomainKind;
 use std::fmt;
 
 /// Loads that are counted by what their files have.
@@ -48,7 +49,7 @@ impl HandlerCounts {
         let Call::Load { domain, file } = call else {
             return;
         };
-        if matches!(number, 0 | 10 | 11 | 16..=24) {
+        if matches!(number, 0 | 10 | 11 | 16..=26) {
             self.note_file(file, limits_of(store));
         }
         match number {
@@ -168,9 +169,10 @@ fn of_file(file: &[u8], limits: Limits, misreading: Option<Misreading>) -> Resul
         misreading,
     };
     let package = q11(file, reading).ok_or(11)?;
+    let kind = DomainKind::WithInt;
     let codes = match misreading {
-        None => judge_codes(&package)?,
-        Some(wrong) => wrong.judge_codes(&package)?,
+        None => judge_codes(&package, kind)?,
+        Some(wrong) => wrong.judge_codes(&package, kind)?,
     };
     drop(codes);
     Ok(())

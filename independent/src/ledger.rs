@@ -3,6 +3,7 @@
 use crate::limits::Limits;
 use crate::operations::asked;
 use crate::store::StoreVersion;
+use crate::without_int::DomainKind;
 use crate::Answer;
 
 /// A call and its arguments other than the buffer.
@@ -11,6 +12,7 @@ pub enum Call {
     Fresh,
     FreshLimits(Limits),
     Create(Vec<u8>),
+    CreateWithoutInt(Vec<u8>),
     Delete(Vec<u8>),
     Load {
         domain: Vec<u8>,
@@ -25,23 +27,71 @@ pub enum Call {
     },
 }
 
+impl Call {
+    /// The names of the operations, as those of the C functions end.
+    pub const OPERATIONS: [&'static str; 8] = [
+        "fresh",
+        "fresh_limits",
+        "create",
+        "create_without_int",
+        "delete",
+        "load",
+        "remove",
+        "query",
+    ];
+
+    /// The places of load and query among them.
+    pub const LOAD: usize = 5;
+    pub const QUERY: usize = 7;
+
+    /// The place of the call's operation among them.
+    pub fn operation(&self) -> usize {
+        match self {
+            Call::Fresh => 0,
+            Call::FreshLimits(_) => 1,
+            Call::Create(_) => 2,
+            Call::CreateWithoutInt(_) => 3,
+            Call::Delete(_) => 4,
+            Call::Load { .. } => Call::LOAD,
+            Call::Remove(_) => 6,
+            Call::Query { .. } => Call::QUERY,
+        }
+    }
+
+    /// A creation of a domain of this kind.
+    pub fn create(kind: DomainKind, domain: &[u8]) -> Self {
+        match kind {
+            DomainKind::WithInt => Call::Create(domain.to_vec()),
+            DomainKind::WithoutInt => Call::CreateWithoutInt(domain.to_vec()),
+        }
+    }
+}
+
 #[derive(Clone, Debug, PartialEq, Eq)]
 pub enum Entry {
-    Domain(Vec<u8>),
+    /// Kind 1 or 3, and the AID.
+    Domain(DomainKind, Vec<u8>),
+    /// Kind 2.
     Package { domain: Vec<u8>, file: Vec<u8> },
 }
 
 impl Entry {
+    /// A domain's entry of kind 1.
+    pub fn domain(aid: &[u8]) -> Self {
+        Entry::Domain(DomainKind::WithInt, aid.to_vec())
+    }
+
     fn kind(&self) -> u8 {
         match self {
-            Entry::Domain(_) => 1,
+            Entry::Domain(DomainKind::WithInt, _) => 1,
             Entry::Package { .. } => 2,
+            Entry::Domain(DomainKind::WithoutInt, _) => 3,
         }
     }
 
     fn body(&self) -> Vec<u8> {
         match self {
-            Entry::Domain(aid) => aid.clone(),
+            Entry::Domain(_, aid) => aid.clone(),
             Entry::Package { domain, file } => {
                 let mut body = vec![domain.len() as u8];
                 body.extend_from_slice(domain);
@@ -52,12 +102,12 @@ impl Entry {
     }
 
     fn is_domain(&self, aid: &[u8]) -> bool {
-        matches!(self, Entry::Domain(own) if own == aid)
+        matches!(self, Entry::Domain(_, own) if own == aid)
     }
 
     fn is_package(&self, aid: &[u8]) -> bool {
         match self {
-            Entry::Domain(_) => false,
+            Entry::Domain(..) => false,
             Entry::Package { file, .. } => package_aid(file) == Some(aid),
         }
     }
@@ -108,7 +158,10 @@ impl Ledger {
         let judged = match call {
             Call::Fresh => asked::fresh(&store).map(|()| 0),
             Call::FreshLimits(limits) => asked::fresh_limits(&store, *limits).map(|()| 0),
-            Call::Create(domain) => asked::create(&store, domain).map(|()| 0),
+            Call::Create(domain) => asked::create(&store, DomainKind::WithInt, domain).map(|()| 0),
+            Call::CreateWithoutInt(domain) => {
+                asked::create(&store, DomainKind::WithoutInt, domain).map(|()| 0)
+            }
             Call::Delete(domain) => asked::delete(&store, domain).map(|_| 0),
             Call::Load { domain, file } => asked::load(&store, domain, file),
             Call::Remove(package) => asked::remove(&store, package).map(|_| 0),
@@ -130,11 +183,16 @@ impl Ledger {
         self.entries.clear();
     }
 
+    fn enter(&mut self, kind: DomainKind, domain: &[u8]) {
+        self.entries.push(Entry::Domain(kind, domain.to_vec()));
+    }
+
     fn change(&mut self, call: &Call) {
         match call {
             Call::Fresh => self.empty(StoreVersion::First),
             Call::FreshLimits(limits) => self.empty(StoreVersion::Second(*limits)),
-            Call::Create(domain) => self.entries.push(Entry::Domain(domain.clone())),
+            Call::Create(domain) => self.enter(DomainKind::WithInt, domain),
+            Call::CreateWithoutInt(domain) => self.enter(DomainKind::WithoutInt, domain),
             Call::Delete(domain) => self.entries.retain(|e| !e.is_domain(domain)),
             Call::Load { domain, file } => self.entries.push(Entry::Package {
                 domain: domain.clone(),

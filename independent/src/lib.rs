@@ -1,4 +1,4 @@
-//! An independent reading of document 01 with requests 2, 5, 7 and 12 of document 02: the
+//! An independent reading of document 01 with requests 2, 5, 7, 9 and 12 of document 02: the
 //! staff card loader.
 
 pub mod bytes;
@@ -10,6 +10,8 @@ pub mod generate;
 pub mod handler_counts;
 pub mod handler_faults;
 pub mod handlers;
+pub mod int_counts;
+mod int_load_counts;
 pub mod ledger;
 pub mod limit_counts;
 pub mod limit_edges;
@@ -17,6 +19,8 @@ pub mod limits;
 pub mod load_questions;
 pub mod loader;
 mod misread_handlers;
+pub mod misread_int;
+mod misread_kinds;
 pub mod misread_limits;
 pub mod misreadings;
 pub mod operations;
@@ -25,6 +29,7 @@ pub mod package;
 pub mod policy;
 pub mod questions;
 pub mod store;
+pub mod without_int;
 
 /// What a call says: the number, and the figure that goes with it.
 #[derive(Clone, Copy, Debug, PartialEq, Eq)]

@@ -1,4 +1,4 @@
-//! The seven operations as a trait, so that two implementations can be compared.
+//! The eight operations as a trait, so that two implementations can be compared.
 
 use crate::ledger::Call;
 use crate::limits::Limits;
@@ -9,6 +9,7 @@ pub trait Loader {
     fn fresh(&self, store: &mut [u8]) -> u32;
     fn fresh_limits(&self, store: &mut [u8], limits: Limits) -> u32;
     fn create(&self, store: &mut [u8], domain: &[u8]) -> u32;
+    fn create_without_int(&self, store: &mut [u8], domain: &[u8]) -> u32;
     fn delete(&self, store: &mut [u8], domain: &[u8]) -> u32;
     fn load(&self, store: &mut [u8], domain: &[u8], file: &[u8]) -> u32;
     fn remove(&self, store: &mut [u8], package: &[u8]) -> u32;
@@ -20,6 +21,7 @@ pub trait Loader {
             Call::Fresh => self.fresh(store),
             Call::FreshLimits(limits) => self.fresh_limits(store, *limits),
             Call::Create(domain) => self.create(store, domain),
+            Call::CreateWithoutInt(domain) => self.create_without_int(store, domain),
             Call::Delete(domain) => self.delete(store, domain),
             Call::Load { domain, file } => self.load(store, domain, file),
             Call::Remove(package) => self.remove(store, package),
@@ -47,6 +49,10 @@ impl Loader for Independent {
 
     fn create(&self, store: &mut [u8], domain: &[u8]) -> u32 {
         operations::create(store, domain).encoded()
+    }
+
+    fn create_without_int(&self, store: &mut [u8], domain: &[u8]) -> u32 {
+        operations::create_without_int(store, domain).encoded()
     }
 
     fn delete(&self, store: &mut [u8], domain: &[u8]) -> u32 {

@@ -4,10 +4,12 @@ use crate::bytes::Reader;
 use crate::handler_faults::HandlerFault;
 use crate::handlers::{Handler, Handlers, MAX_HANDLERS};
 use crate::load_questions::{codes_of, q16, q17, Code};
+use crate::misread_int::IntMisreading;
 use crate::misread_limits::LimitMisreading;
 use crate::misreadings::Misreading;
 use crate::package::{Package, Version};
 use crate::questions::number;
+use crate::without_int::{q26, DomainKind};
 use std::slice;
 
 impl Misreading {
@@ -97,11 +99,22 @@ impl Misreading {
         self == Misreading::OffsetsIn11 && past.any(|offset| offset > Some(length))
     }
 
-    /// Questions 16, 17 and 24 as this reading asks them.
-    pub fn judge_codes<'a>(self, package: &Package<'a>) -> Result<Vec<Code<'a>>, u8> {
-        if self == Misreading::MethodByMethod {
-            return self.judge_by_method(package);
-        }
+    /// Questions 16, 17, 24 and 26 as this reading asks them.
+    pub fn judge_codes<'a>(
+        self,
+        package: &Package<'a>,
+        kind: DomainKind,
+    ) -> Result<Vec<Code<'a>>, u8> {
+        let codes = match self {
+            Misreading::WithoutInt(wrong) => return wrong.judge_codes(package, kind),
+            Misreading::MethodByMethod => self.judge_by_method(package)?,
+            _ => self.judge_handlers(package)?,
+        };
+        number(kind == DomainKind::WithInt || q26(&codes), 26)?;
+        Ok(codes)
+    }
+
+    fn judge_handlers<'a>(self, package: &Package<'a>) -> Result<Vec<Code<'a>>, u8> {
         let codes = q16(package).ok_or(16)?;
         if self == Misreading::Before17 {
             number(self.q24(&codes), 24)?;
@@ -124,9 +137,15 @@ impl Misreading {
         Ok(codes)
     }
 
-    /// Question 24 where it is asked after 18.
-    pub fn after_18(self, codes: &[Code]) -> Result<(), u8> {
-        number(self != Misreading::After18 || self.q24(codes), 24)
+    /// Question 24 or 26 where it is asked after 18.
+    pub fn after_18(self, kind: DomainKind, codes: &[Code]) -> Result<(), u8> {
+        match self {
+            Misreading::After18 => number(self.q24(codes), 24),
+            Misreading::WithoutInt(wrong @ IntMisreading::After18) => {
+                number(wrong.keeps(kind, codes), 26)
+            }
+            _ => Ok(()),
+        }
     }
 
     fn q24(self, codes: &[Code]) -> bool {
@@ -187,6 +206,7 @@ impl Misreading {
         let of_soundness = [
             Misreading::NotInSoundness,
             Misreading::Limits(LimitMisreading::NotInSoundness),
+            Misreading::WithoutInt(IntMisreading::NotInSoundness),
         ];
         (!of_soundness.contains(&self)).then_some(self)
     }

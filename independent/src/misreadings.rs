@@ -1,7 +1,9 @@
-//! Wrong readings of FE, of handlers and of limits. Tests show that generated sequences find them, and
-//! counts ask by them on what an answer hangs; the loader itself uses none.
+//! Wrong readings of FE, of handlers, of limits and of domains without int. Tests show that
+//! generated sequences find them, and counts ask by them on what an answer hangs; the loader
+//! itself uses none.
 
 use crate::handler_faults::HandlerFault;
+use crate::misread_int::IntMisreading;
 use crate::misread_limits::LimitMisreading;
 use crate::policy::{Policy, Role, Standing, OWN};
 
@@ -77,6 +79,9 @@ pub enum Misreading {
 
     /// Something about the limits of a store.
     Limits(LimitMisreading),
+
+    /// Something about domains without int.
+    WithoutInt(IntMisreading),
 }
 
 impl Misreading {

@@ -1,10 +1,12 @@
-//! The seven operations on a lent buffer.
+//! The eight operations on a lent buffer.
 
 use crate::limits::Limits;
 use crate::policy::Role;
 use crate::questions::Room;
-use crate::questions::{judge_creation, judge_load, number, q1, q2, q3, q30, q5, q6, q7, q8, q9};
+use crate::questions::{judge_creation, judge_deletion, judge_load};
+use crate::questions::{number, q1, q2, q3, q30, q7, q8, q9};
 use crate::store::{self, Body, StoreVersion};
+use crate::without_int::DomainKind;
 use crate::Answer;
 use std::ops::Range;
 
@@ -21,20 +23,18 @@ pub mod asked {
         number(q30(limits), 30)
     }
 
-    pub fn create(store: &[u8], domain: &[u8]) -> Result<(), u8> {
+    /// Either creation.
+    pub fn create(store: &[u8], kind: DomainKind, domain: &[u8]) -> Result<(), u8> {
         number(q1(store), 1)?;
         let contents = q2(store).ok_or(2)?;
-        judge_creation(&contents, room(store), domain)
+        judge_creation(&contents, room(store), kind, domain)
     }
 
     /// The bytes of the domain's entry.
     pub fn delete(store: &[u8], domain: &[u8]) -> Result<Range<usize>, u8> {
         number(q1(store), 1)?;
         let contents = q2(store).ok_or(2)?;
-        number(q3(&[domain]), 3)?;
-        number(q5(&contents, domain), 5)?;
-        number(q6(&contents, domain), 6)?;
-        Ok(contents.domains[domain].clone())
+        judge_deletion(&contents, domain)
     }
 
     /// The depth of the deepest own class, 0 if there is none.
@@ -97,11 +97,21 @@ pub fn fresh_limits(store: &mut [u8], limits: Limits) -> Answer {
     Answer::of(judged.map(|()| 0))
 }
 
-/// Appends a domain's entry.
+/// Appends a domain's entry of kind 1.
 pub fn create(store: &mut [u8], domain: &[u8]) -> Answer {
-    let judged = asked::create(store, domain);
+    create_of(store, DomainKind::WithInt, domain)
+}
+
+/// Appends a domain's entry of kind 3.
+pub fn create_without_int(store: &mut [u8], domain: &[u8]) -> Answer {
+    create_of(store, DomainKind::WithoutInt, domain)
+}
+
+/// Appends a domain's entry of this kind.
+pub fn create_of(store: &mut [u8], kind: DomainKind, domain: &[u8]) -> Answer {
+    let judged = asked::create(store, kind, domain);
     if judged.is_ok() {
-        store::append(store, &Body::Domain(domain));
+        store::append(store, &Body::Domain(kind, domain));
     }
     Answer::of(judged.map(|()| 0))
 }

@@ -3,6 +3,7 @@
 use crate::bytes::Reader;
 use crate::limits::Limits;
 use crate::misreadings::Misreading;
+use crate::without_int::DomainKind;
 use std::ops::Range;
 
 /// The mark "BCS".
@@ -74,6 +75,9 @@ pub fn fields(store: &[u8]) -> Option<([u8; 2], Limits)> {
 /// Kind and body length.
 pub const ENTRY_HEAD: usize = 3;
 
+/// The entry kind of a package; `DomainKind` has those of domains.
+const PACKAGE: u8 = 2;
+
 #[derive(Clone, Debug)]
 pub struct Entry<'a> {
     /// The entry's bytes in the store, kind and length included.
@@ -83,7 +87,7 @@ pub struct Entry<'a> {
 
 #[derive(Clone, Copy, Debug)]
 pub enum Body<'a> {
-    Domain(&'a [u8]),
+    Domain(DomainKind, &'a [u8]),
     Package { domain: &'a [u8], file: &'a [u8] },
 }
 
@@ -127,11 +131,15 @@ pub fn layout_by(store: &[u8], misreading: Option<Misreading>) -> Option<Layout<
     if used < begin.used || end > store.len() || !all_zero(&store[end..]) {
         return None;
     }
-    let entries = entries(store, begin.entries..end)?;
+    let entries = entries(store, begin.entries..end, misreading)?;
     Some(Layout { version, entries })
 }
 
-fn entries(store: &[u8], place: Range<usize>) -> Option<Vec<Entry<'_>>> {
+fn entries(
+    store: &[u8],
+    place: Range<usize>,
+    misreading: Option<Misreading>,
+) -> Option<Vec<Entry<'_>>> {
     let end = place.end;
     let mut reader = Reader::new(&store[place]);
     let mut found = Vec::new();
@@ -139,7 +147,16 @@ fn entries(store: &[u8], place: Range<usize>) -> Option<Vec<Entry<'_>>> {
         let start = end - reader.rest().len();
         let kind = reader.u1()?;
         let length = usize::from(reader.u2()?);
-        let body = read_body(kind, reader.take(length)?)?;
+        let domain = match misreading {
+            None => DomainKind::of(kind),
+            Some(wrong) => wrong.domain_kind(kind),
+        };
+        let bytes = reader.take(length)?;
+        let body = match domain {
+            Some(kind) => Body::Domain(kind, bytes),
+            None if kind == PACKAGE => read_package(bytes)?,
+            None => return None,
+        };
         let bytes = start..end - reader.rest().len();
         found.push(Entry { bytes, body });
     }
@@ -150,24 +167,18 @@ fn all_zero(bytes: &[u8]) -> bool {
     bytes.iter().fold(0, |all, byte| all | byte) == 0
 }
 
-fn read_body(kind: u8, body: &[u8]) -> Option<Body<'_>> {
-    match kind {
-        1 => Some(Body::Domain(body)),
-        2 => {
-            let mut reader = Reader::new(body);
-            let length = usize::from(reader.u1()?);
-            let domain = reader.take(length)?;
-            let file = reader.rest();
-            Some(Body::Package { domain, file })
-        }
-        _ => None,
-    }
+fn read_package(body: &[u8]) -> Option<Body<'_>> {
+    let mut reader = Reader::new(body);
+    let length = usize::from(reader.u1()?);
+    let domain = reader.take(length)?;
+    let file = reader.rest();
+    Some(Body::Package { domain, file })
 }
 
 /// The bytes of a body.
 fn body_parts<'a>(body: &Body<'a>, length: &'a [u8; 1]) -> [&'a [u8]; 3] {
     match *body {
-        Body::Domain(aid) => [aid, &[], &[]],
+        Body::Domain(_, aid) => [aid, &[], &[]],
         Body::Package { domain, file } => [length, domain, file],
     }
 }
@@ -175,7 +186,7 @@ fn body_parts<'a>(body: &Body<'a>, length: &'a [u8; 1]) -> [&'a [u8]; 3] {
 /// How many bytes an entry with this body takes.
 pub fn entry_length(body: &Body) -> usize {
     match body {
-        Body::Domain(aid) => ENTRY_HEAD + aid.len(),
+        Body::Domain(_, aid) => ENTRY_HEAD + aid.len(),
         Body::Package { domain, file } => ENTRY_HEAD + 1 + domain.len() + file.len(),
     }
 }
@@ -197,15 +208,15 @@ pub fn append(store: &mut [u8], body: &Body) {
     let end = start + entry_length(body);
     let length = end - start - ENTRY_HEAD;
     let kind = match body {
-        Body::Domain(_) => 1,
-        Body::Package { .. } => 2,
+        Body::Domain(kind, _) => kind.entry_kind(),
+        Body::Package { .. } => PACKAGE,
     };
     store[start] = kind;
     store[start + 1] = (length >> 8) as u8;
     store[start + 2] = length as u8;
     let mut at = start + ENTRY_HEAD;
     let aid_length = match body {
-        Body::Domain(aid) => [aid.len() as u8],
+        Body::Domain(_, aid) => [aid.len() as u8],
         Body::Package { domain, .. } => [domain.len() as u8],
     };
     for part in body_parts(body, &aid_length) {

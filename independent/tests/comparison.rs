@@ -84,6 +84,10 @@ impl Loader for Wrong {
         Independent.create(store, domain)
     }
 
+    fn create_without_int(&self, store: &mut [u8], domain: &[u8]) -> u32 {
+        Independent.create_without_int(store, domain)
+    }
+
     fn delete(&self, store: &mut [u8], domain: &[u8]) -> u32 {
         let answer = Independent.delete(store, domain);
         if self.0 == "freed bytes stay" && answer == 0 {

@@ -13,28 +13,30 @@ use independent::generate::sequences::sequence;
 use independent::generate::special;
 use independent::generate::stores::planted_store;
 use independent::generate::valid::valid_file;
-use independent::operations::{create, load};
+use independent::operations::{create_of, load};
 use independent::package::Version;
 use independent::questions::{asked_place, q2, OF_A_FILE};
 use independent::store::{write_empty, StoreVersion};
+use independent::without_int::DomainKind;
 
 const DOMAIN: &[u8] = &[0xA0, 0, 0, 0, 0xD1];
 
 /// How many of 60 files a pair of faults finds a place in, at least.
 const LEAST_PLANTED: usize = 40;
 
-/// A store with some generated packages, and the scene that goes with it.
-fn scene(random: &mut Random, version: StoreVersion) -> (Vec<u8>, Scene) {
+/// A store with some generated packages in a domain of this kind, and the scene that goes
+/// with it.
+fn scene(random: &mut Random, version: StoreVersion, kind: DomainKind) -> (Vec<u8>, Scene) {
     let mut store = vec![0; 65_535];
     write_empty(&mut store, version);
-    create(&mut store, DOMAIN);
+    create_of(&mut store, kind, DOMAIN);
     let mut scene = Scene {
         version,
-        domains: vec![DOMAIN.to_vec()],
         domain_pool: vec![DOMAIN.to_vec(), vec![1; 5], vec![1; 6], vec![2; 16]],
         package_pool: vec![vec![3; 9]],
         ..Scene::default()
     };
+    scene.create(kind, DOMAIN);
     for number in 0..4 {
         let file = valid_file(random, &scene, DOMAIN, &[0xB0, 0, 0, 0, number]).bytes();
         assert_eq!(load(&mut store, DOMAIN, &file).number, 0);
@@ -45,20 +47,23 @@ fn scene(random: &mut Random, version: StoreVersion) -> (Vec<u8>, Scene) {
 
 #[test]
 fn valid_files_are_accepted() {
-    for seed in 0..120 {
-        scene(&mut Random::new(seed), StoreVersion::First);
-    }
-    for (seed, limits) in (0..60).flat_map(|seed| CHOSEN.map(|limits| (seed, limits))) {
-        scene(&mut Random::new(seed), StoreVersion::Second(limits));
+    for kind in DomainKind::BOTH {
+        for seed in 0..120 {
+            scene(&mut Random::new(seed), StoreVersion::First, kind);
+        }
+        for (seed, limits) in (0..60).flat_map(|seed| CHOSEN.map(|limits| (seed, limits))) {
+            scene(&mut Random::new(seed), StoreVersion::Second(limits), kind);
+        }
     }
 }
 
-#[test]
-fn planted_faults_give_their_number() {
+/// How many of 60 files each pair of faults finds a place in, in a domain of this kind; the
+/// number is that of the fault asked about first.
+fn planted(kind: DomainKind) -> [[usize; OF_A_FILE.len()]; OF_A_FILE.len()] {
     let mut planted = [[0; OF_A_FILE.len()]; OF_A_FILE.len()];
     for seed in 0..60 {
         let random = &mut Random::new(seed);
-        let (store, scene) = scene(random, StoreVersion::First);
+        let (store, scene) = scene(random, StoreVersion::First, kind);
         let model = valid_file(random, &scene, DOMAIN, &[0xC0; 6]);
         let pairs = OF_A_FILE.iter().flat_map(|&a| OF_A_FILE.map(|b| [a, b]));
         for questions in pairs {
@@ -66,27 +71,38 @@ fn planted_faults_give_their_number() {
                 let number = load(&mut store.clone(), DOMAIN, &file).number;
                 let [first, second] = questions.map(asked_place);
                 let right = OF_A_FILE[first.min(second)];
-                assert_eq!(number, right, "seed {seed}, {questions:?}");
+                assert_eq!(number, right, "{kind:?}, seed {seed}, {questions:?}");
                 planted[first][second] += 1;
             }
         }
     }
-    // Every pair finds a place in most of the 60 files.
-    for (first, row) in OF_A_FILE.iter().zip(&planted) {
-        for (second, &count) in OF_A_FILE.iter().zip(row) {
-            assert!(count >= LEAST_PLANTED, "{first}, {second}: {count}");
+    planted
+}
+
+#[test]
+fn planted_faults_give_their_number() {
+    for kind in DomainKind::BOTH {
+        for (first, row) in OF_A_FILE.iter().zip(planted(kind)) {
+            for (second, count) in OF_A_FILE.iter().zip(row) {
+                let without = kind == DomainKind::WithInt && [first, second].contains(&&26);
+                let found = match without {
+                    true => count == 0,
+                    false => count >= LEAST_PLANTED,
+                };
+                assert!(found, "{kind:?}: {first}, {second}: {count}");
+            }
         }
     }
 }
 
 /// One call of each kind: with an AID of this length as the package and a file of such bytes, then as the domain.
-fn numbers_by_length(length: usize) -> [u32; 16] {
+fn numbers_by_length(length: usize) -> [u32; 18] {
     let aid = (5..=16).contains(&length);
     let or_3 = |number| if aid { number } else { 3 };
-    let (asked, done, gone) = (or_3(7), or_3(0), or_3(5));
-    let first = [0, 0, asked, 10, asked, 0, asked, 5];
-    let second = [0, done, asked, or_3(10), asked, done, 7, gone];
-    std::array::from_fn(|i| if i < 8 { first[i] } else { second[i - 8] })
+    let (asked, done) = (or_3(7), or_3(0));
+    let first = [0, 0, asked, 10, asked, 0, 0, asked, 0];
+    let second = [0, done, asked, or_3(10), asked, done, done, 7, done];
+    std::array::from_fn(|i| if i < 9 { first[i] } else { second[i - 9] })
 }
 
 #[test]
@@ -96,7 +112,7 @@ fn lengths_of_buffers_and_arguments() {
         let found = numbers(&sequence);
         let expected: Vec<u32> = match (64..=65_535).contains(&sequence.start.len()) {
             true => arguments.into_iter().flat_map(numbers_by_length).collect(),
-            false => vec![1; 16 * arguments.len()],
+            false => vec![1; 18 * arguments.len()],
         };
         assert_eq!(found, expected, "{}", sequence.start.len());
     }

@@ -9,7 +9,7 @@ use independent::generate::limits::chain;
 use independent::generate::sequences::sequence;
 use independent::handler_counts::HandlerCounts;
 use independent::ledger::Call;
-use independent::loader::{damage, Independent, Loader, Sequence, Step};
+use independent::loader::{Independent, Loader, Sequence};
 use independent::package::Version;
 
 /// All that is counted: wrong readings and shapes.
@@ -17,16 +17,9 @@ const ALL: usize = 31 + 6;
 
 /// Notes the calls of a sequence.
 fn note(counts: &mut HandlerCounts, sequence: &Sequence) {
-    let mut store = sequence.start.clone();
-    for step in &sequence.steps {
-        match step {
-            Step::Damage { place, bits } => damage(&mut store, *place, *bits),
-            Step::Call(call) => {
-                let answer = Independent.call(&mut store, call);
-                counts.note(call, answer, &store);
-            }
-        }
-    }
+    replay(sequence, |call, answer, store| {
+        counts.note(call, answer, store)
+    });
 }
 
 #[test]

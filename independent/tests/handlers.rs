@@ -212,7 +212,7 @@ fn soundness_asks_24_of_each_package() {
             file: model.bytes(),
         });
         let mut ledger = Ledger::new(200);
-        ledger.entries = [&[Entry::Domain(domain())][..], &packages].concat();
+        ledger.entries = [&[Entry::domain(D1)][..], &packages].concat();
         ledger.written_out(200)
     };
     assert!(q2(&store_of((0, 7, 0))).is_some());

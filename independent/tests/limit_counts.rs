@@ -8,20 +8,13 @@ use independent::generate::sequences::sequence;
 use independent::ledger::Call;
 use independent::limit_counts::LimitCounts;
 use independent::limits::Limits;
-use independent::loader::{damage, Independent, Loader, Sequence, Step};
+use independent::loader::{Sequence, Step};
 
 /// Notes the calls of a sequence.
 fn note(counts: &mut LimitCounts, sequence: &Sequence) {
-    let mut store = sequence.start.clone();
-    for step in &sequence.steps {
-        match step {
-            Step::Damage { place, bits } => damage(&mut store, *place, *bits),
-            Step::Call(call) => {
-                let answer = Independent.call(&mut store, call);
-                counts.note(call, answer, &store);
-            }
-        }
-    }
+    replay(sequence, |call, answer, store| {
+        counts.note(call, answer, store)
+    });
 }
 
 /// What is still counted less than once after these calls.

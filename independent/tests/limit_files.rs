@@ -118,7 +118,7 @@ fn soundness_judges_packages_by_the_stores_limits() {
             let mut ledger = Ledger::new(300);
             ledger.version = StoreVersion::Second(Limits::STANDARD.with(limit, number));
             let (domain, file) = (D1.to_vec(), with(limit, 3).bytes());
-            ledger.entries = vec![Entry::Domain(D1.to_vec()), Entry::Package { domain, file }];
+            ledger.entries = vec![Entry::domain(D1), Entry::Package { domain, file }];
             let found = q2(&ledger.written_out(300)).is_some();
             assert_eq!(found, sound, "{limit:?} {number}");
         }

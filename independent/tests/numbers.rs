@@ -87,6 +87,10 @@ fn load_numbers() {
         let file = with_handler(&[0x7A], handler).bytes();
         assert_eq!(load(&mut store(200), D1, &file).number, number);
     }
+    for (domain, number) in [(D1, 0), (D3, 26)] {
+        let file = with_code(&[0x0A, 0x7A]).bytes();
+        assert_eq!(load(&mut store_of_both(200), domain, &file).number, number);
+    }
     let done = Answer {
         number: 0,
         figure: 4,

@@ -13,7 +13,7 @@ fn sound(entries: Vec<Entry>, length: usize) -> bool {
 }
 
 fn domain(aid: &[u8]) -> Entry {
-    Entry::Domain(aid.to_vec())
+    Entry::domain(aid)
 }
 
 fn loaded(domain: &[u8], file: Vec<u8>) -> Entry {

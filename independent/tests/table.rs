@@ -19,14 +19,10 @@ const LISTS: [(u8, &str); 5] = [
 #[test]
 fn lengths_are_those_listed() {
     let mut table = [NONE; 256];
-    let opcode = |text: &str| usize::from_str_radix(text, 16).unwrap();
     for (length, list) in LISTS {
-        for range in list.split(", ") {
-            let (first, last) = range.split_once('-').unwrap_or((range, range));
-            for entry in &mut table[opcode(first)..=opcode(last)] {
-                assert_eq!(*entry, NONE);
-                *entry = length;
-            }
+        for opcode in listed(list) {
+            assert_eq!(table[opcode], NONE);
+            table[opcode] = length;
         }
     }
     for entry in &mut table[0x73..=0x76] {

@@ -60,6 +60,7 @@ fn step(line: &str, store: &mut Vec<u8>) -> Option<Call> {
             words.figure() as u16,
         )),
         "C" => Call::Create(words.bytes()),
+        "K" => Call::CreateWithoutInt(words.bytes()),
         "D" => Call::Delete(words.bytes()),
         "R" => Call::Remove(words.bytes()),
         "L" => Call::Load {

@@ -1,7 +1,7 @@
 # For the scripts in tests/: the static library and the simulated card, built where missing or out of date.
 #
 # A script sets `test` to its name and `out` to its folder below target/, and sources this file from the
-# top of the repository. LOADER_LIBRARY and CARD may name another archive of the seven operations and
+# top of the repository. LOADER_LIBRARY and CARD may name another archive of the eight operations and
 # another simulated card, which are then tested and not built.
 
 # fail WHAT [FILE]: says what went wrong, with what was written about it.

@@ -10,6 +10,8 @@ use comparison::timing::measure;
 use comparison::workloads::{self, Workload};
 use independent::generate::full_stores::full_stores;
 use independent::generate::handler_cases;
+use independent::generate::int_cases;
+use independent::generate::kind_cases;
 use independent::generate::limit_cases;
 use independent::generate::own_pairs::own_pairs;
 use independent::generate::sequences::sequence;
@@ -76,8 +78,8 @@ fn processor() -> String {
     name.map_or("unknown processor".into(), |(_, name)| name.trim().into())
 }
 
-/// Calls that reach deep: limits, lists with FE, handlers, limits of stores, ladders, full stores,
-/// all that is timed, and others.
+/// Calls that reach deep: limits, lists with FE, handlers, limits of stores, kinds of domains,
+/// ladders, full stores, all that is timed, and others.
 fn stack_sequences<'a>(workloads: impl Iterator<Item = &'a Workload>) -> Vec<Sequence> {
     let mut found = special::lengths();
     found.extend(Version::BOTH.map(special::limits));
@@ -87,6 +89,9 @@ fn stack_sequences<'a>(workloads: impl Iterator<Item = &'a Workload>) -> Vec<Seq
     found.extend(handler_cases::version_pairs());
     found.extend(limit_cases::given());
     found.extend(limit_cases::at_limits());
+    found.extend(int_cases::orders());
+    found.extend(kind_cases::rooms());
+    found.extend(kind_cases::meetings());
     found.extend(full_stores());
     found.extend(special::hostile());
     found.extend((0..300).map(sequence));
@@ -106,6 +111,7 @@ fn over_workload(workload: &Workload) -> Sequence {
             Call::Load { domain, file },
             Call::Remove(aid()),
             Call::Create(vec![]),
+            Call::CreateWithoutInt(vec![]),
             Call::Query {
                 domain: aid(),
                 package: aid(),

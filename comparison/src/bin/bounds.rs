@@ -7,8 +7,8 @@
 //! `larger` tells what the names of functions have that are called for longer stores alone, or for
 //! larger limits alone. `#` begins a comment.
 
-use comparison::counts::OPERATIONS;
 use comparison::frames::{Calls, Frames, Recursion};
+use independent::ledger::Call;
 use std::process::ExitCode;
 
 /// The words of each line.
@@ -55,7 +55,7 @@ fn run() -> Result<(), String> {
         let left_out = &left_out;
         frames.bound(name, &Calls { larger, left_out })
     };
-    for operation in OPERATIONS {
+    for operation in Call::OPERATIONS {
         let name = format!("loader_{operation}");
         if !frames.has(&name) {
             return Err(format!("there is no {name} in {archive}"));

@@ -7,3 +7,4 @@ mod Landing
 mod Fitting
 mod Numbers
 pub mod Calls
+mod Barred

@@ -1,6 +1,7 @@
-// Codes: questions 16, 17 and 24 of one code in one walk, and its calls in order.
+// Codes: questions 16, 17 and 24 of one code in one walk, 26 in another, and its calls in order.
 mod branches;
 mod handlers;
+pub mod subset;
 
 use branches::mark_targets;
 use fields::u2_at;

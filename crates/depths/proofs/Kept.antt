@@ -10,7 +10,7 @@ use lib.ListN.{length, getD, replicate, length-replicate, List·getD-eq-default}
 use borrow.Author.Tests.{le-leb, lt-leb}
 use Rattle.rules.specs.Bytes.{Bytes, Aid, at}
 use Rattle.rules.specs.Package.{mostClasses, Class, Package, readFile}
-use Rattle.rules.specs.Store.{Entry, domain, loaded, firstEntry, storeLimits, storeOpening}
+use Rattle.rules.specs.Store.{DomainKind, Entry, domain, loaded, firstEntry, storeLimits, storeOpening}
 use Rattle.rules.specs.Classes.{Installed, installed, depthUpTo}
 use Rattle.rules.specs.Questions.{own, depthWithin}
 use Rattle.rules.specs.Operations.{accepted, acceptedAll}
@@ -120,18 +120,19 @@ module _ (s : Bytes) (es : List Entry) (end : ℕ) (e : Entry) (next : ℕ) (sta
       (and-l (acceptedAll (storeOpening s) size [] es) _ h, and-l (accepted (storeOpening s) size es e) _ r)
 
 -- a domain more
-pub depths-domain : (s : Bytes) (at next : ℕ) (a : Aid) (t : List ℕ) → DepthsKept s at t → EntryAt s at (domain a) next → StandFrom s (firstEntry s) at →
+pub depths-domain : (s : Bytes) (at next : ℕ) {kind : DomainKind} (a : Aid) (t : List ℕ) → DepthsKept s at t → EntryAt s at (domain kind a) next →
+    StandFrom s (firstEntry s) at →
     DepthsKept s next t
-depths-domain s end next a t kept one st = kept-by s es end (domain a) next (st .1) one t (kept .room) told
+depths-domain s end next {kind} a t kept one st = kept-by s es end (domain kind a) next (st .1) one t (kept .room) told
   where
     es : List Entry
     es = st .0
 
-    told : (size : ℕ) → T (acceptedAll (storeOpening s) size [] (es ++ domain a ∷ [])) → Tells s (es ++ domain a ∷ []) t
-    told size sound h x y n k i is ps here = elim (stored-or s es end (domain a) next (st .1) one h x y) [
+    told : (size : ℕ) → T (acceptedAll (storeOpening s) size [] (es ++ domain kind a ∷ [])) → Tells s (es ++ domain kind a ∷ []) t
+    told size sound h x y n k i is ps here = elim (stored-or s es end (domain kind a) next (st .1) one h x y) [
       | before p l ↦
-          let z = kept .told es size (st .1) ((both s es end (domain a) next (st .1) one size sound) .0) h x p n k i is ps here in
-          z ∙ ap (λ (v : List Installed). depthUpTo v (suc (storeLimits s .depth)) (own x n)) (sym (installed-domain (storeLimits s) es a))
+          let z = kept .told es size (st .1) ((both s es end (domain kind a) next (st .1) one size sound) .0) h x p n k i is ps here in
+          z ∙ ap (λ (v : List Installed). depthUpTo v (suc (storeLimits s .depth)) (own x n)) (sym (installed-domain (storeLimits s) es kind a))
       | last p l ↦ let z : _≡_ {A = ℕ} 0 1 = cc in absurd (omega arith)
     ]
 

@@ -2,7 +2,7 @@
 use Prim.Native.Nat.{ℕ, _+_, _-_, _*_, _≤_, _<_}
 use native.Mathlib.Omega.{arith}
 use mathlib.Core.Path.{_≡_, refl, sym, _∙_, ap, ap₂, subst}
-use mathlib.Core.Bool.{Bool, true, false, _&&_, not}
+use mathlib.Core.Bool.{Bool, true, false, _&&_, _||_, not}
 use mathlib.Core.List.{List, [], _∷_}
 use mathlib.Core.Option.{some, Option·some-injective}
 use lib.Dec.{T, eqb, leb, leb→le}
@@ -11,28 +11,29 @@ use lib.Seq.{getD-set-same}
 use borrow.Author.Tests.{le-leb, lt-leb}
 use Rattle.rules.specs.Bytes.{Bytes, Aid, any, same, aidLength}
 use Rattle.rules.specs.Code.{u2At}
-use Rattle.rules.specs.Store.{Entry, domain, loaded, firstEntry}
-use Rattle.rules.specs.Questions.{q3-lengths, q4-new, q5-created}
+use Rattle.rules.specs.Store.{DomainKind, Entry, domain, loaded, firstEntry, storeLimits}
+use Rattle.rules.specs.Questions.{q3-lengths, q4-new, q5-created, keepsSubset}
 use Rattle.rules.specs.Operations.{isDomain}
 use Rattle.rules.proofs.Tests.{none-some, and-l, and-r, of-true, is-true, same-eq, same-refl}
 use Rattle.rules.proofs.Limits.{first-entry}
-use Rattle.store.specs.Entries.{part, EntryAt, Entries, StandFrom}
+use Rattle.store.specs.Entries.{part, kindAt, EntryAt, Entries, StandFrom}
 use Rattle.store.proofs.Parts.{part-length}
-use Rattle.store.proofs.Stand.{EntryBy, KindBy, kind1, kind2, entry-by, kind-by, entry-next, entry-later, entries-to}
+use Rattle.store.proofs.Stand.{EntryBy, KindBy, domainBy, loadedBy, not-loaded, entry-by, kind-by, entry-next, entry-later, entries-to}
 use Rattle.store.proofs.Walk.{place-any}
 use Rattle.store.proofs.Asked.{created-place}
 use Rattle.sorted.specs.Sorted.{keyPlace, keyAt, Keyed, count, Sorted, Has, Found, Entered}
 use Rattle.sorted.proofs.Table.{key-place-domain, key-part}
 use Rattle.index.proofs.Tables.{table-start, table-other, table-more, found-none, found-any}
-use Rattle.domains.specs.Domains.{domainKey, DomainsIs, EntrySays, PackageSays}
+use Rattle.domains.proofs.Strict.{found-full, found-strict}
+use Rattle.domains.specs.Domains.{readsWithoutInt, domainKey, DomainsIs, EntrySays}
 
 -- the test of a domain's AID finds the domains that have it
 is-key : (a : Aid) (e : Entry) → isDomain a e ≡ true → domainKey e ≡ some a
-is-key a (domain b) h = ap some (sym (same-eq a b (of-true h)))
+is-key a (domain k b) h = ap some (sym (same-eq a b (of-true h)))
 is-key a (loaded d f) h = let z : _≡_ {A = ℕ} 0 1 = cc in absurd (omega arith)
 
 key-is : (a : Aid) (e : Entry) → domainKey e ≡ some a → isDomain a e ≡ true
-key-is a (domain b) h = ap (same a) (Option·some-injective _ _ h) ∙ is-true (same a a) (same-refl a)
+key-is a (domain k b) h = ap (same a) (Option·some-injective _ _ h) ∙ is-true (same a a) (same-refl a)
 key-is a (loaded d f) h = absurd (none-some h)
 
 -- 5 by the test
@@ -68,17 +69,17 @@ pub part-range : (s : Bytes) (i j : ℕ) → j ≤ length s → (b c : Bool) →
 part-range s i j h b c e f = ap aidLength (part-length s i j h) ∙ sym e ∙ f
 
 -- a domain's entry by its bytes
-module _ (s : Bytes) (at next : ℕ) (a : Aid) (t : EntryAt s at (domain a) next) where
-  by : EntryBy s at (domain a) next
-  by = entry-by s at (domain a) next t
+module _ (s : Bytes) (at next : ℕ) {k : DomainKind} (a : Aid) (t : EntryAt s at (domain k a) next) where
+  by : EntryBy s at (domain k a) next
+  by = entry-by s at (domain k a) next t
 
   -- kind and AID
-  pub domain-by : (getD s at 0 ≡ 1) × (a ≡ part s (at + 3) next)
-  domain-by = go (kind-by s at (domain a) next by)
+  pub domain-by : (getD s at 0 ≡ 2 → ⊥) × (a ≡ part s (at + 3) next)
+  domain-by = go (kind-by s at (domain k a) next by)
     where
-      go : KindBy s at (domain a) next → (getD s at 0 ≡ 1) × (a ≡ part s (at + 3) next)
-      go (kind1 h e) = (h, cc)
-      go (kind2 x) = let e = x .is in let z : _≡_ {A = ℕ} 0 1 = cc in absurd (omega arith)
+      go : KindBy s at (domain k a) next → (getD s at 0 ≡ 2 → ⊥) × (a ≡ part s (at + 3) next)
+      go (domainBy x) = (λ h. not-loaded (kindAt s at) (sym (x .kind) ∙ h), let e = x .is in cc)
+      go (loadedBy x) = let e = x .is in let z : _≡_ {A = ℕ} 0 1 = cc in absurd (omega arith)
 
   pub domain-long : length a ≡ next - (at + 3)
   domain-long = ap length (domain-by .1) ∙ part-length s (at + 3) next (t .to)
@@ -97,7 +98,7 @@ module _ (s : Bytes) (at next : ℕ) (a : Aid) (t : EntryAt s at (domain a) next
     pub domain-key : keyAt s at ≡ a
     domain-key =
         let e : at + 2 + 1 ≡ at + 3 = omega arith in
-        let f : at + 2 + 1 + (next - (at + 3)) ≡ next = omega (arith, entry-later s at (domain a) next t) in
+        let f : at + 2 + 1 + (next - (at + 3)) ≡ next = omega (arith, entry-later s at (domain k a) next t) in
         sym (key-part s at (at + 2) (next - (at + 3)) (sym place) (sym low)) ∙ ap₂ (part s) e f ∙ sym (domain-by .1)
 
     pub domain-keyed : (firstEntry s) ≤ at → Keyed s at
@@ -123,7 +124,7 @@ module _ (s : Bytes) (at : ℕ) (l : List ℕ) (d : DomainsIs s at l) where
   behind = (entries-to s (firstEntry s) (d .table .behind .0) at (d .table .behind .1)) .0
 
   -- entering a domain
-  module _ (next : ℕ) (a : Aid) (t : EntryAt s at (domain a) next) (h : aidLength (length a) ≡ true) where
+  module _ (next : ℕ) {k : DomainKind} (a : Aid) (t : EntryAt s at (domain k a) next) (h : aidLength (length a) ≡ true) where
     enter-keyed : Keyed s at
     enter-keyed = domain-keyed s at next a t h behind
 
@@ -138,7 +139,7 @@ module _ (s : Bytes) (at : ℕ) (l : List ℕ) (d : DomainsIs s at l) where
     key = domain-key s at next a t h
 
     -- 3 and 4
-    pub enter-says : (m : List ℕ) (b : Bool) → Entered s l m at b → EntrySays s at (domain a) b
+    pub enter-says : (m : List ℕ) (b : Bool) → Entered s l m at b → EntrySays s at (domain k a) b
     enter-says m true n pre r =
         let e = created-any pre a ∙ found-none domainKey s at l (d .table) a (isDomain a) (is-key a) (λ p x z. n .alone p x (z ∙ sym key)) pre r in
         sym (ap₂ (λ (x y : Bool). x && y) (one-length a ∙ h) (new-not pre a ∙ ap not e))
@@ -148,26 +149,45 @@ module _ (s : Bytes) (at : ℕ) (l : List ℕ) (d : DomainsIs s at l) where
 
     pub enter-table : (m : List ℕ) (b : Bool) → Entered s l m at b → b ≡ true → DomainsIs s next m
     enter-table m true n e = record {
-      table = table-more domainKey s at next (domain a) l (d .table) t m (ap some (sym key)) n;
+      table = table-more domainKey s at next (domain k a) l (d .table) t m (ap some (sym key)) n;
       room = omega (arith, d .room, n .size);
       few = omega (arith, d .few, n .more, domain-room s at next a t h);
     }
     enter-table m false n e = let z : _≡_ {A = ℕ} 0 1 = cc in absurd (omega arith)
 
   -- 3 of a domain
-  pub short-says : (a : Aid) → aidLength (length a) ≡ false → EntrySays s at (domain a) false
-  short-says a h pre r = sym (ap (λ (x : Bool). x && q4-new pre a) (one-length a ∙ h))
+  pub short-says : (k : DomainKind) (a : Aid) → aidLength (length a) ≡ false → EntrySays s at (domain k a) false
+  short-says k a h pre r = sym (ap (λ (x : Bool). x && q4-new pre a) (one-length a ∙ h))
 
-  -- 3 and 5 of a package's domain
-  pub short-package : (a : Aid) → aidLength (length a) ≡ false → PackageSays s at a false
-  short-package a h f pre r = sym (ap (λ (x : Bool). x && q5-created pre a) (one-length a ∙ h))
+  -- a place that is found lies inside the store
+  pub found-inside : (a : Aid) (q : ℕ) → Found s l a q → (q ≡ 0 → ⊥) → q < length s
+  found-inside a q w g =
+      let x = d .table .only q ((w .there (omega (arith, g))) .0) in
+      omega (arith, x .stood .stands .to, entry-later s q (x .one) (x .next) (x .stood .stands))
 
-  pub package-says : (a : Aid) (q : ℕ) → aidLength (length a) ≡ true → Found s l a q →
-      ((q ≡ 0 → ⊥) → PackageSays s at a true) × (q ≡ 0 → PackageSays s at a false)
-  package-says a q h w = (
-    λ g f pre r. sym (ap₂ (λ (x y : Bool). x && y) (one-length a ∙ h) ((found-created a q w pre r) .0 (omega (arith, g)))),
-    λ g f pre r. sym (ap₂ (λ (x y : Bool). x && y) (one-length a ∙ h) ((found-created a q w pre r) .1 g)),
-  )
+  -- 3 and 5 of a package's domain, and 26 where it is of kind 3
+  pub short-package : (a : Aid) (f : Bytes) → aidLength (length a) ≡ false → EntrySays s at (loaded a f) false
+  short-package a f h pre r =
+      sym (ap (λ (x : Bool). x && (q5-created pre a && (not (keepsSubset pre a) || readsWithoutInt (storeLimits s) f))) (one-length a ∙ h))
+
+  module _ (a : Aid) (f : Bytes) (q : ℕ) (h : aidLength (length a) ≡ true) (w : Found s l a q) where
+    pub package-missing : q ≡ 0 → EntrySays s at (loaded a f) false
+    package-missing g pre r = sym (ap₂ (λ (x y : Bool). x && (y && (not (keepsSubset pre a) || readsWithoutInt (storeLimits s) f)))
+        (one-length a ∙ h) ((found-created a q w pre r) .1 g))
+
+    module _ (g : q ≡ 0 → ⊥) where
+      -- found: the answer to 26
+      package-says : (b c : Bool) → ((pre : List Entry) → Entries s (firstEntry s) pre at → keepsSubset pre a ≡ b) →
+          (not b || readsWithoutInt (storeLimits s) f) ≡ c → EntrySays s at (loaded a f) c
+      package-says b c k e pre r =
+          sym (ap₂ (λ (x y : Bool). x && (y && (not (keepsSubset pre a) || readsWithoutInt (storeLimits s) f))) (one-length a ∙ h)
+          ((found-created a q w pre r) .0 (omega (arith, g))) ∙ ap (λ (x : Bool). not x || readsWithoutInt (storeLimits s) f) (k pre r) ∙ e)
+
+      pub package-full : (getD s q 0 ≡ 3 → ⊥) → EntrySays s at (loaded a f) true
+      package-full n = package-says false true (λ pre r. found-full s at l (d .table) a q (w .there (omega (arith, g))) n pre r) refl
+
+      pub package-kept : getD s q 0 ≡ 3 → (c : Bool) → c ≡ readsWithoutInt (storeLimits s) f → EntrySays s at (loaded a f) c
+      package-kept n c e = package-says true c (λ pre r. found-strict s at l (d .table) a q (w .there (omega (arith, g))) n pre r) (sym e)
 
 -- the table before the first entry
 pub domains-start : (s : Bytes) (l : List ℕ) → firstEntry s ≤ length s → length s ≤ 8 * length l → count l ≡ 0 → DomainsIs s (firstEntry s) l

@@ -2,3 +2,5 @@
 pub mod Split
 pub mod Keys
 pub mod Phase
+mod Strict
+mod Reading

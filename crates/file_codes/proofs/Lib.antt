@@ -2,3 +2,4 @@
 mod Loops
 mod Guards
 pub mod Numbers
+mod Keeping

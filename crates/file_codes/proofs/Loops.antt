@@ -71,7 +71,7 @@ pub classes-start : {f : Bytes} {k n : ℕ} → n ≡ getD f k 0 → ClassNumber
 classes-start {f} {k} {n} h = numbers-start (classReader f) (steady-classes f) mostClasses (λ w. classQuestions) (λ w. in-order) f k n h
 
 -- tests that do not ask for the number of an element
-allFrom-all : {A : Type 0} (p : A → Bool) (k : ℕ) (xs : List A) → allFrom (λ i x. p x) k xs ≡ all p xs
+pub allFrom-all : {A : Type 0} (p : A → Bool) (k : ℕ) (xs : List A) → allFrom (λ i x. p x) k xs ≡ all p xs
 allFrom-all p k [] = refl
 allFrom-all p k (x ∷ xs) = ap (λ (b : Bool). p x && b) (allFrom-all p (suc k) xs)
 

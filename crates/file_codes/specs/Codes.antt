@@ -1,4 +1,4 @@
--- Questions 16, 17 and 24 over all codes of a file. Assumes nothing.
+-- Questions 16, 17, 24 and 26 over all codes of a file. Assumes nothing.
 --
 -- codeTest q m    == q of the method's code, if it is implemented
 -- codeQuestions   == what one walk asks of a method: 16, 17, 24, and, as 18, whether its code has no calls, so that 18 and 19 are yes
@@ -7,6 +7,7 @@
 -- HandlersAre f i r == r are the bytes of the handlers of the method at place i
 -- MethodHere, ClassHere, FileHere == such a thing stands there, within limits whose code length the sets have bits for
 -- MethodNumberIs, .. == the answer is that number of whatever stands there
+-- MethodKeeps, ..    == the answer to question 26 of whatever stands there
 use Prim.Native.Nat.{ℕ, _*_, _≤_}
 use mathlib.Core.Path.{_≡_}
 use mathlib.Core.Bool.{Bool, _||_, not}
@@ -16,7 +17,8 @@ use lib.ListN.{length}
 use Rattle.rules.specs.Bytes.{Bytes, Aid, all}
 use Rattle.rules.specs.Code.{codeSplits, codeBranches, codeHandlers}
 use Rattle.rules.specs.Package.{Limits, formatOf, Method, Class, Package, method, class, readFile}
-use Rattle.rules.specs.Questions.{q16-splits, q17-targets, q24-handlers}
+use Rattle.rules.specs.Subset.{codeWithoutInt}
+use Rattle.rules.specs.Questions.{allCodes, q16-splits, q17-targets, q24-handlers}
 use Rattle.rules.specs.Operations.{firstNo}
 use Rattle.places.specs.Reads.{Ends}
 use Rattle.places.specs.Parts.{handlersIn}
@@ -71,3 +73,16 @@ ClassNumberIs s i r = OfClass s i λ l ds k j. r ≡ noOf classQuestions k
 
 abbrev pub FileNumberIs : Bytes → ℕ → Type 0
 FileNumberIs f r = (l : Limits) (p : Package) → readFile l f ≡ some p → r ≡ fileNumber p
+
+-- 26 of the code of a method, of all methods of a class, of all codes of a file
+abbrev pub keeps : Method → Bool
+keeps m = codeTest codeWithoutInt m
+
+abbrev pub MethodKeeps : Bytes → ℕ → Bool → Type 0
+MethodKeeps s i r = OfMethod s i λ l ds m. r ≡ keeps m
+
+abbrev pub ClassKeeps : Bytes → ℕ → Bool → Type 0
+ClassKeeps s i r = OfClass s i λ l ds k j. r ≡ all keeps (k .methods)
+
+abbrev pub FileKeeps : Bytes → Bool → Type 0
+FileKeeps f r = (l : Limits) (p : Package) → readFile l f ≡ some p → r ≡ allCodes codeWithoutInt p

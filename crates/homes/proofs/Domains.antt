@@ -8,13 +8,13 @@ use lib.Dec.{T, leb, leb→le}
 use lib.ListN.{length, take, drop, getD}
 use borrow.Author.Tests.{eq-eqb, ne-eqb}
 use Rattle.rules.specs.Bytes.{Bytes, Aid, aidLength, u1, when, span, aid}
-use Rattle.rules.specs.Store.{Entry, domain, loaded}
+use Rattle.rules.specs.Store.{Entry, DomainKind, domain, loaded}
 use Rattle.rules.specs.Classes.{Installed}
 use Rattle.rules.specs.Questions.{q3-lengths}
 use Rattle.rules.proofs.Tests.{and-l, and-r}
 use Rattle.store.specs.Entries.{part, EntryAt}
 use Rattle.store.proofs.Parts.{part-length}
-use Rattle.store.proofs.Stand.{EntryBy, KindBy, kind1, kind2, kind-by, entry-by}
+use Rattle.store.proofs.Stand.{EntryBy, KindBy, domainBy, loadedBy, kind-by, entry-by}
 use Rattle.index.proofs.Here.{PackageBy, package-by}
 use Rattle.places.specs.Reads.{Reads, Ends}
 use Rattle.places.proofs.Build.{bind-reads, when-reads, u1-reads, span-reads}
@@ -60,12 +60,13 @@ module _ (s : Bytes) (p : ℕ) (d f : Bytes) (j : ℕ) (t : EntryAt s p (loaded 
       (aidAt s (p + 3), p + 3 + 1 + n, aid-reads s (p + 3) a (omega (arith, by .inside, t .to)))
 
 -- a domain's entry: the body length's low byte stands right before the AID
-pub created-domain : (s : Bytes) (p : ℕ) (a : Aid) (j : ℕ) → EntryAt s p (domain a) j → T (q3-lengths (a ∷ [])) → Ends aid s (p + 2) × (a ≡ aidAt s (p + 2))
+pub created-domain : (s : Bytes) (p : ℕ) {k : DomainKind} (a : Aid) (j : ℕ) → EntryAt s p (domain k a) j → T (q3-lengths (a ∷ [])) →
+    Ends aid s (p + 2) × (a ≡ aidAt s (p + 2))
 unfolding q3-lengths
-created-domain s p a j t q = go (kind-by s p (domain a) j b)
+created-domain s p {k} a j t q = go (kind-by s p (domain k a) j b)
   where
-    b : EntryBy s p (domain a) j
-    b = entry-by s p (domain a) j t
+    b : EntryBy s p (domain k a) j
+    b = entry-by s p (domain k a) j t
 
     size : T (aidLength (length a))
     size = and-l (aidLength (length a)) true q
@@ -88,9 +89,9 @@ created-domain s p a j t q = go (kind-by s p (domain a) j b)
         second : (p : ℕ) → p + 1 + 1 ≡ p + 2
         second p = omega arith
 
-    go : KindBy s p (domain a) j → Ends aid s (p + 2) × (a ≡ aidAt s (p + 2))
-    go (kind1 h e) = named cc
-    go (kind2 x) = let e = x .is in let z : _≡_ {A = ℕ} 0 1 = cc in absurd (omega arith)
+    go : KindBy s p (domain k a) j → Ends aid s (p + 2) × (a ≡ aidAt s (p + 2))
+    go (domainBy x) = let e = x .is in named cc
+    go (loadedBy x) = let e = x .is in let z : _≡_ {A = ℕ} 0 1 = cc in absurd (omega arith)
 
 -- where the domain of the package at a home stands: the file being judged, and a stored package
 pub place-own : (h : Home) (d : ℕ) → h .from ≡ 0 → domainPlace h d ≡ d

@@ -32,7 +32,7 @@ all-read v n pre [] h = tt
 all-read v n pre (e ∷ es) h = (one e (and-l (accepted v n pre e) _ h), all-read v n (pre ++ e ∷ []) es (and-r (accepted v n pre e) _ h))
   where
     one : (e : Entry) → T (accepted v n pre e) → FileReads (openingLimits v) e
-    one (domain a) h = tt
+    one (domain k a) h = tt
     one (loaded d f) h = let y = load-yes v n pre d f (eqb→eq _ 0 h) in (y .0, y .1 .q11)
 
 -- a parent that exists and is an own one has a smaller number

@@ -38,7 +38,7 @@ module _ (s : Bytes) (end : ℕ) (index : List ℕ) (a : Aid) (i : IndexIs s end
   found-here q w z = let h = w .there (omega (arith, z)) in let o = i .table .only q (h .0) in go (o .one) (o .next) (o .stood) (o .named ∙ ap some (h .1))
     where
       go : (e : Entry) (j : ℕ) → Stood s end q e j → packageKey e ≡ some a → Here q
-      go (domain b) j t k = absurd (none-some k)
+      go (domain x b) j t k = absurd (none-some k)
       go (loaded d f) j t k = record { home = d; file = f; next = j; stood = t; own = sym (Option·some-injective _ _ k) }
 
   pub found-inside : (q : ℕ) → Found s index a q → (q ≡ 0 → ⊥) → q + 3 < length s

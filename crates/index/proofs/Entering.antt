@@ -8,7 +8,7 @@ use mathlib.Core.Option.{some, Option·some-injective}
 use lib.ListN.{length, getD, replicate, length-replicate}
 use Rattle.rules.specs.Bytes.{Bytes, Aid, any, same, isSome}
 use Rattle.rules.specs.Package.{Limits, Package}
-use Rattle.rules.specs.Store.{Entry, domain, loaded, firstEntry, storeLimits}
+use Rattle.rules.specs.Store.{DomainKind, Entry, domain, loaded, firstEntry, storeLimits}
 use Rattle.rules.specs.Classes.{installed, byAid}
 use Rattle.rules.specs.Questions.{q7-installed, q12-new}
 use Rattle.rules.specs.Operations.{isPackage}
@@ -41,11 +41,12 @@ index-start s n h g = record {
 }
 
 -- behind a domain's entry it is the same index
-pub index-domain : (s : Bytes) (at next : ℕ) (a : Aid) (index : List ℕ) → IndexIs s at index → EntryAt s at (domain a) next → IndexIs s next index
-index-domain s at next a index i u = record {
-  table = table-other packageKey s at next (domain a) index (i .table) u refl;
+pub index-domain : (s : Bytes) (at next : ℕ) {k : DomainKind} (a : Aid) (index : List ℕ) → IndexIs s at index → EntryAt s at (domain k a) next →
+    IndexIs s next index
+index-domain s at next {k} a index i u = record {
+  table = table-other packageKey s at next (domain k a) index (i .table) u refl;
   room = i .room;
-  few = omega (arith, i .few, entry-later s at (domain a) next u);
+  few = omega (arith, i .few, entry-later s at (domain k a) next u);
 }
 
 -- the tests of an AID in a file and of the package read say the same
@@ -64,11 +65,11 @@ not-installed l es p h = sym (installed-any l (p .aid) es) ∙ not-yes (isSome (
 
 -- the test of an AID finds the packages that have it
 pub named-key : (a : Aid) (e : Entry) → namedBy a e ≡ true → packageKey e ≡ some a
-named-key a (domain b) h = absurd (clash (sym h))
+named-key a (domain k b) h = absurd (clash (sym h))
 named-key a (loaded d f) h = ap some (sym (same-eq a (ownAid f) (of-true h)))
 
 pub key-named : (a : Aid) (e : Entry) → packageKey e ≡ some a → namedBy a e ≡ true
-key-named a (domain b) h = absurd (none-some h)
+key-named a (domain k b) h = absurd (none-some h)
 key-named a (loaded d f) h = ap (same a) (Option·some-injective _ _ h) ∙ is-true (same a a) (same-refl a)
 
 -- a package is entered

@@ -10,7 +10,7 @@ use Rattle.rules.specs.Package.{Limits, Package, readFile}
 use Rattle.rules.specs.Store.{Entry, domain, loaded, firstEntry}
 use Rattle.rules.proofs.Limits.{first-entry}
 use Rattle.store.specs.Entries.{part, EntryAt, ownAid}
-use Rattle.store.proofs.Stand.{EntryBy, KindBy, kind1, kind2, kind-by, entry-by}
+use Rattle.store.proofs.Stand.{EntryBy, KindBy, domainBy, loadedBy, kind-by, entry-by}
 use Rattle.store.proofs.Parts.{part-length, part-drop, part-take}
 use Rattle.store.proofs.Own.{OwnBy, own-by}
 use Rattle.sorted.specs.Sorted.{keyPlace, keyAt, Keyed}
@@ -60,8 +60,8 @@ package-by s p d f j t = go (kind-by s p (loaded d f) j b)
     b = entry-by s p (loaded d f) j t
 
     go : KindBy s p (loaded d f) j → PackageBy s p d f j
-    go (kind1 h e) = let z : _≡_ {A = ℕ} 0 1 = cc in absurd (omega arith)
-    go (kind2 x) =
+    go (domainBy x) = let e = x .is in let z : _≡_ {A = ℕ} 0 1 = cc in absurd (omega arith)
+    go (loadedBy x) =
         record { kind = x .kind; head = omega (arith, x .length); inside = x .inside; to = b .next; domain = let e = x .is in cc; file = let e = x .is in cc }
 
 -- the own AID of a package's file is the one that its entry is sorted by
@@ -73,7 +73,7 @@ module _ (l : Limits) (s : Bytes) (p : ℕ) (d f : Bytes) (j : ℕ) (x : Package
   own = own-here l s (fileFrom s p) j x (by .inside) (t .to) (ap (readFile l) (sym (by .file)) ∙ r)
 
   place : keyPlace s p ≡ fileFrom s p + 7
-  place = key-place-package s p (λ e. omega (arith, by .kind)) ∙ (omega arith)
+  place = key-place-package s p (by .kind) ∙ (omega arith)
 
   pub package-key : keyAt s p ≡ ownAid f
   package-key =

@@ -54,7 +54,7 @@ pub record TableOf (key : Entry → Option Aid) (s : Bytes) (end : ℕ) (l : Lis
 
 -- a package's own AID
 abbrev pub packageKey : Entry → Option Aid
-packageKey (domain a) = none
+packageKey (domain k a) = none
 packageKey (loaded d f) = some (ownAid f)
 
 abbrev pub leastPackage : ℕ

@@ -10,17 +10,17 @@ use Rattle.rules.specs.Bytes.{within}
 use Rattle.rules.specs.Code.{mayEnd}
 
 -- a range of opcodes, by the order
-out-below : (lo hi n : ℕ) → n < lo → within lo hi n ≡ false
+pub out-below : (lo hi n : ℕ) → n < lo → within lo hi n ≡ false
 out-below lo hi n h = rw (lt-leb lo n h)
 
-out-above : (lo hi n : ℕ) → hi < n → within lo hi n ≡ false
+pub out-above : (lo hi n : ℕ) → hi < n → within lo hi n ≡ false
 out-above lo hi n h = rw (lt-leb n hi h) (and-false (leb lo n))
 
 pub in-range : (lo hi n : ℕ) → lo ≤ n → n ≤ hi → within lo hi n ≡ true
 in-range lo hi n a b = rw (le-leb lo n a, le-leb n hi b)
 
 -- a range of one opcode
-one-is : (k n : ℕ) → within k k n ≡ eqb n k
+pub one-is : (k n : ℕ) → within k k n ≡ eqb n k
 one-is k n = elim (ℕ-discrete n k) [
   | yes e ↦ in-range k k n (omega arith) (omega arith) ∙ sym (eq-eqb n k e)
   | no e ↦ elim (decLe n k) [

@@ -2,3 +2,4 @@
 mod Rule
 pub mod Sizes
 pub mod Ends
+mod Barred

@@ -40,7 +40,7 @@ rightForm o f n =
 unfoldable pub right : ℕ → ℕ → Bool
 right o x = rightForm o (x / 16) (x % 16)
 
-agree-is : (a b : Bool) → T (agree a b) → a ≡ b
+pub agree-is : (a b : Bool) → T (agree a b) → a ≡ b
 agree-is true b h = sym (is-true b h)
 agree-is false b h = sym (not-true b (is-true (not b) h))
 
@@ -107,7 +107,7 @@ module _ (o f n : ℕ) where
         head = head-is tests;
       }
 
-at-getD : (xs : List ℕ) (k : ℕ) → k < length xs → at xs k ≡ some (getD xs k 0)
+pub at-getD : (xs : List ℕ) (k : ℕ) → k < length xs → at xs k ≡ some (getD xs k 0)
 at-getD [] k h = absurd (omega arith)
 at-getD (x ∷ xs) zero h = refl
 at-getD (x ∷ xs) (suc k) h = at-getD xs k (omega arith)

@@ -1,4 +1,5 @@
--- What the entries of the table of instruction lengths say, and that an instruction is there whole. Assumes nothing.
+-- What the entries of the table of instruction lengths and the set of barred opcodes say, and that an instruction is there whole.
+-- Assumes nothing.
 --
 -- an entry is 16 times its form, plus its size
 -- form      == what the opcode does: 0 neither calls nor branches, 1 calls, 2 branches by an s1, 3 by an s2, 4 to 7 as the switches 73 to 76
@@ -6,6 +7,7 @@
 -- told f n  == how form and size tell an instruction's length
 -- Says      == form and size are an opcode's
 -- TableIs t == t is the table of the 256 opcodes
+-- BarredIs s == s is the set of the barred opcodes
 -- nonzero n == a number that is none where it is 0
 -- Whole     == an instruction is there whole
 use Prim.Native.Nat.{ℕ, zero, suc, _/_, _%_, _<_, _≤_}
@@ -16,6 +18,8 @@ use lib.Dec.{T, leb, ltb, eqb}
 use lib.ListN.{getD}
 use Rattle.rules.specs.Bytes.{Bytes, pick, isSome}
 use Rattle.rules.specs.Code.{Switch, switch73, switch74, switch75, switch76, Length, byOpcode, bySwitch, undefined, lengthOf, instructionLength, among}
+use Rattle.rules.specs.Subset.{barredOpcode}
+use Rattle.bits.specs.Bits.{bitAt}
 
 -- the switch of a form from 4 to 7
 unfoldable pub switchOf : ℕ → Switch
@@ -42,6 +46,10 @@ pub record Says (opcode form size : ℕ) : Type 0 where
 -- each opcode's entry says what document 01 does
 pub record TableIs (t : List ℕ) : Type 0 where
   pub says : (o : ℕ) → o < 256 → Says o (getD t o 0 / 16) (getD t o 0 % 16)
+
+-- the bit of each opcode says whether document 02 bars it
+pub record BarredIs (set : List ℕ) : Type 0 where
+  pub says : (o : ℕ) → o < 256 → bitAt set o ≡ barredOpcode o
 
 -- a number that is none where it is 0
 abbrev pub nonzero : ℕ → Option ℕ

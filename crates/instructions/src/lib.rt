@@ -1,5 +1,6 @@
-// Instructions: the table of their lengths, the entries of switches, and the opcodes that may come last.
+// Instructions: the table of their lengths, the entries of switches, the opcodes that may come last, and the subset without int.
 mod lengths;
+pub mod subset;
 
 use fields::u2_at;
 use fields::u4_at;

@@ -2,7 +2,7 @@
 use Prim.Native.Nat.{ℕ, _+_, _<_}
 use native.Mathlib.Omega.{arith}
 use mathlib.Core.Path.{_≡_, refl, sym, _∙_, ap, subst}
-use mathlib.Core.Bool.{Bool, true, false}
+use mathlib.Core.Bool.{Bool, true, false, _||_, not}
 use mathlib.Core.List.{List, [], _∷_}
 use mathlib.Core.Option.{Option, none, some}
 use lib.Dec.{T}
@@ -11,7 +11,7 @@ use Rattle.rules.specs.Bytes.{Bytes, Aid, aidLength, aid}
 use Rattle.rules.specs.Package.{Limits, Package, readFile}
 use Rattle.rules.specs.Store.{Entry, domain, loaded, storeLimits, storeOpening, firstEntry}
 use Rattle.rules.specs.Classes.{Installed, installed}
-use Rattle.rules.specs.Questions.{q3-lengths, q5-created, q10-marked, q11-reads, q12-new, q13-imports, q14-parents}
+use Rattle.rules.specs.Questions.{q3-lengths, q5-created, q10-marked, q11-reads, q12-new, q13-imports, q14-parents, allCodes, q26-subset}
 use Rattle.rules.specs.Operations.{firstNo, packageQuestions, loadQuestions, deepest, deepestOf, isDomain}
 use Rattle.rules.proofs.Tests.{is-true, of-true, same-eq}
 use Rattle.reader.specs.Answers.{PackageRead}
@@ -26,13 +26,14 @@ use Rattle.homes.proofs.Domains.{created-domain}
 use Rattle.depths.specs.Depths.{ParentedIs}
 use Rattle.depths.specs.declared.Parented.the-variants as parented
 use Rattle.store.specs.Entries.{EntryAt}
-use Rattle.store.specs.Answers.{spot, SpotAt}
+use Rattle.store.specs.Answers.{spot, SpotAt, SubsetSays}
 use Rattle.store.specs.Sound.{Over, OverSome}
 use Rattle.store.specs.declared.Spot.{Spot}
 use Rattle.store.specs.declared.Spot.the-variants.{At}
 use Rattle.store.proofs.Walk.{FoundAt, found-at}
 use Rattle.store.proofs.Sound.{one-length}
-use Rattle.judge.specs.Says.{FileRead, Asked14, asks, from, AnswerIs, Asked14Some, NumberFrom, NumberBefore, fileAsks, ParentsSay, ParentsAnswer, InsideAnswer, FileSays, LoadSays}
+use Rattle.rules.specs.Subset.{codeWithoutInt}
+use Rattle.judge.specs.Says.{FileRead, Asked14, asks, from, AnswerIs, Asked14Some, NumberFrom, NumberBefore, fileAsks, ParentsSay, ParentsAnswer, InsideAnswer, FileSays, LoadSays, SubsetTold}
 use Rattle.judge.specs.declared.LoadAnswer.{LoadAnswer}
 use Rattle.judge.specs.declared.LoadAnswer.the-variants.{Refused, Accepted}
 use Rattle.judge.proofs.Answers.{number-no, number-yes, answer-yes, answer-refused, answer-accepted}
@@ -225,51 +226,10 @@ module _ (s : Bytes) (end : ℕ) (d : Aid) (f : Bytes) (r : LoadAnswer) (inside 
       pub later-done : n ≡ 0 → FileSays s end d f (Accepted depth)
       later-done = file-done s end d f (Accepted depth) (both .0) depth refl n (both .1 n number)
 
--- what the answer of the reader says of questions 10 and 11
-read-10 : (b c : Bool) → 10 ≡ firstNo ((10, b) ∷ (11, c) ∷ []) → b ≡ false
-read-10 false c e = refl
-read-10 true false e = absurd (omega (arith, e))
-read-10 true true e = absurd (omega (arith, e))
-
-read-11 : (b c : Bool) → 11 ≡ firstNo ((10, b) ∷ (11, c) ∷ []) → (b ≡ true) × (c ≡ false)
-read-11 false c e = absurd (omega (arith, e))
-read-11 true false e = (refl, refl)
-read-11 true true e = absurd (omega (arith, e))
-
-read-0 : (b c : Bool) → 0 ≡ firstNo ((10, b) ∷ (11, c) ∷ []) → (b ≡ true) × (c ≡ true)
-read-0 false c e = absurd (omega (arith, e))
-read-0 true false e = absurd (omega (arith, e))
-read-0 true true e = (refl, refl)
-
--- as a package that is read, or none
-reads-none : (o : Option Package) → q11-reads o ≡ false → o ≡ none
-unfolding q11-reads
-reads-none none e = refl
-reads-none (some p) e = let z : _≡_ {A = ℕ} 0 1 = cc in absurd (omega arith)
-
-reads-some : (o : Option Package) → q11-reads o ≡ true → (p : Package) × (o ≡ some p)
-unfolding q11-reads
-reads-some none e = let z : _≡_ {A = ℕ} 0 1 = cc in absurd (omega arith)
-reads-some (some p) e = (p, refl)
-
--- the answers of the reader over the limits of a store
-module _ (s : Bytes) (l : Limits) (e : l ≡ storeLimits s) (f : Bytes) (r : Read) (p : PackageRead l f r) where
-  -- the number of an answer
-  number-said : (x : Read) → r ≡ x → said.numberOf x ≡ firstNo ((10, q10-marked f) ∷ (11, q11-reads (readFile l f)) ∷ [])
-  number-said x q = ap said.numberOf (sym q) ∙ p .number
-
-  pub said-10 : r ≡ reads.Unmarked → q10-marked f ≡ false
-  said-10 q = read-10 (q10-marked f) (q11-reads (readFile l f)) (number-said reads.Unmarked q)
-
-  pub said-11 : r ≡ reads.Unreadable → (q10-marked f ≡ true) × (readFile (storeLimits s) f ≡ none)
-  said-11 q =
-      let x = read-11 (q10-marked f) (q11-reads (readFile l f)) (number-said reads.Unreadable q) in
-      (x .0, reads-none (readFile (storeLimits s) f) (ap (λ (m : Limits). q11-reads (readFile m f)) (sym e) ∙ x .1))
-
-  pub said-0 : (t : Places) → r ≡ reads.Package t → (q10-marked f ≡ true) × ((p : Package) × (readFile (storeLimits s) f ≡ some p))
-  said-0 t q =
-      let x = read-0 (q10-marked f) (q11-reads (readFile l f)) (number-said (reads.Package t) q) in
-      (x .0, reads-some (readFile (storeLimits s) f) (ap (λ (m : Limits). q11-reads (readFile m f)) (sym e) ∙ x .1))
+-- 26 is asked where the domain is of kind 3
+pub kind-asked : (s : Bytes) (end : ℕ) (d f : Bytes) (b : Bool) → SubsetSays s end d b → SubsetTold s end d f b
+unfolding q26-subset
+kind-asked s end d f b h es o p e = ap (λ (x : Bool). not x || allCodes codeWithoutInt p) (h es (o .stand))
 
 -- the place of the loading domain's AID, by that of its entry
 pub domain-place : (s : Bytes) (end : ℕ) (a : Aid) (r : Spot) (i j : ℕ) → SpotAt (isDomain a) s end r → r ≡ At i j → OverSome s end →
@@ -280,7 +240,7 @@ domain-place s end a r i j h e o l = go (x .one) (x .stands) (of-true (x .found)
     x = found-at (isDomain a) s (firstEntry s) (o .0) end i j (o .1 .stand) (sym (h (o .0) (o .1 .stand)) ∙ ap spot e)
 
     go : (y : Entry) → EntryAt s i y j → T (isDomain a y) → Ends aid s (i + 2) × (a ≡ aidAt s (i + 2))
-    go (domain b) t q =
+    go (domain k b) t q =
         let same : a ≡ b = same-eq a b q in
-        created-domain s i a j (subst (λ (z : Aid). EntryAt s i (domain z) j) (sym same) t) (of-true (one-length a ∙ l))
+        created-domain s i a j (subst (λ (z : Aid). EntryAt s i (domain k z) j) (sym same) t) (of-true (one-length a ∙ l))
     go (loaded d f) t q = absurd q

@@ -4,18 +4,19 @@ use native.Mathlib.Omega.{arith}
 use mathlib.Core.Path.{_≡_, refl, sym, _∙_, ap, subst, subst⁻¹}
 use mathlib.Core.Bool.{Bool, true, false, _&&_}
 use mathlib.Core.List.{List, [], _∷_, _++_, append-assoc}
+use mathlib.Core.Option.{some}
 use lib.Dec.{T, eqb, leb, leb→le}
 use lib.ListN.{length, length-append}
 use borrow.Author.Tests.{le-leb, eq-eqb, ne-eqb}
 use Rattle.rules.specs.Bytes.{Bytes, Aid}
-use Rattle.rules.specs.Package.{Package}
-use Rattle.rules.specs.Store.{Entry, domain, loaded, entryBytes, used, firstEntry, storeLimits, storeOpening}
+use Rattle.rules.specs.Package.{Package, readFile}
+use Rattle.rules.specs.Store.{DomainKind, Entry, domain, loaded, entryBytes, used, firstEntry, storeLimits, storeOpening}
 use Rattle.rules.specs.Classes.{installed}
-use Rattle.rules.specs.Questions.{q3-lengths, q4-new, q5-created, q12-new, q21-fits}
+use Rattle.rules.specs.Questions.{q3-lengths, q4-new, q5-created, q12-new, q26-subset, q21-fits}
 use Rattle.rules.specs.Operations.{firstNo, createQuestions, accepted, acceptedAll, soundEntries}
 use Rattle.rules.proofs.Tests.{and-i, and-l, is-true, of-true}
 use Rattle.rules.proofs.Step.{accepted-append}
-use Rattle.store.specs.Entries.{part, EntryAt, Entries, StandFrom, FilesStand, FirstIs}
+use Rattle.store.specs.Entries.{part, kindAt, EntryAt, Entries, StandFrom, FilesStand, FirstIs}
 use Rattle.store.specs.Answers.{PartAt}
 use Rattle.store.specs.Sound.{Over, OverSome}
 use Rattle.store.specs.declared.EntryPart.the-variants as parts
@@ -87,13 +88,13 @@ module _ (s : Bytes) (end at : ℕ) (es : List Entry) (g : Reached s end at es) 
   going-done e = whole ∙ ap (acceptedAll (storeOpening s) (length s) (g .pre)) e
 
 -- a domain that questions 3 and 4 pass is accepted: it stands there, so it fits
-domain-accepted : (s : Bytes) (at j : ℕ) (a : Aid) (pre : List Entry) → Over s at pre → EntryAt s at (domain a) j → DomainYes pre (domain a) →
-    accepted (storeOpening s) (length s) pre (domain a) ≡ true
+domain-accepted : (s : Bytes) (at j : ℕ) (k : DomainKind) (a : Aid) (pre : List Entry) → Over s at pre → EntryAt s at (domain k a) j →
+    DomainYes (storeLimits s) pre (domain k a) → accepted (storeOpening s) (length s) pre (domain k a) ≡ true
 unfolding createQuestions q21-fits
-domain-accepted s at j a pre o t y =
-    let n = entry-next s at (domain a) j t in
+domain-accepted s at j k a pre o t y =
+    let n = entry-next s at (domain k a) j t in
     let u : used (storeOpening s) pre ≡ at = over-used s at pre o in
-    let m : ℕ = used (storeOpening s) pre + length (entryBytes (domain a)) in
+    let m : ℕ = used (storeOpening s) pre + length (entryBytes (domain k a)) in
     let fits : leb m (length s) ≡ true = le-leb m (length s) (omega (arith, u, n, t .to)) in
     rw (is-true (q3-lengths (a ∷ [])) (y .0), is-true (q4-new pre a) (y .1), fits)
 
@@ -151,9 +152,9 @@ indexed s at index o i = record { files = files-stand s at o; is = i }
 -- a refusal of 10 to 19 as a number from 10 on
 pub first-number : (s : Bytes) (end : ℕ) (d f : Bytes) (r : LoadAnswer) (n : ℕ) → InsideAnswer s end d f r → r ≡ Refused n → OverSome s end →
     (n ≡ 0 → ⊥) × ((es : List Entry) → Over s end es → n ≡ firstNo (fileAsks s es d f))
-first-number s end d f r n first e some =
+first-number s end d f r n first e over =
     let x = inside-number s end d f r first n e in
-    (λ z. omega (arith, (x (some .0) (some .1)) .0, z), λ es o. (x es o) .1)
+    (λ z. omega (arith, (x (over .0) (over .1)) .0, z), λ es o. (x es o) .1)
 
 -- a turn at a domain and at a package
 module _ (s : Bytes) (end at : ℕ) (g : Going s end at) where
@@ -173,10 +174,10 @@ module _ (s : Bytes) (end at : ℕ) (g : Going s end at) where
     pub domain-in : StandFrom s (firstEntry s) end → (at < j) × (j ≤ end)
     domain-in t =
         let r = g (t .0) (t .1) in
-        let b = first-in (domain (part s a j)) j (r .rest) ((p (r .rest) (r .behind)) .1) in
+        let b = first-in (domain (kindAt s at) (part s a j)) j (r .rest) ((p (r .rest) (r .behind)) .1) in
         (b .1, b .2)
 
-    pub domain-entry : StandFrom s (firstEntry s) end → EntryAt s at (domain (part s a j)) j
+    pub domain-entry : StandFrom s (firstEntry s) end → EntryAt s at (domain (kindAt s at) (part s a j)) j
     domain-entry t = let r = g (t .0) (t .1) in (p (r .rest) (r .behind)) .1 .stands
 
     pub domain-on : DomainsYes s end → Going s end j
@@ -184,8 +185,8 @@ module _ (s : Bytes) (end at : ℕ) (g : Going s end at) where
         let r = g es t in
         let q = (p (r .rest) (r .behind)) .1 in
         let are = r .are ∙ ap (λ (zs : List Entry). r .pre ++ zs) (q .are) in
-        let yes = y es (r .pre) (q .rest) (domain (part s a j)) t are in
-        going-on s end at es r (domain (part s a j)) j q (domain-accepted s at j (part s a j) (r .pre) (r .over) (q .stands) yes)
+        let yes = y es (r .pre) (q .rest) (domain (kindAt s at) (part s a j)) t are in
+        going-on s end at es r (domain (kindAt s at) (part s a j)) j q (domain-accepted s at j (kindAt s at) (part s a j) (r .pre) (r .over) (q .stands) yes)
 
   module _ (a m j : ℕ) (p : PartAt s at end (parts.Package a m j)) where
     pub package-in : StandFrom s (firstEntry s) end → (at < j) × (j ≤ end)
@@ -194,16 +195,22 @@ module _ (s : Bytes) (end at : ℕ) (g : Going s end at) where
         let b = first-in (loaded (part s a m) (part s m j)) j (r .rest) ((p (r .rest) (r .behind)) .2) in
         (b .1, b .2)
 
-    -- questions 3 and 5 were answered yes
-    package-domain : DomainsYes s end → StandFrom s (firstEntry s) end → (pre : List Entry) → Over s at pre →
-        (q3-lengths (part s a m ∷ []) ≡ true) × (q5-created pre (part s a m) ≡ true)
+    -- questions 3, 5 and 26 were answered yes, of a package of the domain z
+    abbrev Known : Aid → List Entry → Type 0
+    Known z pre = (q3-lengths (z ∷ []) ≡ true) × (q5-created pre z ≡ true)
+        × ((x : Package) → readFile (storeLimits s) (part s m j) ≡ some x → q26-subset pre z x ≡ true)
+
+    package-domain : DomainsYes s end → StandFrom s (firstEntry s) end → (pre : List Entry) → Over s at pre → Known (part s a m) pre
     package-domain y t pre o =
         let r = g (t .0) (t .1) in
         let q = (p (r .rest) (r .behind)) .2 in
         let are = r .are ∙ ap (λ (zs : List Entry). r .pre ++ zs) (q .are) in
         let yes = y (t .0) (r .pre) (q .rest) (loaded (part s a m) (part s m j)) (t .1) are in
-        let same : r .pre ≡ pre = entries-one s (firstEntry s) (r .pre) pre at (r .over .stand) (o .stand) in
-        (is-true _ (yes .0), is-true _ (subst (λ (zs : List Entry). T (q5-created zs (part s a m))) same (yes .1)))
+        let same : r .pre ≡ pre = entries-one s (firstEntry s) (r .pre) pre at (r .over .stand) (o .stand) in (
+          is-true _ (yes .0),
+          is-true _ (subst (λ (zs : List Entry). T (q5-created zs (part s a m))) same (yes .1)),
+          λ x e. is-true _ (subst (λ (zs : List Entry). T (q26-subset zs (part s a m) x)) same (yes .2 x e)),
+        )
 
     -- its places
     abbrev places : PackageEntry
@@ -232,8 +239,7 @@ module _ (s : Bytes) (end at : ℕ) (g : Going s end at) where
           domain = entry-there s at (part s a m) (part s m j) j (q .2 .stands) (of-true three);
           file = q .1;
           inside = omega (arith, n, l, d, f, q .0, q .1);
-          known = subst (λ (z : Aid). (pre : List Entry) → Over s at pre → (q3-lengths (z ∷ []) ≡ true) × (q5-created pre z ≡ true)) named
-              (package-domain y t);
+          known = subst (λ (z : Aid). (pre : List Entry) → Over s at pre → Known z pre) named (package-domain y t);
         }
 
     -- what is said of the entry by its places is said of it

@@ -1,16 +1,18 @@
 -- A load's questions from 12 on: each stage from the answers of its questions. Assumes nothing.
 use Prim.Native.Nat.{ℕ, _≤_, _<_}
 use native.Mathlib.Omega.{arith}
-use mathlib.Core.Path.{_≡_, refl, sym, _∙_, ap}
-use mathlib.Core.Bool.{Bool, true, false}
+use mathlib.Core.Path.{_≡_, refl, sym, _∙_, ap, subst}
+use mathlib.Core.Bool.{Bool, true, false, _||_, not}
 use mathlib.Core.List.{List, [], _∷_}
 use mathlib.Core.Option.{some}
+use lib.Dec.{T, eqb}
 use lib.ListN.{length}
+use borrow.Author.Tests.{eq-eqb, ne-eqb, eqb-true}
 use Rattle.rules.specs.Bytes.{Bytes, Aid, pick, aid}
 use Rattle.rules.specs.Package.{Limits, Package, readFile}
 use Rattle.rules.specs.Store.{Entry, loaded, storeLimits, storeOpening, firstEntry}
 use Rattle.rules.specs.Classes.{Installed, installed}
-use Rattle.rules.specs.Questions.{q15-names, q16-splits, q17-targets, q24-handlers, q18-calls, q19-allowed, q20-running, q21-fits}
+use Rattle.rules.specs.Questions.{q15-names, q16-splits, q17-targets, q24-handlers, q26-subset, q18-calls, q19-allowed, q20-running, q21-fits}
 use Rattle.rules.specs.Operations.{Question, firstNo, packageQuestions}
 use Rattle.rules.proofs.Asked.{parents-yes}
 use Rattle.store.specs.Answers.{Fits}
@@ -29,7 +31,7 @@ use Rattle.calls.specs.Calls.{CodesSplit, CallsNumberIs}
 use Rattle.rules.proofs.Tests.{of-true}
 use Rattle.named.specs.Named.{Judged}
 use Rattle.running.specs.Say.{JudgedThere, RunningIs}
-use Rattle.judge.specs.Says.{usedAt, FileRead, Asked14, ReadSome, Asked14Some, NumberFrom, NumberBefore, from, asks}
+use Rattle.judge.specs.Says.{usedAt, FileRead, Asked14, ReadSome, Asked14Some, NumberFrom, NumberBefore, SubsetIs, SubsetTold, from, asks}
 use Rattle.judge.proofs.Answers.{number-no, number-yes, joined-no, joined-yes}
 
 module _ (s : Bytes) (end : ℕ) (d : Aid) (f : Bytes) where
@@ -128,40 +130,77 @@ module _ (s : Bytes) (end : ℕ) (d : Aid) (f : Bytes) where
     unfolding packageQuestions
     number-16 z y es p a =
         let e = of-file es p a in
-        behind-15 es p a c (e ∙ sym (codes.number-no p (from 18 (asks s es d f p)) (λ x. z (e ∙ x)) (λ x. y (e ∙ x))))
+        behind-15 es p a c (e ∙ sym (codes.number-no p (from 26 (asks s es d f p)) (λ x. z (e ∙ x)) (λ x. y (e ∙ x))))
 
-    -- 16, 17 and 24 answered yes
-    behind-codes : (es : List Entry) (p : Package) → Asked14 s end d f es p → q16-splits p ≡ true → q17-targets p ≡ true → q24-handlers p ≡ true →
-        (r : ℕ) → r ≡ firstNo (from 18 (asks s es d f p)) → r ≡ firstNo (from 15 (asks s es d f p))
-    unfolding packageQuestions
-    behind-codes es p a x y z r h =
-        let from-24 = number-yes 24 (q24-handlers p) (from 18 (asks s es d f p)) r z h in
-        let from-17 = number-yes 17 (q17-targets p) (from 24 (asks s es d f p)) r y from-24 in
-        behind-15 es p a r (number-yes 16 (q16-splits p) (from 17 (asks s es d f p)) r x from-17)
+    -- a number that is neither 0 nor 18
+    pub codes-before : not (eqb c 0 || eqb c 18) ≡ true → NumberBefore 15 20 s end d f c
+    codes-before h = ((λ z. number-16 z (λ y. taken (eqb c 0) (eqb c 18) (eq-eqb c 18 y) h)), (λ z. absurd (first (eqb c 0) (eqb c 18) (eq-eqb c 0 z) h)))
+      where
+        taken : (a b : Bool) → b ≡ true → not (a || b) ≡ true → ⊥
+        taken true b e h = subst T (sym h) tt
+        taken false true e h = subst T (sym h) tt
+        taken false false e h = subst T (sym e) tt
 
-    -- none of them: 18 and 19 are to be asked
-    behind-24 : c ≡ 18 → (r : ℕ) → NumberFrom 18 s end d f r → NumberFrom 15 s end d f r
-    behind-24 e r n es p a =
-        let x = codes.number-18 p (sym (of-file es p a) ∙ e) in
-        behind-codes es p a (x .0) (x .1) (x .2) r (n es p a)
+        first : (a b : Bool) → a ≡ true → not (a || b) ≡ true → ⊥
+        first true b e h = subst T (sym h) tt
+        first false b e h = subst T (sym e) tt
 
-    -- none, and there are no calls: 18 and 19 are answered yes
-    without-calls : c ≡ 0 → (r : ℕ) → NumberFrom 20 s end d f r → NumberFrom 15 s end d f r
-    unfolding packageQuestions
-    without-calls e r n es p a =
-        let x = codes.number-0 p (sym (of-file es p a) ∙ e) in
-        let is = installed (storeLimits s) es in
-        let from-19 = number-yes 19 (q19-allowed is (selfOf p)) (from 20 (asks s es d f p)) r (codes.quiet-19 is (selfOf p) (x .3)) (n es p a) in
-        let from-18 = number-yes 18 (q18-calls is (selfOf p)) (from 19 (asks s es d f p)) r (codes.quiet-18 is (selfOf p) (x .3)) from-19 in
-        behind-codes es p a (x .0) (x .1) (x .2) r from-18
+    -- 0 or 18: 16, 17 and 24 are answered yes
+    module _ (ok : (eqb c 0 || eqb c 18) ≡ true) where
+      passed : (es : List Entry) (p : Package) → Asked14 s end d f es p → (q16-splits p ≡ true) × (q17-targets p ≡ true) × (q24-handlers p ≡ true)
+      passed es p a = go (eqb c 0) (eqb c 18) refl refl ok
+        where
+          go : (x y : Bool) → eqb c 0 ≡ x → eqb c 18 ≡ y → (x || y) ≡ true → (q16-splits p ≡ true) × (q17-targets p ≡ true) × (q24-handlers p ≡ true)
+          go true y e g h = let z = codes.number-0 p (sym (of-file es p a) ∙ eqb-true c 0 e) in (z .0, z .1, z .2)
+          go false true e g h = codes.number-18 p (sym (of-file es p a) ∙ eqb-true c 18 g)
+          go false false e g h = absurd (subst T (sym h) tt)
 
-    -- 16, 17 or 24, or no calls
-    pub codes-before : (c ≡ 18 → ⊥) → NumberBefore 15 20 s end d f c
-    codes-before y = ((λ z. number-16 z y), without-calls)
+      -- and 18 where it is not 0
+      pub is-18 : (c ≡ 0 → ⊥) → c ≡ 18
+      is-18 z = eqb-true c 18 (sym (ap (λ (x : Bool). x || eqb c 18) (ne-eqb c 0 z)) ∙ ok)
 
-    -- 18 and 19 behind them
-    pub calls-behind : c ≡ 18 → (r : ℕ) → NumberBefore 18 20 s end d f r → NumberBefore 15 20 s end d f r
-    calls-behind e r b = ((λ z. behind-24 e r (b .0 z)), (λ z n from-20. behind-24 e n (b .1 z n from-20)))
+      behind-24 : (es : List Entry) (p : Package) → Asked14 s end d f es p → (r : ℕ) → r ≡ firstNo (from 26 (asks s es d f p)) →
+          r ≡ firstNo (from 15 (asks s es d f p))
+      unfolding packageQuestions
+      behind-24 es p a r h =
+          let x = passed es p a in
+          let from-24 = number-yes 24 (q24-handlers p) (from 26 (asks s es d f p)) r (x .2) h in
+          let from-17 = number-yes 17 (q17-targets p) (from 24 (asks s es d f p)) r (x .1) from-24 in
+          behind-15 es p a r (number-yes 16 (q16-splits p) (from 17 (asks s es d f p)) r (x .0) from-17)
+
+      -- 26, as it was asked
+      module _ (x kept : Bool) (is : SubsetIs f x kept) (told : SubsetTold s end d f x) where
+        subset-is : (es : List Entry) (p : Package) → Asked14 s end d f es p → q26-subset es d p ≡ kept
+        subset-is es p a = sym (told es (a .read .over) p (a .read .reads)) ∙ sym (is (storeLimits s) p (a .read .reads))
+
+        number-26 : kept ≡ false → NumberFrom 15 s end d f 26
+        unfolding packageQuestions
+        number-26 e es p a = behind-24 es p a 26 (number-no 26 (q26-subset es d p) (from 18 (asks s es d f p)) (subset-is es p a ∙ e))
+
+        pub subset-before : kept ≡ false → NumberBefore 15 20 s end d f 26
+        subset-before e = ((λ z. number-26 e), (λ z. absurd (omega (arith, z))))
+
+        module _ (e : kept ≡ true) where
+          behind-26 : (r : ℕ) → NumberFrom 18 s end d f r → NumberFrom 15 s end d f r
+          unfolding packageQuestions
+          behind-26 r n es p a =
+              behind-24 es p a r (number-yes 26 (q26-subset es d p) (from 18 (asks s es d f p)) r (subset-is es p a ∙ e) (n es p a))
+
+          -- there are no calls: 18 and 19 are answered yes
+          without-calls : c ≡ 0 → (r : ℕ) → NumberFrom 20 s end d f r → NumberFrom 18 s end d f r
+          unfolding packageQuestions
+          without-calls z r n es p a =
+              let quiet = codes.number-0 p (sym (of-file es p a) ∙ z) .3 in
+              let is = installed (storeLimits s) es in
+              let from-19 = number-yes 19 (q19-allowed is (selfOf p)) (from 20 (asks s es d f p)) r (codes.quiet-19 is (selfOf p) quiet) (n es p a) in
+              number-yes 18 (q18-calls is (selfOf p)) (from 19 (asks s es d f p)) r (codes.quiet-18 is (selfOf p) quiet) from-19
+
+          pub quiet-before : c ≡ 0 → NumberBefore 15 20 s end d f 0
+          quiet-before z = ((λ y. absurd (y refl)), (λ y r n. behind-26 r (without-calls z r n)))
+
+          -- 18 and 19 behind them
+          pub calls-behind : (r : ℕ) → NumberBefore 18 20 s end d f r → NumberBefore 15 20 s end d f r
+          calls-behind r b = ((λ z. behind-26 r (b .0 z)), (λ z n from-20. behind-26 n (b .1 z n from-20)))
 
     -- every code splits
     pub codes-split : Asked14Some s end d f → c ≡ 18 → CodesSplit f

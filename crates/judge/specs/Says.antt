@@ -10,26 +10,30 @@
 -- NumberBefore k m ..       == the same, of the questions from k on that stand before m: 0 where they are answered yes
 -- fileAsks s es d f         == a load's questions from 10 on
 -- ParentsAnswer s end f r   == questions 10 to 14 of a file; ParentsTold == what is found with a yes
+-- DomainTold s end f x      == x tells where the AID of the loading domain stands, and whether 26 is asked of the file f
+-- SubsetTold s end d f b    == 26 of the file f, where b says that it is asked, is the load's
+-- SubsetIs f b r            == r is the answer to 26 of the file f, where b says that it is asked
 -- InsideAnswer s end d f r  == questions 10 to 19 of a file; DepthsTold == what is found with a yes
 -- FileSays, LoadSays        == a load's answer from 10 on, and whole
--- DomainYes pre e           == question 3, and 4 or 5, of an entry behind others
+-- DomainYes l pre e         == question 3, and 4 or 5, of an entry behind others, and 26 of a package
 -- DomainsYes s end          == of every entry of those that end at a place
--- PackageThere s x          == the entry of a package stands at places, and questions 3 and 5 of it are answered yes
+-- PackageThere s x          == the entry of a package stands at places, and questions 3, 5 and 26 of it are answered yes
 -- PackagesSay s end r       == whether all these entries are accepted
 use Prim.Native.Nat.{ℕ, _+_, _<_, _≤_}
 use mathlib.Core.Path.{_≡_}
-use mathlib.Core.Bool.{Bool, true}
+use mathlib.Core.Bool.{Bool, true, _||_, not}
 use mathlib.Core.List.{List, [], _∷_, _++_}
 use mathlib.Core.Option.{some}
 use lib.Dec.{T, eqb}
 use lib.ListN.{length}
 use Rattle.rules.specs.Bytes.{Bytes, Aid, pick, aid}
-use Rattle.rules.specs.Package.{Package, readFile}
+use Rattle.rules.specs.Subset.{codeWithoutInt}
+use Rattle.rules.specs.Package.{Limits, Package, readFile}
 use Rattle.rules.specs.Store.{Entry, domain, loaded, firstEntry, storeLimits, storeOpening}
 use Rattle.rules.specs.Classes.{installed}
 use Rattle.rules.specs.Operations.{Question, firstNo, packageQuestions, loadQuestions, accepted, soundEntries, deepest, deepestOf}
 use Rattle.rules.specs.Code.{u2At}
-use Rattle.rules.specs.Questions.{q3-lengths, q4-new, q5-created, q10-marked, q12-new, q13-imports, q14-parents}
+use Rattle.rules.specs.Questions.{q3-lengths, q4-new, q5-created, q10-marked, q12-new, q13-imports, q14-parents, allCodes, q26-subset}
 use Rattle.store.specs.Entries.{part, EntryAt, Entries}
 use Rattle.store.specs.Sound.{Over}
 use Rattle.places.specs.Reads.{Ends}
@@ -41,6 +45,7 @@ use Rattle.depths.specs.Depths.{OwnDepths, DepthsFit, depthWidth}
 use Rattle.judge.specs.declared.LoadAnswer.{LoadAnswer}
 use Rattle.judge.specs.declared.LoadAnswer.the-variants.{Refused, Accepted}
 use Rattle.judge.specs.declared.PackageEntry.{PackageEntry}
+use Rattle.judge.specs.declared.LoadingDomain.{LoadingDomain}
 
 -- the used field of a store
 abbrev pub usedAt : Bytes → ℕ
@@ -119,6 +124,20 @@ abbrev pub ParentsTold : Bytes → ℕ → Bytes → List ℕ → List ℕ → L
 ParentsTold s end f homes own (Refused n) = Unit {0}
 ParentsTold s end f homes own (Accepted depth) = ImportHomes f s end homes × OwnDepths f s end own × DepthsFit (depthWidth s) f own
 
+-- 26 of the file that d loads, where b says that it is asked, is the load's: it is not asked only where it is known to be yes
+abbrev pub SubsetTold : Bytes → ℕ → Aid → Bytes → Bool → Type 0
+SubsetTold s end d f b = (es : List Entry) → Over s end es → (p : Package) → readFile (storeLimits s) f ≡ some p →
+    (not b || allCodes codeWithoutInt p) ≡ q26-subset es d p
+
+-- where the AID of a domain stands, and whether 26 is asked
+pub record DomainTold (s : Bytes) (end : ℕ) (f : Bytes) (x : LoadingDomain) : Type 0 where
+  pub there : Ends aid s (x .aid)
+  pub asked : SubsetTold s end (aidAt s (x .aid)) f (x .subset)
+
+-- 26 of whatever package the file reads as, where it is asked
+abbrev pub SubsetIs : Bytes → Bool → Bool → Type 0
+SubsetIs f b r = (l : Limits) (p : Package) → readFile l f ≡ some p → r ≡ (not b || allCodes codeWithoutInt p)
+
 -- questions 10 to 19 of a file that d loads: the number of the first no, or what 10 to 14 say, and that the number from 20 on is the one from 15 on
 abbrev pub InsideAnswer : Bytes → ℕ → Aid → Bytes → LoadAnswer → Type 0
 InsideAnswer s end d f (Refused n) = (es : List Entry) → Over s end es → (0 < n) × (n ≡ firstNo (fileAsks s es d f))
@@ -137,14 +156,14 @@ abbrev pub LoadSays : Bytes → ℕ → Aid → Bytes → LoadAnswer → Type 0
 LoadSays s end d f r = (es : List Entry) → Over s end es →
     AnswerIs (loadQuestions (storeOpening s) (length s) es d f) (deepestOf (storeLimits s) es d (readFile (storeLimits s) f)) r
 
--- 3 and 4 of a domain behind these entries, 3 and 5 of a package's
-abbrev pub DomainYes : List Entry → Entry → Type 0
-DomainYes pre (domain a) = T (q3-lengths (a ∷ [])) × T (q4-new pre a)
-DomainYes pre (loaded d f) = T (q3-lengths (d ∷ [])) × T (q5-created pre d)
+-- 3 and 4 of a domain behind these entries, 3 and 5 of a package's, and 26 of a package
+abbrev pub DomainYes : Limits → List Entry → Entry → Type 0
+DomainYes l pre (domain k a) = T (q3-lengths (a ∷ [])) × T (q4-new pre a)
+DomainYes l pre (loaded d f) = T (q3-lengths (d ∷ [])) × T (q5-created pre d) × ((p : Package) → readFile l f ≡ some p → T (q26-subset pre d p))
 
 -- of every entry of those that end at a place
 abbrev pub DomainsYes : Bytes → ℕ → Type 0
-DomainsYes s end = (es pre post : List Entry) (e : Entry) → Entries s (firstEntry s) es end → es ≡ pre ++ e ∷ post → DomainYes pre e
+DomainsYes s end = (es pre post : List Entry) (e : Entry) → Entries s (firstEntry s) es end → es ≡ pre ++ e ∷ post → DomainYes (storeLimits s) pre e
 
 -- whether an entry would have been accepted over those that end at a place
 abbrev pub EntrySays : Bytes → ℕ → Entry → Bool → Type 0
@@ -154,13 +173,14 @@ EntrySays s at e r = (es : List Entry) → Over s at es → r ≡ accepted (stor
 abbrev pub entryOf : Bytes → PackageEntry → Entry
 entryOf s x = loaded (aidAt s (x .at + 3)) (part s (x .file) (x .next))
 
--- it stands there, and questions 3 and 5 of it are answered yes
+-- it stands there, and questions 3, 5 and 26 of it are answered yes
 pub record PackageThere (s : Bytes) (x : PackageEntry) : Type 0 where
   pub stands : EntryAt s (x .at) (entryOf s x) (x .next)
   pub domain : Ends aid s (x .at + 3)
   pub file : x .file ≤ x .next
   pub inside : x .at < x .file
   pub known : (pre : List Entry) → Over s (x .at) pre → (q3-lengths (aidAt s (x .at + 3) ∷ []) ≡ true) × (q5-created pre (aidAt s (x .at + 3)) ≡ true)
+      × ((p : Package) → readFile (storeLimits s) (part s (x .file) (x .next)) ≡ some p → q26-subset pre (aidAt s (x .at + 3)) p ≡ true)
 
 -- whether each entry up to a place would have been accepted
 abbrev pub PackagesSay : Bytes → ℕ → Bool → Type 0

@@ -4,13 +4,16 @@
 use depths::Bounds;
 use depths::Parented;
 use fields::u2_at;
+use file_codes::subset::file_keeps;
 use reader::Read;
 use store::EntryPart;
 use store::Spot;
 use store::openings;
+use store::subset::keeps_subset;
 ghost use mathlib.Core.Path.{_≡_};
-ghost use mathlib.Core.Bool.{true};
+ghost use mathlib.Core.Bool.{true, _||_, not};
 ghost use Prim.Native.Nat.{_≤_};
+ghost use lib.Dec.{eqb};
 ghost use lib.ListN.{length};
 ghost use Rattle.rules.specs.Bytes.{aid};
 ghost use Rattle.rules.specs.Package.{mostClasses};
@@ -27,7 +30,7 @@ ghost use Rattle.places.specs.Reads.{Ends};
 ghost use Rattle.homes.specs.Homes.{aidAt};
 ghost use Rattle.homes.specs.Found.{Indexed, ImportHomes};
 ghost use Rattle.depths.specs.Depths.{DepthsKept};
-ghost use Rattle.judge.specs.Says.{usedAt, HasRoom, ReadSome, Asked14Some, NumberFrom, NumberBefore, ParentsAnswer, ParentsTold, InsideAnswer, DepthsTold, FileSays, LoadSays, DomainsYes, entryOf, PackageThere, EntrySays, PackagesSay};
+ghost use Rattle.judge.specs.Says.{usedAt, HasRoom, ReadSome, Asked14Some, NumberFrom, NumberBefore, ParentsAnswer, ParentsTold, DomainTold, SubsetIs, InsideAnswer, DepthsTold, FileSays, LoadSays, DomainsYes, entryOf, PackageThere, EntrySays, PackagesSay};
 
 // A load: the number of the first no, or the depth of the deepest own class.
 pub enum LoadAnswer {
@@ -40,6 +43,13 @@ pub struct PackageEntry {
     pub at: usize,
     pub file: usize,
     pub next: usize,
+}
+
+// The domain that a file is loaded into: where its AID stands behind its length, and whether 26 is asked. It is asked where the domain is
+// of kind 3, and not of a stored package, of which it was asked with 3 and 5.
+pub struct LoadingDomain {
+    pub aid: usize,
+    pub subset: bool,
 }
 
 // Load, from 20 on, of a file that passed 14: the number of the first no, or 0.
@@ -111,26 +121,54 @@ fn codes_number(s: &[u8], file: &[u8]) -> u8
     file_codes::codes_ok(file, &table, &mut starts, &mut targets)
 }
 
-// 15 to 17, 24, 18 and 19 of a file that passed 14: the number of the first no, or 0.
+// Is a number of the codes of a file a refusal: neither 0 nor 18?
+fn is_refusal(n: u8) -> bool
+    ensures { λ r. ⌜ r ≡ not (eqb n 0 || eqb n 18) ⌝ }
+{
+    if n == 0 {
+        return false;
+    }
+    n != 18
+}
+
+// 26 of a file that reads, where it is asked.
+fn subset_ok(file: &[u8], asked: bool) -> bool
+    requires { ⌜ Readable (now file) ⌝ }
+    ensures { λ r. ⌜ SubsetIs (now (file .entry)) asked r ⌝ }
+{
+    if !asked {
+        return true;
+    }
+    let table = instructions::table();
+    file_keeps(file, &table)
+}
+
+// 15 to 17, 24, 26, 18 and 19 of a file that passed 14: the number of the first no, or 0.
 fn inside_number<'a>(
     s: &'a [u8],
     end: usize,
-    domain: usize,
+    domain: LoadingDomain,
     file: &'a [u8],
     homes: &[usize; 48],
 ) -> u32
-    requires { ⌜ Asked14Some (now s) end (aidAt (now s) domain) (now file) × Ends aid (now s) domain ⌝ }
+    requires { ⌜ Asked14Some (now s) end (aidAt (now s) (domain .aid)) (now file) × DomainTold (now s) end (now file) domain ⌝ }
     requires { ⌜ ImportHomes (now file) (now s) end (now homes) × (length (now s) ≤ 65535) ⌝ }
-    ensures { λ r. ⌜ NumberBefore 15 20 (now (s .entry)) end (aidAt (now (s .entry)) domain) (now (file .entry)) r ⌝ }
+    ensures { λ r. ⌜ NumberBefore 15 20 (now (s .entry)) end (aidAt (now (s .entry)) (domain .aid)) (now (file .entry)) r ⌝ }
 {
     if !names::names_ok(file) {
         return 15;
     }
     let number = codes_number(s, file);
-    if number != 18 {
+    if is_refusal(number) {
         return number as u32;
     }
-    calls_number(s, end, domain, file, homes)
+    if !subset_ok(file, domain.subset) {
+        return 26;
+    }
+    if number == 0 {
+        return 0;
+    }
+    calls_number(s, end, domain.aid, file, homes)
 }
 
 // 12 to 14 of a file that reads: the number of the first no, or the depth of the deepest class; with it the homes of the imports and
@@ -196,16 +234,16 @@ fn parents_answer<'a>(
 fn inside_answer<'a>(
     s: &'a [u8],
     end: usize,
-    domain: usize,
+    domain: LoadingDomain,
     file: &'a [u8],
     index: &[u16],
     depths: &[u8],
     own: &mut [u8],
 ) -> LoadAnswer
-    requires { ⌜ OverSome (now s) end × Ends aid (now s) domain ⌝ }
+    requires { ⌜ OverSome (now s) end × DomainTold (now s) end (now file) domain ⌝ }
     requires { ⌜ Indexed (now s) end (now index) × DepthsKept (now s) end (now depths) × (length (now s) ≤ 65535) ⌝ }
     requires { ⌜ length (now own) ≡ mostClasses ⌝ }
-    ensures { λ r. ⌜ InsideAnswer (now (s .entry)) end (aidAt (now (s .entry)) domain) (now (file .entry)) r ⌝ }
+    ensures { λ r. ⌜ InsideAnswer (now (s .entry)) end (aidAt (now (s .entry)) (domain .aid)) (now (file .entry)) r ⌝ }
     ensures { λ r. ⌜ DepthsTold (now (s .entry)) end (now (file .entry)) (now (own .exit)) r ⌝ }
 {
     let mut homes = [0usize; 48];
@@ -224,24 +262,25 @@ fn inside_answer<'a>(
 // Load, from 10 on, over all entries of a store.
 fn file_answer<'a>(
     s: &'a [u8],
-    domain: usize,
+    domain: LoadingDomain,
     file: &'a [u8],
     index: &[u16],
     depths: &[u8],
     names: &mut [u16],
     seen: &mut [u8],
 ) -> LoadAnswer
-    requires { ⌜ OverSome (now s) (usedAt (now s)) × Ends aid (now s) domain ⌝ }
+    requires { ⌜ OverSome (now s) (usedAt (now s)) × DomainTold (now s) (usedAt (now s)) (now file) domain ⌝ }
     requires { ⌜ Indexed (now s) (usedAt (now s)) (now index) × DepthsKept (now s) (usedAt (now s)) (now depths) ⌝ }
     requires { ⌜ (length (now s) ≤ 65535) × HasRoom (now s) (now names) (now seen) ⌝ }
-    ensures { λ r. ⌜ FileSays (now (s .entry)) (usedAt (now (s .entry))) (aidAt (now (s .entry)) domain) (now (file .entry)) r ⌝ }
+    ensures { λ r. ⌜ FileSays (now (s .entry)) (usedAt (now (s .entry))) (aidAt (now (s .entry)) (domain .aid)) (now (file .entry)) r ⌝ }
 {
     let end = u2_at(s, 5);
+    let aid = domain.aid;
     let mut own = [0u8; 32];
     match inside_answer(s, end, domain, file, index, depths, &mut own) {
         LoadAnswer::Refused(n) => LoadAnswer::Refused(n),
         LoadAnswer::Accepted(depth) => {
-            let later = running_number(s, end, domain, file, index, names, seen);
+            let later = running_number(s, end, aid, file, index, names, seen);
             if later != 0 {
                 return LoadAnswer::Refused(later);
             }
@@ -250,7 +289,7 @@ fn file_answer<'a>(
     }
 }
 
-// Load, over all entries of a store: 3, 5, 10 to 17, 24, 18 to 21. In a domain's entry the AID stands behind the low byte of its length, two
+// Load, over all entries of a store: 3, 5, 10 to 17, 24, 26, 18 to 21. In a domain's entry the AID stands behind the low byte of its length, two
 // bytes behind the entry's start.
 pub fn load_answer<'a>(
     s: &'a [u8],
@@ -269,8 +308,15 @@ pub fn load_answer<'a>(
     if !cursor::length_ok(domain) {
         return LoadAnswer::Refused(3);
     }
-    match store::find_domain(s, u2_at(s, 5), domain) {
-        Spot::At(at, _) => file_answer(s, at + 2, file, index, depths, names, seen),
+    let end = u2_at(s, 5);
+    match store::find_domain(s, end, domain) {
+        Spot::At(at, _) => {
+            let loading = LoadingDomain {
+                aid: at + 2,
+                subset: keeps_subset(s, end, domain),
+            };
+            file_answer(s, loading, file, index, depths, names, seen)
+        }
         Spot::Nothing => LoadAnswer::Refused(5),
     }
 }
@@ -295,8 +341,12 @@ fn package_sound(
     let file = x.file;
     let next = x.next;
     let g = &s[file..next];
+    let domain = LoadingDomain {
+        aid: at + 3,
+        subset: false,
+    };
     let mut own = [0u8; 32];
-    match inside_answer(s, at, at + 3, g, index, depths, &mut own) {
+    match inside_answer(s, at, domain, g, index, depths, &mut own) {
         LoadAnswer::Refused(_) => false,
         LoadAnswer::Accepted(_) => {
             depths::keep_depths(s, depths, &own, file, next);

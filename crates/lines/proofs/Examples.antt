@@ -9,8 +9,8 @@ use lib.ListN.{replicate}
 use Rattle.rules.specs.Bytes.{Bytes, isSome}
 use Rattle.rules.specs.Code.{signed, numbersFrom, lengthOf, lengthAs, instructionLength, splitFrom, split, mayEnd, codeSplits, targetsEach, switchTargets, targetsAt, codeBranches, codeHandlers, callAt, callsOf}
 use Rattle.rules.specs.Package.{standard, classNumber, reference, item, items, policy, codeIf, handler, handlersIf, method, class, contents, sized, editionOf, readFile}
-use Rattle.rules.specs.Store.{write, openingOf, entriesOf, storeOpening}
-use Rattle.rules.specs.Questions.{q1-size, q3-lengths, q4-new, q5-created, q6-empty, q7-installed, q8-unused, q10-marked, q11-reads, q12-new, q13-imports, q14-parents, q15-names, q16-splits, q17-targets, q24-handlers, q18-calls, q19-allowed, q20-running, q21-fits}
+use Rattle.rules.specs.Store.{full, write, openingOf, entriesOf, storeOpening}
+use Rattle.rules.specs.Questions.{q1-size, q3-lengths, q4-new, q5-created, q6-empty, q7-installed, q8-unused, q10-marked, q11-reads, q12-new, q13-imports, q14-parents, q15-names, q16-splits, q17-targets, q24-handlers, keepsSubset, q26-subset, q18-calls, q19-allowed, q20-running, q21-fits}
 use Rattle.rules.specs.Operations.{create, delete, remove, load, createQuestions, deleteQuestions, packageQuestions, loadQuestions, removeQuestions, soundEntries, sound, number, after, freshNumber, freshBytes}
 use Rattle.lines.specs.Line.{digit, lineOf, linesOf}
 use Rattle.lines.specs.Card.{answered, cardOf}
@@ -25,7 +25,7 @@ D1 = 0xA0 ∷ 0x00 ∷ 0x00 ∷ 0x00 ∷ 0xD1 ∷ []
 
 -- the four forms; an argument of one byte has the form
 asked : map (λ s. lineOf (text s)) ("C A0000000D1" ∷ "D A0000000D1" ∷ "R A0000000D1" ∷ "L A0000000D1 42FF" ∷ "C 0F" ∷ [])
-    ≡ some (create D1) ∷ some (delete D1) ∷ some (remove D1) ∷ some (load D1 (0x42 ∷ 0xFF ∷ [])) ∷ some (create (0x0F ∷ [])) ∷ []
+    ≡ some (create full D1) ∷ some (delete D1) ∷ some (remove D1) ∷ some (load D1 (0x42 ∷ 0xFF ∷ [])) ∷ some (create full (0x0F ∷ [])) ∷ []
 unfolding digit lineOf text
 asked = refl
 
@@ -62,6 +62,6 @@ sample-answers : cardOf (text sample) ≡ answered 1 0 15 ∷ answered 2 0 42 �
 unfolding text sample digit lineOf linesOf cardOf signed numbersFrom lengthOf lengthAs instructionLength splitFrom split mayEnd codeSplits
     targetsEach switchTargets targetsAt codeBranches codeHandlers callAt callsOf standard classNumber reference item items policy codeIf handler
     handlersIf method class contents sized readFile write openingOf entriesOf storeOpening q1-size q3-lengths q4-new q5-created q6-empty q7-installed q8-unused
-    q10-marked q11-reads q12-new q13-imports q14-parents q15-names q16-splits q17-targets q24-handlers q18-calls q19-allowed q20-running q21-fits
+    q10-marked q11-reads q12-new q13-imports q14-parents q15-names q16-splits q17-targets q24-handlers keepsSubset q26-subset q18-calls q19-allowed q20-running q21-fits
     createQuestions deleteQuestions packageQuestions loadQuestions removeQuestions soundEntries sound number after freshNumber freshBytes
 sample-answers = refl

@@ -12,6 +12,7 @@ use mathlib.Core.Option.{Option, none, some}
 use lib.Dec.{leb, eqb}
 use lib.ListN.{length, take}
 use Rattle.rules.specs.Bytes.{Bytes, Aid, pick, within, _andThen_}
+use Rattle.rules.specs.Store.{full}
 use Rattle.rules.specs.Operations.{Operation, create, delete, remove, load}
 
 abbrev pub newline : ℕ
@@ -61,7 +62,7 @@ argument (c ∷ cs) = bytesOf (c ∷ cs)
 -- C or D and a domain AID, R and a package AID
 abbrev pub withOne : ℕ → Aid → Option Operation
 withOne k a =
-    pick (eqb k 0x43) (some (create a)) (pick (eqb k 0x44) (some (delete a)) (pick (eqb k 0x52) (some (remove a)) none))
+    pick (eqb k 0x43) (some (create full a)) (pick (eqb k 0x44) (some (delete a)) (pick (eqb k 0x52) (some (remove a)) none))
 
 -- L with domain AID and file
 abbrev pub withTwo : ℕ → Aid → Bytes → Option Operation

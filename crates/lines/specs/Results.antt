@@ -11,6 +11,7 @@ use mathlib.Core.Option.{Option, none, some}
 use lib.Dec.{ltb, eqb}
 use lib.ListN.{take, drop}
 use Rattle.rules.specs.Bytes.{Bytes, pick}
+use Rattle.rules.specs.Store.{full}
 use Rattle.rules.specs.Operations.{Operation, create, delete, remove, load}
 use Rattle.lines.specs.Line.{byteOf}
 use Rattle.lines.specs.declared.Form.{Form}
@@ -32,7 +33,7 @@ found n at out = pick (eqb n 0) none (some (take n (drop at out)))
 
 -- the operation of a form whose arguments stand at the start of a buffer
 abbrev pub said : Form → Bytes → Option Operation
-said (Creation n) out = some (create (take n out))
+said (Creation n) out = some (create full (take n out))
 said (Deletion n) out = some (delete (take n out))
 said (Removal n) out = some (remove (take n out))
 said (Loading d n) out = some (load (take d out) (take (n - d) (drop d out)))

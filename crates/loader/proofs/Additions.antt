@@ -8,7 +8,7 @@ use lib.Dec.{leb, leb→le}
 use lib.ListN.{length}
 use Rattle.rules.specs.Bytes.{Bytes, Aid, pick, aidLength}
 use Rattle.rules.specs.Package.{Limits, readFile}
-use Rattle.rules.specs.Store.{Opening, version1, version2, domain, loaded, write, storeLimits, storeOpening}
+use Rattle.rules.specs.Store.{Opening, version1, version2, DomainKind, domain, loaded, write, storeLimits, storeOpening}
 use Rattle.rules.specs.Questions.{q1-size, q3-lengths, q30-limits}
 use Rattle.rules.specs.Operations.{create, load, firstNo, loadQuestions, number, after, deepestOf, depthFigure, freshNumber, freshBytes}
 use Rattle.rules.proofs.Tests.{and-l, and-r, is-true}
@@ -54,10 +54,10 @@ load-refused s d f n p = (refused-promise s d f n (p .0) (p .1), refused-after s
 
 module _ (s : Bytes) (u : ℕ) (h : SoundAt s u) where
   -- a creation with all questions yes
-  pub create-room : (a : Aid) → Asked s u (create a) 0 → Room s u (domain a)
-  create-room a q =
+  pub create-room : (k : DomainKind) (a : Aid) → Asked s u (create k a) 0 → Room s u (domain k a)
+  create-room k a q =
       let x = sound-store s u h in
-      record { laid = laid s u h; small = small s u h; fits = is-true _ ((create-yes (storeOpening s) (length s) (x .es) a (sym (q (x .es) (x .over)))) .q21) }
+      record { laid = laid s u h; small = small s u h; fits = is-true _ ((create-yes (storeOpening s) (length s) (x .es) k a (sym (q (x .es) (x .over)))) .q21) }
 
   module _ (d : Aid) (f : Bytes) (depth : ℕ) (q : LoadSays s u d f (Accepted depth)) where
     -- all questions are answered yes

@@ -3,25 +3,26 @@ use services::Cut;
 use sound::Loading;
 use sound::Opened;
 ghost use mathlib.Core.Path.{_≡_};
-ghost use Rattle.rules.specs.Store.{version1, version2};
+ghost use Rattle.rules.specs.Store.{version1, version2, full, withoutInt, domainByte};
 ghost use Rattle.rules.specs.Operations.{create, delete, load, remove, number, after, freshNumber, freshBytes};
+ghost use Rattle.store.specs.Entries.{kindOf};
 ghost use Rattle.store.specs.Sound.{SoundAt};
 ghost use Rattle.writing.specs.Changes.{limitsGiven};
 ghost use Rattle.judge.specs.Says.{LoadSays};
 ghost use Rattle.judge.specs.declared.LoadAnswer.the-variants.{Accepted};
 ghost use Rattle.loader.specs.Promises.{LoadPromise, QueryPromise};
 
-// A creation in a sound store.
-fn create_on(store: &mut [u8], used: usize, domain: &[u8]) -> u32
-    requires { ⌜ SoundAt (now store) used ⌝ }
-    ensures { λ r. ⌜ r ≡ number (now (store .entry)) (create (now (domain .entry))) ⌝ }
-    ensures { λ _. ⌜ now (store .exit) ≡ after (now (store .entry)) (create (now (domain .entry))) ⌝ }
+// A creation in a sound store, of a domain of the kind with this byte.
+fn create_on(store: &mut [u8], used: usize, kind: u8, domain: &[u8]) -> u32
+    requires { ⌜ SoundAt (now store) used × (domainByte (kindOf kind) ≡ kind) ⌝ }
+    ensures { λ r. ⌜ r ≡ number (now (store .entry)) (create (kindOf kind) (now (domain .entry))) ⌝ }
+    ensures { λ _. ⌜ now (store .exit) ≡ after (now (store .entry)) (create (kindOf kind) (now (domain .entry))) ⌝ }
 {
     let n = services::create_answer(store, used, domain);
     if n != 0 {
         return n;
     }
-    writing::append_domain(store, used, domain);
+    writing::append_domain(store, used, kind, domain);
     0
 }
 
@@ -94,15 +95,27 @@ pub extern "C" fn loader_fresh_limits(store: &mut [u8], depth: u8, parents: u8, 
     1
 }
 
-// Creates a domain.
+// Creates a domain of kind 1.
 #[no_mangle]
 pub extern "C" fn loader_create(store: &mut [u8], domain: &[u8]) -> u32
-    ensures { λ r. ⌜ r ≡ number (now (store .entry)) (create (now (domain .entry))) ⌝ }
-    ensures { λ _. ⌜ now (store .exit) ≡ after (now (store .entry)) (create (now (domain .entry))) ⌝ }
+    ensures { λ r. ⌜ r ≡ number (now (store .entry)) (create full (now (domain .entry))) ⌝ }
+    ensures { λ _. ⌜ now (store .exit) ≡ after (now (store .entry)) (create full (now (domain .entry))) ⌝ }
 {
     match sound::open_store(store) {
         Opened::Refused(n) => n,
-        Opened::Used(used) => create_on(store, used, domain),
+        Opened::Used(used) => create_on(store, used, 1, domain),
+    }
+}
+
+// The second creation: a domain of kind 3, whose packages keep to the subset without int.
+#[no_mangle]
+pub extern "C" fn loader_create_without_int(store: &mut [u8], domain: &[u8]) -> u32
+    ensures { λ r. ⌜ r ≡ number (now (store .entry)) (create withoutInt (now (domain .entry))) ⌝ }
+    ensures { λ _. ⌜ now (store .exit) ≡ after (now (store .entry)) (create withoutInt (now (domain .entry))) ⌝ }
+{
+    match sound::open_store(store) {
+        Opened::Refused(n) => n,
+        Opened::Used(used) => create_on(store, used, 3, domain),
     }
 }
 

@@ -2,3 +2,4 @@
 pub mod Formats
 pub mod Files
 pub mod Opened
+pub mod Said

@@ -17,7 +17,7 @@ use Rattle.rules.proofs.Results.{if-refused}
 -- an operation's questions have its numbers, none of which is 0
 asked-numbers : (s : Bytes) (o : Operation) → T (numberedBy (refusalsOf o) (asked s o))
 unfolding createQuestions deleteQuestions packageQuestions loadQuestions removeQuestions
-asked-numbers s (create a) = tt
+asked-numbers s (create k a) = tt
 asked-numbers s (delete a) = tt
 asked-numbers s (load d f) = of-file (readFile (storeLimits s) f)
   where
@@ -27,7 +27,7 @@ asked-numbers s (load d f) = of-file (readFile (storeLimits s) f)
 asked-numbers s (remove a) = tt
 
 refusals-positive : (o : Operation) → T (positive (refusalsOf o))
-refusals-positive (create a) = tt
+refusals-positive (create k a) = tt
 refusals-positive (delete a) = tt
 refusals-positive (load d f) = tt
 refusals-positive (remove a) = tt
@@ -87,7 +87,7 @@ module _ (s : Bytes) (v : Opening) where
 -- demand 2: the order of the questions
 pub asked-order : (s : Bytes) (o : Operation) → HasFile s o → numbersIn (asked s o) ≡ refusalsOf o
 unfolding createQuestions deleteQuestions packageQuestions loadQuestions removeQuestions
-asked-order s (create a) h = refl
+asked-order s (create k a) h = refl
 asked-order s (delete a) h = refl
 asked-order s (load d f) h = rw (h .1)
 asked-order s (remove a) h = refl

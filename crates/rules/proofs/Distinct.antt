@@ -37,7 +37,7 @@ module _ (v : Opening) where
   ]
 
   distinct-next : (n : ℕ) (es : List Entry) (e : Entry) → Distinct (installed l es) → T (accepted v n es e) → Distinct (installed l (es ++ e ∷ []))
-  distinct-next n es (domain a) s h = subst Distinct (sym (installed-domain l es a)) s
+  distinct-next n es (domain k a) s h = subst Distinct (sym (installed-domain l es k a)) s
   distinct-next n es (loaded d f) s h =
       let r = load-yes v n es d f (eqb→eq _ 0 h) in
       subst Distinct (sym (installed-loaded l es d f (r .0) (r .1 .q11))) (distinct-with (installed l es) (record { domain = d; pack = r .0 }) s (r .1 .q12))

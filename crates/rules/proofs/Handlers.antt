@@ -15,26 +15,26 @@ use Rattle.rules.proofs.Tests.{and-l, and-r, and-i, all-mem, some-and-i
 use Rattle.rules.proofs.Cuts.{split-splits, listed-begins, begins-listed, fits-good, good-fits}
 use Rattle.rules.proofs.Editions.{Formed, EveryMethod, file-formed}
 
-mem-all : {A : Type 0} (q : A → Bool) (xs : List A) → ((a : A) → List·Memᴰ a xs → T (q a)) → T (all q xs)
+pub mem-all : {A : Type 0} (q : A → Bool) (xs : List A) → ((a : A) → List·Memᴰ a xs → T (q a)) → T (all q xs)
 mem-all q [] h = tt
 mem-all q (x ∷ xs) h = and-i (q x) (all q xs) (h x (List·Memᴰ·head refl)) (mem-all q xs (λ a m. h a (List·Memᴰ·tail m)))
 
 -- a question of every method, by its number of no account
 module _ (q : Method → Bool) where
-  methods-each : (i : ℕ) (ks : List Class) → T (allFrom (λ j k. all q (k .methods)) i ks) →
+  pub methods-each : (i : ℕ) (ks : List Class) → T (allFrom (λ j k. all q (k .methods)) i ks) →
       (k : Class) → List·Memᴰ k ks → (m : Method) → List·Memᴰ m (k .methods) → T (q m)
   methods-each i ks h k (List·Memᴰ·head {x = x} {xs = rest} e) m n =
       all-mem q (and-l (all q (x .methods)) _ h) (subst (λ (c : Class). List·Memᴰ m (c .methods)) e n)
   methods-each i ks h k (List·Memᴰ·tail {x = x} {xs = rest} t) m n = methods-each (suc i) rest (and-r (all q (x .methods)) _ h) k t m n
 
-  each-methods : (i : ℕ) (ks : List Class) → ((k : Class) → List·Memᴰ k ks → (m : Method) → List·Memᴰ m (k .methods) → T (q m)) →
+  pub each-methods : (i : ℕ) (ks : List Class) → ((k : Class) → List·Memᴰ k ks → (m : Method) → List·Memᴰ m (k .methods) → T (q m)) →
       T (allFrom (λ j k. all q (k .methods)) i ks)
   each-methods i [] h = tt
   each-methods i (k ∷ ks) h = and-i (all q (k .methods)) _ (mem-all q (k .methods) (h k (List·Memᴰ·head refl)))
       (each-methods (suc i) ks (λ c m. h c (List·Memᴰ·tail m)))
 
 -- of an implemented method the question of its code is asked
-asked : (b q : Bool) → b ≡ true → T (not b || q) → T q
+pub asked : (b q : Bool) → b ≡ true → T (not b || q) → T q
 asked true q e h = h
 asked false q e h = let z : _≡_ {A = ℕ} 0 1 = cc in absurd (omega arith)
 

@@ -1,5 +1,6 @@
--- The laws about the definitions. Demand1, Demand2 and Demand3 are the claims of document 01, Request5, Request2, Request7 and Request12 those of document
--- 02; Exact says what single definitions are exactly; Witness, WitnessOwn and WitnessHandlers show that demand 3 is not empty.
+-- The laws about the definitions. Demand1, Demand2 and Demand3 are the claims of document 01, Request5, Request2, Request7, Request12 and Request9
+-- those of document 02; Exact says what single definitions are exactly; Witness, WitnessOwn, WitnessHandlers and WitnessKinds show that demand 3
+-- is not empty.
 pub mod Demand1
 pub mod Demand2
 pub mod Demand3
@@ -7,6 +8,7 @@ pub mod Request5
 pub mod Request2
 pub mod Request7
 pub mod Request12
+pub mod Request9
 pub mod Exact
 pub mod Claims
 pub mod Answers
@@ -15,6 +17,7 @@ pub mod Witness
 pub mod Located
 pub mod WitnessOwn
 pub mod WitnessHandlers
+pub mod WitnessKinds
 pub mod Whole
 pub mod Paths
 pub mod Ledger
@@ -45,6 +48,10 @@ pub mod Splitting
 pub mod Cuts
 pub mod Editions
 pub mod Handlers
+pub mod Barred
+pub mod Subset
+pub mod BothKinds
+pub mod EitherKind
 pub mod HandlerCalls
 pub mod Lists
 pub mod Tests

@@ -52,7 +52,7 @@ module _ (l : Limits) (es : List Entry) (n j : ℕ) where
   inFile d f m (some p) e = inPackage d f m p e (at (p .classes) n) refl
 
   abbrev inEntry : (e : Entry) → List·Memᴰ e es → Option (InstalledMethod l es)
-  inEntry (domain a) m = none
+  inEntry (domain k a) m = none
   inEntry (loaded d f) m = inFile d f m (readFile l f) refl
 
   abbrev inEntries : (i : ℕ) (o : Option Entry) → at es i ≡ o → Option (InstalledMethod l es)

@@ -14,7 +14,7 @@ use Rattle.rules.specs.Code.{signed, numbersFrom, lengthOf, lengthAs, in
 use Rattle.rules.specs.Limits.{Limits, standard, limitsRange, InRange}
 use Rattle.rules.specs.Package.{classNumber, reference, item, items, policy, codeIf, handler, handlersIf, method, class, contents, sized, editionOf, readFile}
 use Rattle.rules.specs.Store.{Opening, version1, version2, openingLimits, Entry, write, storeMark, limits, openingOf, entriesOf, storeOpening, storeLimits, limitsAt}
-use Rattle.rules.specs.Questions.{q1-size, q3-lengths, q4-new, q5-created, q10-marked, q11-reads, q12-new, q13-imports, q14-parents, q15-names, q16-splits, q17-targets, q24-handlers, q18-calls, q19-allowed, q20-running, q21-fits, q30-limits}
+use Rattle.rules.specs.Questions.{q1-size, q3-lengths, q4-new, q5-created, q10-marked, q11-reads, q12-new, q13-imports, q14-parents, q15-names, q16-splits, q17-targets, q24-handlers, keepsSubset, q26-subset, q18-calls, q19-allowed, q20-running, q21-fits, q30-limits}
 use Rattle.rules.specs.Operations.{createQuestions, packageQuestions, loadQuestions, soundEntries, sound, load, number, deepest, depthFigure, freshNumber, freshBytes}
 use Rattle.rules.specs.CasesFiles.{D1}
 use Rattle.rules.specs.CasesOpening.{limited, series, nine}
@@ -106,6 +106,6 @@ pub nine-deep : (number (series (limited 16 8 32767)) (load D1 nine) ≡ 0) × (
 unfolding signed numbersFrom lengthOf lengthAs instructionLength splitFrom split mayEnd codeSplits targetsEach switchTargets targetsAt codeBranches
     codeHandlers callAt callsOf standard limitsRange classNumber reference item items policy codeIf handler handlersIf method class contents sized
     editionOf readFile write openingOf entriesOf storeOpening q1-size q3-lengths q4-new q5-created q10-marked q11-reads q12-new q13-imports q14-parents
-    q15-names q16-splits q17-targets q24-handlers q18-calls q19-allowed q20-running q21-fits createQuestions packageQuestions loadQuestions
+    q15-names q16-splits q17-targets q24-handlers keepsSubset q26-subset q18-calls q19-allowed q20-running q21-fits createQuestions packageQuestions loadQuestions
     soundEntries sound number deepest depthFigure
 nine-deep = (refl, refl, refl)

@@ -11,7 +11,7 @@ use Rattle.rules.specs.Bytes.{isSome}
 use Rattle.rules.specs.Code.{signed, numbersFrom, lengthOf, lengthAs, instructionLength, splitFrom, split, mayEnd, codeSplits, targetsEach, switchTargets, targetsAt, codeBranches, Handler, codeHandlers, static, Call, callAt, callsOf}
 use Rattle.rules.specs.Package.{edition1, edition2, standard, classNumber, reference, item, items, policy, codeIf, handler, handlersIf, method, class, contents, sized, editionOf, readFile}
 use Rattle.rules.specs.Store.{version1, write, openingOf, entriesOf, storeOpening}
-use Rattle.rules.specs.Questions.{Named, callNames, methodNamed, q1-size, q3-lengths, q4-new, q5-created, q10-marked, q11-reads, q12-new, q13-imports, q14-parents, q15-names, q16-splits, q17-targets, q24-handlers, q18-calls, q19-allowed, q20-running, q21-fits}
+use Rattle.rules.specs.Questions.{Named, callNames, methodNamed, q1-size, q3-lengths, q4-new, q5-created, q10-marked, q11-reads, q12-new, q13-imports, q14-parents, q15-names, q16-splits, q17-targets, q24-handlers, keepsSubset, q26-subset, q18-calls, q19-allowed, q20-running, q21-fits}
 use Rattle.rules.specs.Operations.{createQuestions, packageQuestions, loadQuestions, soundEntries, sound, number}
 use Rattle.rules.specs.Ledger.{ledgerNumber, ledgerStep, ledgerAfter}
 use Rattle.rules.specs.Classes.{installed}
@@ -25,7 +25,7 @@ pub handlers-installed : ledgerAfter version1 256 [] installingHandlers ≡ hand
 unfolding ledgerNumber ledgerStep signed numbersFrom lengthOf lengthAs instructionLength splitFrom split mayEnd codeSplits targetsEach switchTargets
     targetsAt codeBranches codeHandlers callAt callsOf standard classNumber reference item items policy codeIf handler handlersIf method class
     contents sized editionOf readFile write openingOf entriesOf storeOpening q1-size q3-lengths q4-new q5-created q10-marked q11-reads q12-new q13-imports q14-parents
-    q15-names q16-splits q17-targets q24-handlers q18-calls q19-allowed q20-running q21-fits createQuestions packageQuestions loadQuestions
+    q15-names q16-splits q17-targets q24-handlers keepsSubset q26-subset q18-calls q19-allowed q20-running q21-fits createQuestions packageQuestions loadQuestions
     soundEntries sound number
 handlers-installed = refl
 
@@ -34,7 +34,7 @@ handlers-sound : T (soundEntries version1 256 handlerPackages)
 unfolding signed numbersFrom lengthOf lengthAs instructionLength splitFrom split mayEnd codeSplits targetsEach switchTargets targetsAt codeBranches
     codeHandlers callAt callsOf standard classNumber reference item items policy codeIf handler handlersIf method class contents sized editionOf
     readFile q1-size q3-lengths q4-new q5-created q10-marked q11-reads q12-new q13-imports q14-parents q15-names q16-splits q17-targets q24-handlers
-    q18-calls q19-allowed q20-running q21-fits createQuestions packageQuestions loadQuestions soundEntries
+    keepsSubset q26-subset q18-calls q19-allowed q20-running q21-fits createQuestions packageQuestions loadQuestions soundEntries
 handlers-sound = tt
 
 -- P2's method, and the two of P1 that it calls

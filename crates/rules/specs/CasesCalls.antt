@@ -11,7 +11,7 @@ use lib.ListN.{take}
 use Rattle.rules.specs.Bytes.{Bytes, Aid, pick, someAnd}
 use Rattle.rules.specs.Code.{signed, numbersFrom, lengthOf, lengthAs, instructionLength, splitFrom, split, callAt, callsOf}
 use Rattle.rules.specs.Package.{standard, classNumber, reference, item, items, policy, codeIf, handler, handlersIf, method, class, contents, sized, editionOf, readFile}
-use Rattle.rules.specs.Store.{Entry, domain, loaded}
+use Rattle.rules.specs.Store.{full, Entry, domain, loaded}
 use Rattle.rules.specs.Classes.{Installed, installed}
 use Rattle.rules.specs.Questions.{methodQueried}
 use Rattle.rules.specs.Operations.{Operation, create, load}
@@ -38,11 +38,11 @@ third = hex "42504B 0001 003B  05A000000103  00  02 05A000000102 05A000000101  0
 
 -- the calls that install them
 abbrev pub installing : List Operation
-installing = create D1 ∷ load D1 first ∷ load D1 second ∷ load D1 third ∷ []
+installing = create full D1 ∷ load D1 first ∷ load D1 second ∷ load D1 third ∷ []
 
 -- the ledger after these (proofs/Witness)
 abbrev pub threePackages : List Entry
-threePackages = domain D1 ∷ loaded D1 first ∷ loaded D1 second ∷ loaded D1 third ∷ []
+threePackages = domain full D1 ∷ loaded D1 first ∷ loaded D1 second ∷ loaded D1 third ∷ []
 
 pub data CallRow : Type 0 where
   calls : String → ℕ → (Aid × ℕ × ℕ) → (Aid × ℕ × ℕ) → Bool → CallRow

@@ -1,7 +1,7 @@
 -- Rows of the table of cases: the depth figure that a load carries (request 5). Assumes nothing.
 use mathlib.Core.List.{List, [], _∷_, _++_}
 use Rattle.rules.specs.Bytes.{Bytes}
-use Rattle.rules.specs.Store.{version1, domain, loaded, write}
+use Rattle.rules.specs.Store.{version1, full, domain, loaded, write}
 use Rattle.rules.specs.Operations.{load}
 use Rattle.rules.specs.CasesForm.{hex, _answers_, depth, Row, steps}
 use Rattle.rules.specs.CasesFiles.{D1, D2, bare, domainsOnly}
@@ -32,7 +32,7 @@ nine = hex "42504B 0001 003D  05A000000101  00  00  0000  09  01 00 00  01 01 00
 
 -- the store with these three, and P2 with five and with six more below them
 abbrev pub withThree : Bytes
-withThree = write version1 256 (domain D1 ∷ loaded D1 three ∷ [])
+withThree = write version1 256 (domain full D1 ∷ loaded D1 three ∷ [])
 
 abbrev fiveMore : Bytes
 fiveMore = hex "42504B 0001 0031  05A000000102  00  01 05A000000101  0000  05  01 01 0102 00  01 01 0000 00"
@@ -49,7 +49,7 @@ firstDeepest = hex "42504B 0001 0020  05A000000102  00  01 05A000000101  0000  0
 -- the deepest own class, wherever it stands among them and of whichever kind
 abbrev own : List Row
 own =
-    steps "no class: depth 0" (write version1 64 (domain D1 ∷ [])) (depth D1 bare 0 ∷ [])
+    steps "no class: depth 0" (write version1 64 (domain full D1 ∷ [])) (depth D1 bare 0 ∷ [])
     ∷ steps "one class: depth 1" domainsOnly (depth D1 one 1 ∷ [])
     ∷ steps "three classes, the second deepest: depth 2" domainsOnly
     (depth D1 (hex "42504B 0001 001D  05A000000101  00  00  0000  03  00 00 00  00 01 0000 00  00 00 00") 2 ∷ [])
@@ -69,7 +69,7 @@ abbrev stored : List Row
 stored =
     steps "depth 3 in the store and 5 more: depth 8" withThree (depth D1 fiveMore 8 ∷ load D1 fiveMore answers 0 ∷ [])
     ∷ steps "the first class deepest, below the store's: depth 4" withThree (depth D1 firstDeepest 4 ∷ [])
-    ∷ steps "two packages up: depth 3" (write version1 256 (domain D1 ∷ loaded D1 one ∷ loaded D1 second ∷ [])) (depth D1 third 3 ∷ [])
+    ∷ steps "two packages up: depth 3" (write version1 256 (domain full D1 ∷ loaded D1 one ∷ loaded D1 second ∷ [])) (depth D1 third 3 ∷ [])
     ∷ steps "an import that no class is below: depth 1" withThree
     (depth D1 (hex "42504B 0001 001B  05A000000102  00  01 05A000000101  0000  01  00 00 00") 1 ∷ [])
     ∷ []
@@ -77,12 +77,12 @@ stored =
 -- a refused load carries 0, whatever its classes
 abbrev refused : List Row
 refused =
-    steps "refused by 5: depth 0" (write version1 64 (domain D1 ∷ [])) (load D2 one answers 5 ∷ depth D2 one 0 ∷ [])
+    steps "refused by 5: depth 0" (write version1 64 (domain full D1 ∷ [])) (load D2 one answers 5 ∷ depth D2 one 0 ∷ [])
     ∷ steps "refused by 14, its own parent: depth 0" domainsOnly
     (depth D2 (hex "42504B 0001 0017  05A000000101  00  00  0000  01  00 01 0000 00") 0 ∷ [])
     ∷ steps "interfaces, depth 9: 14" domainsOnly (load D1 nine answers 14 ∷ depth D1 nine 0 ∷ [])
     ∷ steps "depth 3 in the store and 6 more: 14" withThree (load D1 sixMore answers 14 ∷ depth D1 sixMore 0 ∷ [])
-    ∷ steps "refused by 21: depth 0" (write version1 64 (domain D1 ∷ [])) (load D1 eight answers 21 ∷ depth D1 eight 0 ∷ [])
+    ∷ steps "refused by 21: depth 0" (write version1 64 (domain full D1 ∷ [])) (load D1 eight answers 21 ∷ depth D1 eight 0 ∷ [])
     ∷ []
 
 -- the rows of this file

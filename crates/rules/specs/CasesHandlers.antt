@@ -2,7 +2,7 @@
 use mathlib.Core.Bool.{true}
 use mathlib.Core.List.{List, [], _∷_, _++_}
 use Rattle.rules.specs.Bytes.{Bytes}
-use Rattle.rules.specs.Store.{version1, Entry, domain, loaded, write}
+use Rattle.rules.specs.Store.{version1, full, Entry, domain, loaded, write}
 use Rattle.rules.specs.Operations.{Operation, create, load, remove}
 use Rattle.rules.specs.CasesForm.{hex, query, _answers_, _says_yes_, Row, steps}
 use Rattle.rules.specs.CasesFiles.{D1, D2, P1, P2, alone}
@@ -22,7 +22,7 @@ readingHandlers =
     ∷ alone "a handler count in version 1: 11" "42504B 0001 0020  05A000000101  00  00  0000  01  00 00 01  60 0001 00 0004 1005007A 00" 11
     ∷ alone "a handler count behind a method without code: 11" "42504B 0002 001A  05A000000101  00  00  0000  01  00 00 01  00 0001 00 00" 11
     ∷ alone "a method without code, and one with a handler" "42504B 0002 002A  05A000000101  00  00  0000  01  00 00 02  00 0001 00  60 0002 00 0004 1005007A 01 000000020003" 0
-    ∷ steps "16 handlers" (write version1 256 (domain D1 ∷ [])) (load D1 (hex "42504B 0002 0080  05A000000101  00  00  0000  01  00 00 01  60 0001 00 0004 1005007A 10 000000020003 000000020003 000000020003 000000020003 000000020003 000000020003 000000020003 000000020003 000000020003 000000020003 000000020003 000000020003 000000020003 000000020003 000000020003 000000020003") answers 0 ∷ [])
+    ∷ steps "16 handlers" (write version1 256 (domain full D1 ∷ [])) (load D1 (hex "42504B 0002 0080  05A000000101  00  00  0000  01  00 00 01  60 0001 00 0004 1005007A 10 000000020003 000000020003 000000020003 000000020003 000000020003 000000020003 000000020003 000000020003 000000020003 000000020003 000000020003 000000020003 000000020003 000000020003 000000020003 000000020003") answers 0 ∷ [])
     ∷ alone "17 handlers: 11" "42504B 0002 0086  05A000000101  00  00  0000  01  00 00 01  60 0001 00 0004 1005007A 11 000000020003 000000020003 000000020003 000000020003 000000020003 000000020003 000000020003 000000020003 000000020003 000000020003 000000020003 000000020003 000000020003 000000020003 000000020003 000000020003 000000020003" 11
     ∷ alone "a handler that is cut off: 11" "42504B 0002 0024  05A000000101  00  00  0000  01  00 00 01  60 0001 00 0004 1005007A 01 00000002" 11
     ∷ []
@@ -73,11 +73,11 @@ guarded =
 -- files of both versions in one store, and soundness
 abbrev together : List Row
 together =
-    steps "version 2 imports version 1" (write version1 256 (domain D1 ∷ [])) (load D1 (hex "42504B 0001 001C  05A000000101  00  00  0000  01  00 00 01  E0 0001 FF 0001 7A") answers 0 ∷ load D1 (hex "42504B 0002 0030  05A000000102  00  01 05A000000101  0001 01000001  01  00 00 01  60 0001 00 0004 8D00007A 01 000000040003") answers 0 ∷ query D2 P1 0 1 says 0 yes true ∷ remove P2 answers 0 ∷ [])
-    ∷ steps "version 1 imports version 2" (write version1 256 (domain D1 ∷ [])) (load D1 (hex "42504B 0002 0024  05A000000101  00  00  0000  01  00 00 01  E0 0001 FF 0002 007A 01 000000010001") answers 0 ∷ load D1 (hex "42504B 0001 0029  05A000000102  00  01 05A000000101  0001 01000001  01  00 00 01  60 0001 00 0004 8D00007A") answers 0 ∷ query D2 P1 0 1 says 0 yes true ∷ remove P2 answers 0 ∷ [])
-    ∷ steps "a bad handler stored: 2" (write version1 256 (domain D1 ∷ loaded D1 (hex "42504B 0002 0026  05A000000101  00  00  0000  01  00 00 01  60 0001 00 0004 1005007A 01 000000020004") ∷ [])) (create D2 answers 2 ∷ [])
-    ∷ steps "a good handler stored" (write version1 256 (domain D1 ∷ loaded D1 (hex "42504B 0002 0026  05A000000101  00  00  0000  01  00 00 01  60 0001 00 0004 1005007A 01 000000020003") ∷ [])) (create D2 answers 0 ∷ [])
-    ∷ steps "a stored file of version 3: 2" (write version1 256 (domain D1 ∷ loaded D1 (hex "42504B 0003 0012  05A000000101  00  00  0000  00") ∷ [])) (create D2 answers 2 ∷ [])
+    steps "version 2 imports version 1" (write version1 256 (domain full D1 ∷ [])) (load D1 (hex "42504B 0001 001C  05A000000101  00  00  0000  01  00 00 01  E0 0001 FF 0001 7A") answers 0 ∷ load D1 (hex "42504B 0002 0030  05A000000102  00  01 05A000000101  0001 01000001  01  00 00 01  60 0001 00 0004 8D00007A 01 000000040003") answers 0 ∷ query D2 P1 0 1 says 0 yes true ∷ remove P2 answers 0 ∷ [])
+    ∷ steps "version 1 imports version 2" (write version1 256 (domain full D1 ∷ [])) (load D1 (hex "42504B 0002 0024  05A000000101  00  00  0000  01  00 00 01  E0 0001 FF 0002 007A 01 000000010001") answers 0 ∷ load D1 (hex "42504B 0001 0029  05A000000102  00  01 05A000000101  0001 01000001  01  00 00 01  60 0001 00 0004 8D00007A") answers 0 ∷ query D2 P1 0 1 says 0 yes true ∷ remove P2 answers 0 ∷ [])
+    ∷ steps "a bad handler stored: 2" (write version1 256 (domain full D1 ∷ loaded D1 (hex "42504B 0002 0026  05A000000101  00  00  0000  01  00 00 01  60 0001 00 0004 1005007A 01 000000020004") ∷ [])) (create full D2 answers 2 ∷ [])
+    ∷ steps "a good handler stored" (write version1 256 (domain full D1 ∷ loaded D1 (hex "42504B 0002 0026  05A000000101  00  00  0000  01  00 00 01  60 0001 00 0004 1005007A 01 000000020003") ∷ [])) (create full D2 answers 0 ∷ [])
+    ∷ steps "a stored file of version 3: 2" (write version1 256 (domain full D1 ∷ loaded D1 (hex "42504B 0003 0012  05A000000101  00  00  0000  00") ∷ [])) (create full D2 answers 2 ∷ [])
     ∷ []
 
 -- P1, version 1: visible static 1 allowing FF, and 2 allowing D2 and FE
@@ -90,10 +90,10 @@ guarding = hex "42504B 0002 0038  05A000000102  00  01 05A000000101  0002 010000
 
 -- the calls that install them in two domains, and the ledger after these (proofs/WitnessHandlers)
 abbrev pub installingHandlers : List Operation
-installingHandlers = create D1 ∷ create D2 ∷ load D1 library ∷ load D2 guarding ∷ []
+installingHandlers = create full D1 ∷ create full D2 ∷ load D1 library ∷ load D2 guarding ∷ []
 
 abbrev pub handlerPackages : List Entry
-handlerPackages = domain D1 ∷ domain D2 ∷ loaded D1 library ∷ loaded D2 guarding ∷ []
+handlerPackages = domain full D1 ∷ domain full D2 ∷ loaded D1 library ∷ loaded D2 guarding ∷ []
 
 -- the rows of this file
 abbrev pub handlers : List Row

@@ -1,18 +1,18 @@
 -- Rows of the table of cases: every limit of the package file at its value and one past it. Assumes nothing.
 use mathlib.Core.List.{List, [], _∷_, _++_}
 use Rattle.rules.specs.Bytes.{Bytes}
-use Rattle.rules.specs.Store.{version1, domain, loaded, write}
+use Rattle.rules.specs.Store.{version1, full, domain, loaded, write}
 use Rattle.rules.specs.Operations.{load}
 use Rattle.rules.specs.CasesForm.{hex, times, _answers_, Row, steps}
 use Rattle.rules.specs.CasesFiles.{D1, bare, alone}
 
 -- a store of 256 bytes where D1 is created
 abbrev roomy : Bytes
-roomy = write version1 256 (domain D1 ∷ [])
+roomy = write version1 256 (domain full D1 ∷ [])
 
 -- one where P1 lies in D1 too
 abbrev withBare : Bytes
-withBare = write version1 256 (domain D1 ∷ loaded D1 bare ∷ [])
+withBare = write version1 256 (domain full D1 ∷ loaded D1 bare ∷ [])
 
 -- the rows of this file
 abbrev pub limits : List Row

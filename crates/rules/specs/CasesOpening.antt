@@ -5,7 +5,7 @@ use mathlib.Core.Bool.{true, false}
 use mathlib.Core.List.{List, [], _∷_, _++_}
 use lib.ListN.{replicate}
 use Rattle.rules.specs.Bytes.{Bytes}
-use Rattle.rules.specs.Store.{Opening, version1, version2, Entry, domain, loaded, write}
+use Rattle.rules.specs.Store.{Opening, version1, version2, full, Entry, domain, loaded, write}
 use Rattle.rules.specs.Operations.{Operation, create, delete, load, remove}
 use Rattle.rules.specs.CasesForm.{hex, buffer, query, Step, fresh, freshLimits, _answers_, _gives_used_, _says_yes_, depth, holds, Row, steps}
 use Rattle.rules.specs.CasesFiles.{D1, D2, P1, bare, library}
@@ -16,7 +16,7 @@ limited d p c = version2 (record { depth = d; parents = p; code = c })
 
 -- a store of 256 bytes that opens so, where D1 is created
 abbrev pub series : Opening → Bytes
-series v = write v 256 (domain D1 ∷ [])
+series v = write v 256 (domain full D1 ∷ [])
 
 -- a file loaded in D1 there, by its number
 abbrev inSeries : String → Opening → String → ℕ → Row
@@ -33,11 +33,11 @@ outOfRange name d p c = steps name (replicate 64 0xFF) (freshLimits d p c 30 ∷
 -- a buffer of 64 bytes that opens with these is not sound; the two fresh calls take it
 abbrev badStore : String → String → Row
 badStore name t = steps name (buffer 64 (hex t)) (
-    create D1 answers 2
+    create full D1 answers 2
     ∷ query D1 P1 0 0x0001 says 2 yes false
     ∷ holds (hex t)
     ∷ freshLimits 8 4 4096 0
-    ∷ create D1 answers 0
+    ∷ create full D1 answers 0
     ∷ fresh 0
     ∷ holds (hex "424353 0001 0007")
     ∷ [])
@@ -57,7 +57,7 @@ freshRows =
     ∷ steps "63 bytes and depth 0: 1" (replicate 63 0xFF) (freshLimits 0 4 4096 1 ∷ holds (replicate 63 0xFF) ∷ [])
     ∷ steps "65,536 bytes and depth 17: 1" (replicate 65536 0xFF) (freshLimits 17 4 4096 1 ∷ [])
     ∷ steps "one fresh call after the other" (replicate 64 0) (
-    freshLimits 2 1 9 0 ∷ create D1 answers 0 ∷ fresh 0 ∷ holds (hex "424353 0001 0007") ∷ freshLimits 2 1 9 0 ∷ holds (hex "424353 0002 000B 02 01 0009") ∷ [])
+    freshLimits 2 1 9 0 ∷ create full D1 answers 0 ∷ fresh 0 ∷ holds (hex "424353 0001 0007") ∷ freshLimits 2 1 9 0 ∷ holds (hex "424353 0002 000B 02 01 0009") ∷ [])
     ∷ []
 
 -- what a store of version 2 must open with
@@ -76,22 +76,22 @@ storedRows =
     ∷ badStore "version 0201: 2" "424353 0201 000B 08 04 1000"
     ∷ badStore "limits behind a version-1 opening: 2" "424353 0001 000B 08 04 1000"
     ∷ badStore "a byte after used in version 2: 2" "424353 0002 000B 08 04 1000 01"
-    ∷ steps "a version-2 store by its bytes" (buffer 64 (hex "424353 0002 000B 08 04 1000")) (create D1 gives 0 used 19 ∷ holds (hex "424353 0002 0013 08 04 1000  01 0005 A0000000D1") ∷ [])
+    ∷ steps "a version-2 store by its bytes" (buffer 64 (hex "424353 0002 000B 08 04 1000")) (create full D1 gives 0 used 19 ∷ holds (hex "424353 0002 0013 08 04 1000  01 0005 A0000000D1") ∷ [])
     ∷ []
 
 -- calls on a store of version 2: entries stand from byte 11, and every call leaves the limits
 abbrev callRows : List Row
 callRows =
     steps "used counts eleven opening bytes" (write (limited 8 4 4096) 64 []) (
-    create (replicate 16 0xA0) gives 0 used 30
-    ∷ create (replicate 16 0xA1) gives 0 used 49
-    ∷ create (replicate 13 0xA2) gives 21 used 49
-    ∷ create (replicate 12 0xA2) gives 0 used 64
+    create full (replicate 16 0xA0) gives 0 used 30
+    ∷ create full (replicate 16 0xA1) gives 0 used 49
+    ∷ create full (replicate 13 0xA2) gives 21 used 49
+    ∷ create full (replicate 12 0xA2) gives 0 used 64
     ∷ delete (replicate 16 0xA0) gives 0 used 45
     ∷ [])
     ∷ steps "creation, load, query, removal, deletion" (write (limited 3 2 0x0304) 128 []) (
-    create D2 gives 0 used 19
-    ∷ create D1 gives 0 used 27
+    create full D2 gives 0 used 19
+    ∷ create full D1 gives 0 used 27
     ∷ load D1 library gives 0 used 97
     ∷ query D1 P1 0 0x0001 says 0 yes true
     ∷ query D2 P1 0 0x0001 says 0 yes false
@@ -148,17 +148,17 @@ nine = hex "42504B 0001 003D  05A000000101  00  00  0000  09  00 00 00  00 01 00
 
 -- a store of 256 bytes that opens so and holds it
 abbrev nineIn : Opening → Bytes
-nineIn v = write v 256 (domain D1 ∷ loaded D1 nine ∷ [])
+nineIn v = write v 256 (domain full D1 ∷ loaded D1 nine ∷ [])
 
 -- soundness reads the limits of the store
 abbrev soundRows : List Row
 soundRows =
-    steps "a stored depth of 9 within 9" (nineIn (limited 9 1 1)) (create D2 answers 0 ∷ [])
-    ∷ steps "a stored depth of 9 within 8: 2" (nineIn (limited 8 4 4096)) (create D2 answers 2 ∷ [])
-    ∷ steps "the same entries in a store of version 1: 2" (nineIn version1) (create D2 answers 2 ∷ [])
-    ∷ steps "a stored class with 5 parents within 5" (write (limited 8 5 1) 256 (domain D1 ∷ loaded D1 (hex "42504B 0001 0022  05A000000101  00  00  0000  02  01 00 00  00 05 0000 0000 0000 0000 0000 00") ∷ [])) (create D2 answers 0 ∷ [])
-    ∷ steps "a stored class with 5 parents within 4: 2" (write (limited 8 4 1) 256 (domain D1 ∷ loaded D1 (hex "42504B 0001 0022  05A000000101  00  00  0000  02  01 00 00  00 05 0000 0000 0000 0000 0000 00") ∷ [])) (create D2 answers 2 ∷ [])
-    ∷ steps "a stored code of 2 bytes within 1: 2" (write (limited 8 4 1) 256 (domain D1 ∷ loaded D1 (hex "42504B 0001 001D  05A000000101  00  00  0000  01  00 00 01  60 0001 00 0002 7A7A") ∷ [])) (create D2 answers 2 ∷ [])
+    steps "a stored depth of 9 within 9" (nineIn (limited 9 1 1)) (create full D2 answers 0 ∷ [])
+    ∷ steps "a stored depth of 9 within 8: 2" (nineIn (limited 8 4 4096)) (create full D2 answers 2 ∷ [])
+    ∷ steps "the same entries in a store of version 1: 2" (nineIn version1) (create full D2 answers 2 ∷ [])
+    ∷ steps "a stored class with 5 parents within 5" (write (limited 8 5 1) 256 (domain full D1 ∷ loaded D1 (hex "42504B 0001 0022  05A000000101  00  00  0000  02  01 00 00  00 05 0000 0000 0000 0000 0000 00") ∷ [])) (create full D2 answers 0 ∷ [])
+    ∷ steps "a stored class with 5 parents within 4: 2" (write (limited 8 4 1) 256 (domain full D1 ∷ loaded D1 (hex "42504B 0001 0022  05A000000101  00  00  0000  02  01 00 00  00 05 0000 0000 0000 0000 0000 00") ∷ [])) (create full D2 answers 2 ∷ [])
+    ∷ steps "a stored code of 2 bytes within 1: 2" (write (limited 8 4 1) 256 (domain full D1 ∷ loaded D1 (hex "42504B 0001 001D  05A000000101  00  00  0000  01  00 00 01  60 0001 00 0002 7A7A") ∷ [])) (create full D2 answers 2 ∷ [])
     ∷ []
 
 -- the rows of this file

@@ -4,7 +4,7 @@ use Prim.Native.String.{String}
 use mathlib.Core.Bool.{true, false}
 use mathlib.Core.List.{List, [], _∷_, _++_}
 use Rattle.rules.specs.Bytes.{Bytes, Aid}
-use Rattle.rules.specs.Store.{version1, Entry, domain, loaded, write}
+use Rattle.rules.specs.Store.{version1, full, Entry, domain, loaded, write}
 use Rattle.rules.specs.Operations.{Operation, create, load, remove}
 use Rattle.rules.specs.CasesForm.{hex, query, _answers_, _says_yes_, Row, steps}
 use Rattle.rules.specs.CasesFiles.{D1, D2, P1, P2, alone}
@@ -19,7 +19,7 @@ allowsFour = hex "42504B 0001 0032  05A000000101  03 05A0000000D2 05A0000000D3 0
 
 -- a file loaded beside P1, which lies in D1
 abbrev beside : Bytes → String → Aid → String → ℕ → Row
-beside p name d t k = steps name (write version1 256 (domain D1 ∷ domain D2 ∷ loaded D1 p ∷ [])) (load d (hex t) answers k ∷ [])
+beside p name d t k = steps name (write version1 256 (domain full D1 ∷ domain full D2 ∷ loaded D1 p ∷ [])) (load d (hex t) answers k ∷ [])
 
 abbrev besideOwn : String → Aid → String → ℕ → Row
 besideOwn = beside allowsOwn
@@ -88,9 +88,9 @@ longer =
 -- the query, and a package that lies elsewhere later
 abbrev queries : List Row
 queries =
-    steps "a query of FE" (write version1 256 (domain D1 ∷ domain D2 ∷ loaded D1 allowsOwn ∷ [])) (query D1 P1 0 0x0001 says 0 yes true ∷ query D2 P1 0 0x0001 says 0 yes false ∷ query P1 P1 0 0x0001 says 0 yes false ∷ [])
-    ∷ steps "loaded anew, FE is the other domain" (write version1 256 (domain D1 ∷ domain D2 ∷ loaded D1 allowsOwn ∷ [])) (remove P1 answers 0 ∷ load D2 allowsOwn answers 0 ∷ query D1 P1 0 0x0001 says 0 yes false ∷ query D2 P1 0 0x0001 says 0 yes true ∷ [])
-    ∷ steps "a query of FE among indexes" (write version1 256 (domain D1 ∷ loaded D1 allowsFour ∷ [])) (query D1 P1 0 0x0007 says 0 yes true ∷ query D2 P1 0 0x0007 says 0 yes true ∷ query P2 P1 0 0x0007 says 0 yes false ∷ [])
+    steps "a query of FE" (write version1 256 (domain full D1 ∷ domain full D2 ∷ loaded D1 allowsOwn ∷ [])) (query D1 P1 0 0x0001 says 0 yes true ∷ query D2 P1 0 0x0001 says 0 yes false ∷ query P1 P1 0 0x0001 says 0 yes false ∷ [])
+    ∷ steps "loaded anew, FE is the other domain" (write version1 256 (domain full D1 ∷ domain full D2 ∷ loaded D1 allowsOwn ∷ [])) (remove P1 answers 0 ∷ load D2 allowsOwn answers 0 ∷ query D1 P1 0 0x0001 says 0 yes false ∷ query D2 P1 0 0x0001 says 0 yes true ∷ [])
+    ∷ steps "a query of FE among indexes" (write version1 256 (domain full D1 ∷ loaded D1 allowsFour ∷ [])) (query D1 P1 0 0x0007 says 0 yes true ∷ query D2 P1 0 0x0007 says 0 yes true ∷ query P2 P1 0 0x0007 says 0 yes false ∷ [])
     ∷ []
 
 -- P1: static 1 allowing FE and D2. P2 imports P1: static 1, allowing D1 and FE, calls P1's by 8D.
@@ -102,10 +102,10 @@ callingOwn = hex "42504B 0001 0031  05A000000102  01 05A0000000D1  01 05A0000001
 
 -- the calls that install them in two domains, and the ledger after these (proofs/WitnessOwn)
 abbrev pub installingOwn : List Operation
-installingOwn = create D1 ∷ create D2 ∷ load D1 calledOwn ∷ load D2 callingOwn ∷ []
+installingOwn = create full D1 ∷ create full D2 ∷ load D1 calledOwn ∷ load D2 callingOwn ∷ []
 
 abbrev pub ownPackages : List Entry
-ownPackages = domain D1 ∷ domain D2 ∷ loaded D1 calledOwn ∷ loaded D2 callingOwn ∷ []
+ownPackages = domain full D1 ∷ domain full D2 ∷ loaded D1 calledOwn ∷ loaded D2 callingOwn ∷ []
 
 -- the rows of this file
 abbrev pub own : List Row

@@ -1,7 +1,7 @@
 -- Rows of the table of cases: what the questions do and do not ask. Assumes nothing.
 use mathlib.Core.Bool.{true, false}
 use mathlib.Core.List.{List, [], _∷_, _++_}
-use Rattle.rules.specs.Store.{version1, domain, loaded, write}
+use Rattle.rules.specs.Store.{version1, full, domain, loaded, write}
 use Rattle.rules.specs.Operations.{create, delete, load, remove}
 use Rattle.rules.specs.CasesForm.{hex, times, query, _answers_, _gives_used_, _says_yes_, holds, Row, steps}
 use Rattle.rules.specs.CasesFiles.{D1, D2, P1, P2, bare, importer, library, domainsOnly, withLibrary, alone, beside}
@@ -13,16 +13,16 @@ stored =
     ∷ steps "9: an inherited name does not" withLibrary (load D1 (hex "42504B 0001 001D  05A000000102  00  01 05A000000101  0000  01  00 01 0100 00") answers 0 ∷ query D1 P2 0 0x0003 says 9 yes false ∷ [])
     ∷ steps "a query allows no other domain" withLibrary (query D1 P1 0 0x0003 says 0 yes true ∷ query D2 P1 0 0x0003 says 0 yes false ∷ query P1 P1 0 0x0003 says 0 yes false ∷ [])
     ∷ steps "a refused query says no" withLibrary (query D1 P1 0 0x0009 says 9 yes false ∷ query D1 P2 0 0x0002 says 7 yes false ∷ [])
-    ∷ steps "an accepted query leaves every byte" (write version1 64 (domain D1 ∷ loaded D1 bare ∷ [])) (query D1 P1 0 0x0001 says 9 yes false ∷ holds (hex "424353 0001 002A  01 0005 A0000000D1  02 0018 05A0000000D1" ++ bare) ∷ [])
+    ∷ steps "an accepted query leaves every byte" (write version1 64 (domain full D1 ∷ loaded D1 bare ∷ [])) (query D1 P1 0 0x0001 says 9 yes false ∷ holds (hex "424353 0001 002A  01 0005 A0000000D1  02 0018 05A0000000D1" ++ bare) ∷ [])
     ∷ steps "installed in another domain: 12" withLibrary (load D2 bare answers 12 ∷ [])
-    ∷ steps "6: a domain in a policy does not count" (write version1 256 (domain D1 ∷ domain D2 ∷ loaded D2 library ∷ [])) (delete D1 answers 0 ∷ delete D2 answers 6 ∷ [])
-    ∷ steps "8: what a package itself imports does not count" (write version1 128 (domain D1 ∷ loaded D1 bare ∷ loaded D1 importer ∷ [])) (remove P2 answers 0 ∷ [])
-    ∷ steps "13: one of two imports missing" (write version1 128 (domain D1 ∷ loaded D1 bare ∷ [])) (load D1 (hex "42504B 0001 001E  05A000000102  00  02 05A000000101 05A000000103  0000  00") answers 13 ∷ load D1 (hex "42504B 0001 001E  05A000000102  00  02 05A000000103 05A000000101  0000  00") answers 13 ∷ [])
-    ∷ steps "a creation is put last" (write version1 64 []) (create D1 answers 0 ∷ create D2 answers 0 ∷ holds (hex "424353 0001 0017  01 0005 A0000000D1  01 0005 A0000000D2") ∷ [])
-    ∷ steps "an AID and a longer one that it begins" (write version1 64 []) (create D1 answers 0 ∷ create (hex "A0000000D100") answers 0 ∷ delete D1 answers 0 ∷ create D1 answers 0 ∷ [])
-    ∷ steps "a load is put last" (write version1 64 (domain D1 ∷ [])) (load D1 bare answers 0 ∷ holds (hex "424353 0001 002A  01 0005 A0000000D1  02 0018 05A0000000D1" ++ bare) ∷ [])
-    ∷ steps "refusals leave every byte" (write version1 64 (domain D1 ∷ [])) (create D1 answers 4 ∷ load D1 [] answers 10 ∷ delete D2 answers 5 ∷ remove P1 answers 7 ∷ holds (hex "424353 0001 000F  01 0005 A0000000D1") ∷ [])
-    ∷ steps "used of 256 bytes and more" (write version1 512 (domain D1 ∷ loaded D1 library ∷ [])) (load D1 (hex "42504B 0001 00D2  05A000000102  20" ++ times 32 (hex "05A0000000D1") ++ hex "00  0000  00") gives 0 used 304 ∷ remove P2 gives 0 used 85 ∷ [])
+    ∷ steps "6: a domain in a policy does not count" (write version1 256 (domain full D1 ∷ domain full D2 ∷ loaded D2 library ∷ [])) (delete D1 answers 0 ∷ delete D2 answers 6 ∷ [])
+    ∷ steps "8: what a package itself imports does not count" (write version1 128 (domain full D1 ∷ loaded D1 bare ∷ loaded D1 importer ∷ [])) (remove P2 answers 0 ∷ [])
+    ∷ steps "13: one of two imports missing" (write version1 128 (domain full D1 ∷ loaded D1 bare ∷ [])) (load D1 (hex "42504B 0001 001E  05A000000102  00  02 05A000000101 05A000000103  0000  00") answers 13 ∷ load D1 (hex "42504B 0001 001E  05A000000102  00  02 05A000000103 05A000000101  0000  00") answers 13 ∷ [])
+    ∷ steps "a creation is put last" (write version1 64 []) (create full D1 answers 0 ∷ create full D2 answers 0 ∷ holds (hex "424353 0001 0017  01 0005 A0000000D1  01 0005 A0000000D2") ∷ [])
+    ∷ steps "an AID and a longer one that it begins" (write version1 64 []) (create full D1 answers 0 ∷ create full (hex "A0000000D100") answers 0 ∷ delete D1 answers 0 ∷ create full D1 answers 0 ∷ [])
+    ∷ steps "a load is put last" (write version1 64 (domain full D1 ∷ [])) (load D1 bare answers 0 ∷ holds (hex "424353 0001 002A  01 0005 A0000000D1  02 0018 05A0000000D1" ++ bare) ∷ [])
+    ∷ steps "refusals leave every byte" (write version1 64 (domain full D1 ∷ [])) (create full D1 answers 4 ∷ load D1 [] answers 10 ∷ delete D2 answers 5 ∷ remove P1 answers 7 ∷ holds (hex "424353 0001 000F  01 0005 A0000000D1") ∷ [])
+    ∷ steps "used of 256 bytes and more" (write version1 512 (domain full D1 ∷ loaded D1 library ∷ [])) (load D1 (hex "42504B 0001 00D2  05A000000102  20" ++ times 32 (hex "05A0000000D1") ++ hex "00  0000  00") gives 0 used 304 ∷ remove P2 gives 0 used 85 ∷ [])
     ∷ []
 
 -- files by questions 14 to 20
@@ -62,7 +62,7 @@ files =
     ∷ alone "20: an unimplemented n allows less, and none runs"
     "42504B 0001 002C  05A000000101  01 05A0000000D1  00  0000  02  00 00 01  40 0007 0100 0001 7A  00 01 0000 01  00 0007 00" 0
     ∷ alone "20: an unimplemented n ends the search" "42504B 0001 0031  05A000000101  01 05A0000000D1  00  0000  03  00 00 01  40 0007 00 0001 7A  00 01 0000 01  00 0007 0100  00 01 0001 00" 0
-    ∷ steps "20: n two packages up" (write version1 256 (domain D1 ∷ loaded D1 (hex "42504B 0001 0023  05A000000101  01 05A0000000D1  00  0000  01  00 00 01  40 0007 0100 0001 7A") ∷ loaded D1 (hex "42504B 0001 001D  05A000000102  00  01 05A000000101  0000  01  00 01 0100 00") ∷ [])) (load D1 (hex "42504B 0001 0024  05A000000103  00  01 05A000000102  0000  01  00 01 0100 01  40 0007 00 0001 7A") answers 20 ∷ [])
+    ∷ steps "20: n two packages up" (write version1 256 (domain full D1 ∷ loaded D1 (hex "42504B 0001 0023  05A000000101  01 05A0000000D1  00  0000  01  00 00 01  40 0007 0100 0001 7A") ∷ loaded D1 (hex "42504B 0001 001D  05A000000102  00  01 05A000000101  0000  01  00 01 0100 00") ∷ [])) (load D1 (hex "42504B 0001 0024  05A000000103  00  01 05A000000102  0000  01  00 01 0100 01  40 0007 00 0001 7A") answers 20 ∷ [])
     ∷ []
 
 -- the rows of this file

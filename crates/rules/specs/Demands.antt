@@ -16,11 +16,11 @@ use Rattle.rules.specs.Classes.{installed, allows}
 use Rattle.rules.specs.Questions.{q1-size, methodQueried}
 use Rattle.rules.specs.Operations.{Question, queryQuestions, sound, entries, Operation, create, delete, load, remove, questions, freshQuestions}
 
--- Create: 1 to 4, 21. Delete: 1 to 3, 5, 6. Load: 1 to 3, 5, 10 to 17, 24, 18 to 21. Remove: 1 to 3, 7, 8
+-- Create: 1 to 4, 21. Delete: 1 to 3, 5, 6. Load: 1 to 3, 5, 10 to 17, 24, 26, 18 to 21. Remove: 1 to 3, 7, 8
 abbrev pub refusalsOf : Operation → List ℕ
-refusalsOf (create a) = 1 ∷ 2 ∷ 3 ∷ 4 ∷ 21 ∷ []
+refusalsOf (create k a) = 1 ∷ 2 ∷ 3 ∷ 4 ∷ 21 ∷ []
 refusalsOf (delete a) = 1 ∷ 2 ∷ 3 ∷ 5 ∷ 6 ∷ []
-refusalsOf (load d f) = 1 ∷ 2 ∷ 3 ∷ 5 ∷ 10 ∷ 11 ∷ 12 ∷ 13 ∷ 14 ∷ 15 ∷ 16 ∷ 17 ∷ 24 ∷ 18 ∷ 19 ∷ 20 ∷ 21 ∷ []
+refusalsOf (load d f) = 1 ∷ 2 ∷ 3 ∷ 5 ∷ 10 ∷ 11 ∷ 12 ∷ 13 ∷ 14 ∷ 15 ∷ 16 ∷ 17 ∷ 24 ∷ 26 ∷ 18 ∷ 19 ∷ 20 ∷ 21 ∷ []
 refusalsOf (remove a) = 1 ∷ 2 ∷ 3 ∷ 7 ∷ 8 ∷ []
 
 -- Fresh: 1; with limits 1, 30. Query: 1 to 3, 7, 9
@@ -55,7 +55,7 @@ numbersIn (q ∷ qs) = q .0 ∷ numbersIn qs
 
 -- the operation is no load, or its file reads in that store
 abbrev pub HasFile : Bytes → Operation → Type 0
-HasFile s (create a) = Unit {0}
+HasFile s (create k a) = Unit {0}
 HasFile s (delete a) = Unit {0}
 HasFile s (load d f) = (p : Package) × (readFile (storeLimits s) f ≡ some p)
 HasFile s (remove a) = Unit {0}

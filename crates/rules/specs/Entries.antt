@@ -1,6 +1,7 @@
--- The store: its opening, its entries and its layout (document 01, "The store"; document 02, wish 12). Assumes nothing.
+-- The store: its opening, its entries and its layout (document 01, "The store"; document 02, wishes 9 and 12). Assumes nothing.
 -- Opening           == what a store opens with: version 1, or version 2 with its limits; openingLimits v == the limits of such a store
--- Entry             == a domain's AID (kind 1); a loading domain's AID and a package file (kind 2)
+-- DomainKind        == kind 1, and kind 3, a domain whose packages keep to the subset without int
+-- Entry             == a domain's kind and AID (kinds 1 and 3); a loading domain's AID and a package file (kind 2)
 -- entryBytes e      == kind u1, body length u2, body
 -- openingLength v   == the opening bytes, 7 or 11; used v es == bytes from the start, the opening ones included
 -- write v n es      == the buffer of n bytes that the layout gives
@@ -26,16 +27,24 @@ openingLimits (version2 l) = l
 abbrev pub openingRange : Opening → Bool
 openingRange v = limitsRange (openingLimits v)
 
+-- a domain of kind 1, or of kind 3, whose packages keep to the subset without int
+pub data DomainKind : Type 0 where
+  full withoutInt : DomainKind
+
 pub data Entry : Type 0 where
-  domain : Aid → Entry
+  domain : DomainKind → Aid → Entry
   loaded : Aid → Bytes → Entry
 
+abbrev pub domainByte : DomainKind → ℕ
+domainByte full = 1
+domainByte withoutInt = 3
+
 abbrev pub kindByte : Entry → ℕ
-kindByte (domain a) = 1
+kindByte (domain k a) = domainByte k
 kindByte (loaded d f) = 2
 
 abbrev pub body : Entry → Bytes
-body (domain a) = a
+body (domain k a) = a
 body (loaded d f) = length d ∷ d ++ f
 
 abbrev pub entryBytes : Entry → Bytes

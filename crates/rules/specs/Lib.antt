@@ -1,6 +1,7 @@
--- Document 01 and requests 5, 2, 7 and 12 of document 02 as definitions, in document 01's order.
+-- Document 01 and requests 5, 2, 7, 12 and 9 of document 02 as definitions, in document 01's order.
 pub mod Bytes
 pub mod Code
+pub mod Subset
 pub mod Table
 pub mod Limits
 pub mod Package
@@ -17,6 +18,7 @@ pub mod Unbounded
 pub mod Allowing
 pub mod Called
 pub mod Splitting
+pub mod Barred
 pub mod CasesForm
 pub mod CasesFiles
 pub mod CasesNumbers
@@ -29,5 +31,7 @@ pub mod CasesDepths
 pub mod CasesOwn
 pub mod CasesHandlers
 pub mod CasesOpening
+pub mod CasesSubset
+pub mod CasesKinds
 pub mod Cases
 pub mod CasesCalls

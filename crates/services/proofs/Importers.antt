@@ -56,7 +56,7 @@ importer-is l a d g b p e q = rw e (sym (q l p e))
 pub used-any : (l : Limits) (es : List Entry) (a : Aid) → AllRead l es → not (q8-unused (installed l es) a) ≡ any (importer l a) es
 unfolding q8-unused
 used-any l [] a h = refl
-used-any l (domain b ∷ es) a h = used-any l es a (h .1)
+used-any l (domain k b ∷ es) a h = used-any l es a (h .1)
 used-any l (loaded d f ∷ es) a h = rw (h .0 .1) (go (same a (h .0 .0 .aid)) (any (same a) (h .0 .0 .imports)) (used-any l es a (h .1)))
   where
     rest : Bool

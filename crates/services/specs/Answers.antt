@@ -44,7 +44,7 @@ abbrev pub OtherSays : Bytes → Aid → Bool → Type 0
 OtherSays g a r = (l : Limits) (p : Package) → readFile l g ≡ some p → r ≡ otherImports a p
 
 abbrev pub importer : Limits → Aid → Entry → Bool
-importer l a (domain b) = false
+importer l a (domain k b) = false
 importer l a (loaded d f) = someAnd (readFile l f) (otherImports a)
 
 -- 8, of whatever entries whose files read end at place k

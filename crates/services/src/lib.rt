@@ -7,7 +7,7 @@ use store::Spot as Place;
 ghost use mathlib.Core.Path.{_≡_};
 ghost use Prim.Native.Nat.{_+_, _*_};
 ghost use Rattle.rules.specs.Bytes.{pick};
-ghost use Rattle.rules.specs.Store.{storeLimits};
+ghost use Rattle.rules.specs.Store.{DomainKind, storeLimits};
 ghost use Rattle.rules.specs.Operations.{create, delete, remove, isDomain, isPackage, queryNumber, queryYes};
 ghost use Rattle.files.specs.Say.{Readable};
 ghost use Rattle.store.specs.Entries.{FilesStand};
@@ -111,10 +111,10 @@ fn file_allows(g: &[u8], own: &[u8], class: usize, name: usize, domain: &[u8]) -
     }
 }
 
-// Create: 3, 4, 21.
+// Create, a domain of either kind: 3, 4, 21.
 pub fn create_answer(s: &[u8], used: usize, domain: &[u8]) -> u32
     requires { ⌜ SoundAt (now s) used ⌝ }
-    ensures { λ r. ⌜ Asked (now (s .entry)) used (create (now (domain .entry))) r ⌝ }
+    ensures { λ r. ⌜ ((k : DomainKind) → Asked (now (s .entry)) used (create k (now (domain .entry))) r) ⌝ }
 {
     if !cursor::length_ok(domain) {
         return 3;

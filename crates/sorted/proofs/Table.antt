@@ -29,13 +29,13 @@ equal-or a b = go (eqb a b) refl
     go false e = inr (eqb-false a b e)
 
 -- where the AID of a domain stands, and that of a package
-pub key-place-domain : (s : Bytes) (p : ℕ) → getD s p 0 ≡ 1 → keyPlace s p ≡ p + 2
+pub key-place-domain : (s : Bytes) (p : ℕ) → (getD s p 0 ≡ 2 → ⊥) → keyPlace s p ≡ p + 2
 unfolding keyPlace
-key-place-domain s p e = rw (eq-eqb (getD s p 0) 1 e) refl
+key-place-domain s p e = rw (ne-eqb (getD s p 0) 2 e) refl
 
-pub key-place-package : (s : Bytes) (p : ℕ) → (getD s p 0 ≡ 1 → ⊥) → keyPlace s p ≡ p + 11 + getD s (p + 3) 0
+pub key-place-package : (s : Bytes) (p : ℕ) → getD s p 0 ≡ 2 → keyPlace s p ≡ p + 11 + getD s (p + 3) 0
 unfolding keyPlace
-key-place-package s p e = rw (ne-eqb (getD s p 0) 1 e) refl
+key-place-package s p e = rw (eq-eqb (getD s p 0) 2 e) refl
 
 -- the AID as a part of the bytes
 pub key-part : (s : Bytes) (p i w : ℕ) → i ≡ keyPlace s p → w ≡ getD s i 0 → part s (i + 1) (i + 1 + w) ≡ keyAt s p

@@ -30,9 +30,9 @@ below [] (y ∷ ys) = true
 below (x ∷ xs) [] = false
 below (x ∷ xs) (y ∷ ys) = pick (eqb x y) (below xs ys) (ltb x y)
 
--- kind 1: the low byte of the body's length; else place 7 of the file, which stands behind the loading domain's AID
+-- kind 2: place 7 of the file, which stands behind the loading domain's AID; else the low byte of the body's length
 unfoldable pub keyPlace : Bytes → ℕ → ℕ
-keyPlace s p = pick (eqb (getD s p 0) 1) (p + 2) (p + 11 + getD s (p + 3) 0)
+keyPlace s p = pick (eqb (getD s p 0) 2) (p + 11 + getD s (p + 3) 0) (p + 2)
 
 -- the bytes behind their length
 abbrev pub aidAt : Bytes → ℕ → Aid

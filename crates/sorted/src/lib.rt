@@ -36,7 +36,7 @@ fn key_place(s: &[u8], p: usize) -> usize
     requires { ⌜ p + 3 < length (now s) ⌝ }
     ensures { λ r. ⌜ r ≡ keyPlace (now (s .entry)) p ⌝ }
 {
-    if s[p] == 1 {
+    if s[p] != 2 {
         return p + 2;
     }
     p + 11 + wide(s[p + 3])

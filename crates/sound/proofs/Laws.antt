@@ -11,8 +11,9 @@ use borrow.Author.Tests.{le-leb}
 use lib.ListN.{length, replicate}
 use Rattle.rules.specs.Bytes.{Bytes, Aid, pick, _andThen_}
 use Rattle.rules.specs.Code.{u2At}
+use Rattle.rules.specs.Limits.{Limits}
 use Rattle.rules.specs.Store.{Entry, domain, loaded, used, entriesOf, firstEntry, storeLimits, storeOpening}
-use Rattle.rules.specs.Questions.{q1-size, q3-lengths}
+use Rattle.rules.specs.Questions.{q1-size, q3-lengths, q5-created}
 use Rattle.rules.specs.Operations.{acceptedAll, soundEntries, sound, entries, load, number, questions, firstNo, loadQuestions}
 use Rattle.rules.proofs.Tests.{and-l, and-r, is-true, of-true}
 use Rattle.store.specs.Entries.{Entries, StandFrom, Holds}
@@ -31,7 +32,7 @@ use Rattle.depths.proofs.Kept.{depths-start}
 use Rattle.chains.specs.Names.{namesLength}
 use Rattle.running.specs.Walk.{seenLength}
 use Rattle.domains.specs.Domains.{domainAccepted, domainsAccepted, AllSay}
-use Rattle.domains.proofs.Split.{all-domains, domains-append}
+use Rattle.domains.proofs.Split.{all-domains, kept-reads, domains-append}
 use Rattle.homes.specs.Found.{Indexed}
 use Rattle.judge.proofs.Packages.{indexed}
 use Rattle.judge.specs.Says.{usedAt, DomainYes, DomainsYes, PackagesSay, LoadSays, numberOf}
@@ -42,14 +43,19 @@ use Rattle.sound.specs.Says.{LaidAt, Unopened, JudgedSays}
 -- the domains of entries that question 2 goes through
 pub domains-yes : (s : Bytes) (u : ℕ) → AllSay s u true → DomainsYes s u
 domains-yes s u h es pre post e r are =
-    let all : domainsAccepted [] (pre ++ e ∷ post) ≡ true = ap (domainsAccepted []) (sym are) ∙ sym (h es r) in
-    let split : T (domainsAccepted [] pre && domainsAccepted pre (e ∷ post)) = of-true (sym (domains-append [] pre (e ∷ post)) ∙ all) in
-    let here : T (domainAccepted pre e && domainsAccepted (pre ++ e ∷ []) post) = and-r (domainsAccepted [] pre) (domainsAccepted pre (e ∷ post)) split in
-    one e (and-l (domainAccepted pre e) (domainsAccepted (pre ++ e ∷ []) post) here)
+    let all : domainsAccepted l [] (pre ++ e ∷ post) ≡ true = ap (domainsAccepted l []) (sym are) ∙ sym (h es r) in
+    let split : T (domainsAccepted l [] pre && domainsAccepted l pre (e ∷ post)) = of-true (sym (domains-append l [] pre (e ∷ post)) ∙ all) in
+    let here : T (domainAccepted l pre e && domainsAccepted l (pre ++ e ∷ []) post) = and-r (domainsAccepted l [] pre) (domainsAccepted l pre (e ∷ post)) split in
+    one e (and-l (domainAccepted l pre e) (domainsAccepted l (pre ++ e ∷ []) post) here)
   where
-    one : (e : Entry) → T (domainAccepted pre e) → DomainYes pre e
-    one (domain a) t = (and-l (q3-lengths (a ∷ [])) _ t, and-r (q3-lengths (a ∷ [])) _ t)
-    one (loaded d f) t = (and-l (q3-lengths (d ∷ [])) _ t, and-r (q3-lengths (d ∷ [])) _ t)
+    l : Limits
+    l = storeLimits s
+
+    one : (e : Entry) → T (domainAccepted l pre e) → DomainYes l pre e
+    one (domain k a) t = (and-l (q3-lengths (a ∷ [])) _ t, and-r (q3-lengths (a ∷ [])) _ t)
+    one (loaded d f) t =
+        let five = and-r (q3-lengths (d ∷ [])) _ t in
+        (and-l (q3-lengths (d ∷ [])) _ t, and-l (q5-created pre d) _ five, λ p e. kept-reads l pre d f p e (and-r (q5-created pre d) _ five))
 
 -- the table of depths, by the bits of a depth: three where the depth limit is 8 or less, never more than four
 pub shallow-length : (s : Bytes) → storeLimits s .depth ≤ 8 → depthsLength s ≡ length s / 5 * 3 / 8 + 2
@@ -143,7 +149,7 @@ module _ (s : Bytes) where
             (λ t. all-domains (storeOpening s) (length s) [] es t) in
             unopened-2 (rw (size, reads) no)
           where
-            go : (b : Bool) → (T b → T (domainsAccepted [] es)) → b ≡ false
+            go : (b : Bool) → (T b → T (domainsAccepted (storeLimits s) [] es)) → b ≡ false
             go false k = refl
             go true k = absurd (subst T (sym (h es stand)) (k tt))
 

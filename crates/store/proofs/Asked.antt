@@ -10,12 +10,12 @@ use lib.ListN.{length, length-append}
 use borrow.Author.Tests.{le-leb}
 use Rattle.rules.specs.Bytes.{Bytes, Aid, within, pick, any, all, isSome, someAnd, same}
 use Rattle.rules.specs.Package.{Limits, Package, readFile}
-use Rattle.rules.specs.Store.{Entry, domain, loaded, entryBytes, used, firstEntry, storeLimits, storeOpening}
+use Rattle.rules.specs.Store.{full, withoutInt, Entry, domain, loaded, entryBytes, used, firstEntry, storeLimits, storeOpening}
 use Rattle.rules.specs.Classes.{Installed, installed, byAid}
-use Rattle.rules.specs.Questions.{q1-size, domains, q5-created, q6-empty, q7-installed, q21-fits}
+use Rattle.rules.specs.Questions.{q1-size, domains, q5-created, q6-empty, q7-installed, keepsSubset, q21-fits}
 use Rattle.rules.specs.Operations.{isDomain, isPackage}
 use Rattle.rules.proofs.Tests.{and-l, and-r, of-true}
-use Rattle.store.specs.Entries.{part, EntryAt, Entries, placeOf, FileReads, AllRead, ownAid, liesIn, PackageAt}
+use Rattle.store.specs.Entries.{part, EntryAt, Entries, placeOf, FileReads, AllRead, ownAid, liesIn, isWithoutInt, PackageAt}
 use Rattle.store.specs.Answers.{FileSays}
 use Rattle.store.specs.declared.FileSpot.the-variants.{File, Missing}
 use Rattle.store.proofs.Stand.{entry-next, entries-next}
@@ -33,18 +33,26 @@ size-is s h =
 -- 5. a domain that has been created has an entry
 pub domains-any : (a : Aid) (es : List Entry) → any (same a) (domains es) ≡ any (isDomain a) es
 domains-any a [] = refl
-domains-any a (domain b ∷ es) = ap (λ (t : Bool). same a b || t) (domains-any a es)
+domains-any a (domain k b ∷ es) = ap (λ (t : Bool). same a b || t) (domains-any a es)
 domains-any a (loaded d f ∷ es) = domains-any a es
 
 pub created-place : (i : ℕ) (es : List Entry) (a : Aid) → q5-created es a ≡ isSome (placeOf (isDomain a) i es)
 unfolding q5-created
 created-place i es a = domains-any a es ∙ sym (place-any (isDomain a) i es)
 
+-- 26. a kind-3 domain has an entry of kind 3
+pub subset-any : (a : Aid) (es : List Entry) → keepsSubset es a ≡ any (isWithoutInt a) es
+unfolding keepsSubset
+subset-any a [] = refl
+subset-any a (domain full b ∷ es) = subset-any a es
+subset-any a (domain withoutInt b ∷ es) = ap (λ (t : Bool). same a b || t) (subset-any a es)
+subset-any a (loaded d f ∷ es) = subset-any a es
+
 -- 6. a package lies in the domain
 pub in-use : (l : Limits) (es : List Entry) (a : Aid) → AllRead l es → not (q6-empty (installed l es) a) ≡ any (liesIn a) es
 unfolding q6-empty
 in-use l [] a h = refl
-in-use l (domain b ∷ es) a h = in-use l es a (h .1)
+in-use l (domain k b ∷ es) a h = in-use l es a (h .1)
 in-use l (loaded d f ∷ es) a h = rw (h .0 .1) (go (same a d) (in-use l es a (h .1)))
   where
     go : (b : Bool) → not (all (λ (i : Installed). not (same a (i .domain))) (installed l es)) ≡ any (liesIn a) es → not
@@ -56,7 +64,7 @@ in-use l (loaded d f ∷ es) a h = rw (h .0 .1) (go (same a d) (in-use l es a (h
 module _ (l : Limits) (a : Aid) where
   pub by-aid-skip : (ps rs : List Entry) → any (isPackage l a) ps ≡ false → byAid (installed l (ps ++ rs)) a ≡ byAid (installed l rs) a
   by-aid-skip [] rs h = refl
-  by-aid-skip (domain b ∷ ps) rs h = by-aid-skip ps rs h
+  by-aid-skip (domain k b ∷ ps) rs h = by-aid-skip ps rs h
   by-aid-skip (loaded d f ∷ ps) rs h = go (readFile l f) refl (by-aid-skip ps rs)
     where
       go : (o : Option Package) → readFile l f ≡ o → (any (isPackage l a) ps ≡ false → byAid (installed l (ps ++ rs)) a ≡ byAid (installed l rs) a) →
@@ -78,7 +86,7 @@ module _ (l : Limits) (a : Aid) where
 
   -- the package of an entry that the test finds
   pub package-is : (e : Entry) → isPackage l a e ≡ true → (d f : Bytes) × (p : Package) × (e ≡ loaded d f) × (readFile l f ≡ some p) × (same a (p .aid) ≡ true)
-  package-is (domain b) h = let z : _≡_ {A = ℕ} 0 1 = cc in absurd (omega arith)
+  package-is (domain k b) h = let z : _≡_ {A = ℕ} 0 1 = cc in absurd (omega arith)
   package-is (loaded d f) h = go (readFile l f) refl h
     where
       go : (o : Option Package) → readFile l f ≡ o → someAnd o (λ p. same a (p .aid)) ≡ true → (d₁ f₁ : Bytes) × (p : Package) ×
@@ -89,7 +97,7 @@ module _ (l : Limits) (a : Aid) where
   pub installed-any : (es : List Entry) → q7-installed (installed l es) a ≡ any (isPackage l a) es
   unfolding q7-installed
   installed-any [] = refl
-  installed-any (domain b ∷ es) = installed-any es
+  installed-any (domain k b ∷ es) = installed-any es
   installed-any (loaded d f ∷ es) = go (readFile l f) refl (installed-any es)
     where
       go : (o : Option Package) → readFile l f ≡ o → isSome (byAid (installed l es) a) ≡ any (isPackage l a) es → isSome
@@ -103,11 +111,11 @@ module _ (l : Limits) (a : Aid) where
 
 -- a package by the AID that stands in its file
 abbrev pub namedBy : Aid → Entry → Bool
-namedBy a (domain b) = false
+namedBy a (domain k b) = false
 namedBy a (loaded d f) = same a (ownAid f)
 
 pub named-is : (l : Limits) (a : Aid) (e : Entry) → FileReads l e → namedBy a e ≡ isPackage l a e
-named-is l a (domain b) h = refl
+named-is l a (domain k b) h = refl
 named-is l a (loaded d f) h = rw (h .1) (ap (same a) ((own-by l f (h .0) (h .1)) .is))
 
 pub named-place : (l : Limits) (a : Aid) (i : ℕ) (es : List Entry) → AllRead l es → placeOf (namedBy a) i es ≡ placeOf (isPackage l a) i es

@@ -9,12 +9,12 @@ use lib.Dec.{leb, eqb}
 use lib.ListN.{length, take, drop, getD, length-drop, drop-of-length-le}
 use lib.Seq.{length-take-le}
 use borrow.Author.Tests.{eq-eqb, ne-eqb}
-use Rattle.rules.specs.Bytes.{Bytes, all, isSome, same}
+use Rattle.rules.specs.Bytes.{Bytes, Aid, all, isSome, same}
 use Rattle.rules.specs.Code.{u2At}
-use Rattle.rules.specs.Store.{Entry, entryOf, storeMark, isZero}
+use Rattle.rules.specs.Store.{DomainKind, full, withoutInt, Entry, domain, domainByte, entryOf, storeMark, isZero}
 use Rattle.rules.proofs.Tests.{of-true}
 use Rattle.rules.proofs.Lists.{some-is}
-use Rattle.store.specs.Entries.{part, Entries, over, StandFrom}
+use Rattle.store.specs.Entries.{part, kindOf, kindAt, Entries, over, StandFrom, isWithoutInt}
 use Rattle.store.specs.Answers.{NextSays}
 use Rattle.store.specs.declared.Next.the-variants.{To, Never}
 use Rattle.store.proofs.Parts.{drop-one}
@@ -68,11 +68,12 @@ pub zero-end : (s : Bytes) (i g : ℕ) → length s ≤ i → (eqb g 0 && all is
 zero-end s i g h = ap (λ (t : Bytes). eqb g 0 && all isZero t) (drop-of-length-le s {i = i} h) ∙ and-true (eqb g 0)
 
 -- kind and body
-pub body-domain : (k : ℕ) (b : Bytes) → k ≡ 1 → true ≡ isSome (entryOf k b)
-body-domain k b e = rw e
+pub body-domain : (n : ℕ) (b : Bytes) (k : DomainKind) → n ≡ domainByte k → true ≡ isSome (entryOf n b)
+body-domain n b full e = rw e
+body-domain n b withoutInt e = rw e
 
-pub body-other : (k : ℕ) (b : Bytes) → (k ≡ 1 → ⊥) → (k ≡ 2 → ⊥) → false ≡ isSome (entryOf k b)
-body-other k b e f = rw (ne-eqb k 1 e, ne-eqb k 2 f)
+pub body-other : (k : ℕ) (b : Bytes) → (k ≡ 1 → ⊥) → (k ≡ 3 → ⊥) → (k ≡ 2 → ⊥) → false ≡ isSome (entryOf k b)
+body-other k b e f g = rw (ne-eqb k 1 e, ne-eqb k 2 g, ne-eqb k 3 f)
 
 pub body-nil : (k : ℕ) (s : Bytes) (n : ℕ) → (k ≡ 2) → n ≡ 0 → false ≡ isSome (entryOf k (take n s))
 body-nil k s n e h = rw (e, h)
@@ -145,3 +146,12 @@ fill-done s at i k e f = subst (λ (n : ℕ). StandFrom s at n) e f
 -- a test does not both fail and pass
 pub not-both : (b : Bool) → b ≡ false → b ≡ true → ⊥
 not-both b e f = let z : _≡_ {A = ℕ} 0 1 = cc in omega arith
+
+-- the kind of a domain by its byte
+pub other-kind : (s : Bytes) (i : ℕ) (a b : Aid) → (getD s i 0 ≡ 3 → ⊥) → false ≡ isWithoutInt a (domain (kindAt s i) b)
+unfolding kindOf
+other-kind s i a b h = rw (ne-eqb (getD s i 0) 3 h) refl
+
+pub third-kind : (s : Bytes) (i : ℕ) (a b : Aid) → getD s i 0 ≡ 3 → same a b ≡ isWithoutInt a (domain (kindAt s i) b)
+unfolding kindOf
+third-kind s i a b h = rw h refl

@@ -9,11 +9,11 @@ use lib.ListN.{length, getD}
 use Rattle.rules.specs.Bytes.{Bytes, any}
 use Rattle.rules.specs.Code.{u2At}
 use Rattle.rules.specs.Store.{Entry, domain, loaded, firstEntry, storeLimits}
-use Rattle.store.specs.Entries.{part, EntryAt, Entries, StandFrom, FirstIs, placeOf, FileReads, AllRead}
+use Rattle.store.specs.Entries.{part, kindAt, EntryAt, Entries, StandFrom, FirstIs, placeOf, FileReads, AllRead}
 use Rattle.store.specs.Answers.{PartAt}
 use Rattle.store.specs.declared.EntryPart.{EntryPart}
 use Rattle.store.specs.declared.EntryPart.the-variants.{Domain, Package, AtEnd}
-use Rattle.store.proofs.Stand.{KindBy, kind1, kind2, entry-by, kind-by, entries-to, entries-front, entries-over, entry-one}
+use Rattle.store.proofs.Stand.{KindBy, domainBy, loadedBy, not-loaded, entry-by, kind-by, entries-to, entries-front, entries-over, entry-one}
 use Rattle.store.proofs.Walk.{Walk, walk-found, walk-more, walk-none, walk-reads, first-later}
 
 -- the entry at a place
@@ -25,7 +25,7 @@ module _ (s : Bytes) (i k : ℕ) (ne : i ≡ k → ⊥) where
       let y = entry-by s i (x .one) (x .place) (x .stands) in
       omega (arith, y .next, y .to)
 
-  pub part-loaded : (getD s i 0 ≡ 1 → ⊥) → StandFrom s i k → (i + 4 ≤ length s) × (i + 4 + getD s (i + 3) 0 ≤ length s)
+  pub part-loaded : getD s i 0 ≡ 2 → StandFrom s i k → (i + 4 ≤ length s) × (i + 4 + getD s (i + 3) 0 ≤ length s)
   part-loaded n f =
       let b = entries-to s i (f .0) k (f .1) in
       let x = entries-front s i (f .0) k (omega arith) (f .1) in
@@ -33,8 +33,8 @@ module _ (s : Bytes) (i k : ℕ) (ne : i ≡ k → ⊥) where
       go (kind-by s i (x .one) (x .place) y) (y .to)
     where
       go : {e : Entry} {j : ℕ} → KindBy s i e j → j ≤ length s → (i + 4 ≤ length s) × (i + 4 + getD s (i + 3) 0 ≤ length s)
-      go (kind1 h z) l = absurd (n h)
-      go (kind2 h) l = (omega (arith, h .length), omega (arith, h .inside))
+      go (domainBy h) l = absurd (not-loaded (kindAt s i) (sym (h .kind) ∙ n))
+      go (loadedBy h) l = (omega (arith, h .length), omega (arith, h .inside))
 
   module _ (n : ℕ) (h : n ≡ u2At s (i + 1)) where
     -- the first of the entries, where it is known from its bytes
@@ -52,25 +52,25 @@ module _ (s : Bytes) (i k : ℕ) (ne : i ≡ k → ⊥) where
           after = subst (λ (m : ℕ). Entries s m (x .others) k) j (x .rest);
         }
 
-    pub part-domain : getD s i 0 ≡ 1 → PartAt s i k (Domain (i + 3) (i + 3 + n))
-    part-domain d es r = (omega arith, first es r (domain (part s (i + 3) (i + 3 + n))) known)
+    pub part-domain : (getD s i 0 ≡ 2 → ⊥) → PartAt s i k (Domain (i + 3) (i + 3 + n))
+    part-domain d es r = (omega arith, first es r (domain (kindAt s i) (part s (i + 3) (i + 3 + n))) known)
       where
-        known : (e : Entry) → KindBy s i e (i + 3 + n) → e ≡ domain (part s (i + 3) (i + 3 + n))
-        known e (kind1 a z) = z
-        known e (kind2 a) = absurd (omega (arith, a .kind))
+        known : (e : Entry) → KindBy s i e (i + 3 + n) → e ≡ domain (kindAt s i) (part s (i + 3) (i + 3 + n))
+        known e (domainBy a) = a .is
+        known e (loadedBy a) = absurd (d (a .kind))
 
-    pub part-package : (m : ℕ) → m ≡ getD s (i + 3) 0 → (getD s i 0 ≡ 1 → ⊥) → PartAt s i k (Package (i + 4) (i + 4 + m) (i + 3 + n))
+    pub part-package : (m : ℕ) → m ≡ getD s (i + 3) 0 → getD s i 0 ≡ 2 → PartAt s i k (Package (i + 4) (i + 4 + m) (i + 3 + n))
     part-package m q d es r =
         let f = first es r (loaded (part s (i + 4) (i + 4 + m)) (part s (i + 4 + m) (i + 3 + n))) known in
         (omega arith, inside (kind-by s i _ _ (entry-by s i _ _ (f .stands))), f)
       where
         known : (e : Entry) → KindBy s i e (i + 3 + n) → e ≡ loaded (part s (i + 4) (i + 4 + m)) (part s (i + 4 + m) (i + 3 + n))
-        known e (kind1 a z) = absurd (d a)
-        known e (kind2 a) = rw q (a .is)
+        known e (domainBy a) = absurd (not-loaded (kindAt s i) (sym (a .kind) ∙ d))
+        known e (loadedBy a) = rw q (a .is)
 
         inside : {e : Entry} {j : ℕ} → KindBy s i e j → i + 4 + m ≤ j
-        inside (kind1 a z) = absurd (d a)
-        inside (kind2 a) = omega (arith, a .inside)
+        inside (domainBy a) = absurd (not-loaded (kindAt s i) (sym (a .kind) ∙ d))
+        inside (loadedBy a) = omega (arith, a .inside)
 
 pub part-end : (s : Bytes) (i k : ℕ) → i ≡ k → PartAt s i k AtEnd
 part-end s i k e es r = (entries-over s i es k (omega arith) r, e)
@@ -97,13 +97,13 @@ module _ {q : Entry → Bool} {s : Bytes} {k i : ℕ} (w : Walks q s k i) where
       let l = first-later (x .2) in
       (x .0, x .1, omega arith, l .0, l .1)
 
-  pub walks-domain : {a j : ℕ} → PartAt s i k (Domain a j) → q (domain (part s a j)) ≡ false → Walks q s k j
+  pub walks-domain : {a j : ℕ} → PartAt s i k (Domain a j) → q (domain (kindAt s i) (part s a j)) ≡ false → Walks q s k j
   walks-domain {a} {j} p h es r = let v = w es r in walk-more v ((p (v .rest) (v .from)) .1) h
 
   pub walks-package : {a m j : ℕ} → PartAt s i k (Package a m j) → q (loaded (part s a m) (part s m j)) ≡ false → Walks q s k j
   walks-package {a} {m} {j} p h es r = let v = w es r in walk-more v ((p (v .rest) (v .from)) .2) h
 
-  pub found-domain : {a j : ℕ} → PartAt s i k (Domain a j) → q (domain (part s a j)) ≡ true → (es : List Entry) → Entries s (firstEntry s) es k →
+  pub found-domain : {a j : ℕ} → PartAt s i k (Domain a j) → q (domain (kindAt s i) (part s a j)) ≡ true → (es : List Entry) → Entries s (firstEntry s) es k →
       placeOf q (firstEntry s) es ≡ some (i, j)
   found-domain {a} {j} p h es r = let v = w es r in walk-found v ((p (v .rest) (v .from)) .1) h
 

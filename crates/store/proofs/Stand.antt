@@ -10,10 +10,10 @@ use lib.Dec.{eqb, eqb→eq}
 use lib.ListN.{length, drop, getD, length-append, drop-of-length-le}
 use Rattle.rules.specs.Bytes.{Bytes, _andThen_, span}
 use Rattle.rules.specs.Code.{u2At}
-use Rattle.rules.specs.Store.{Entry, domain, loaded, entryBytes, entriesBytes, loadedBody, entryOf, entry}
+use Rattle.rules.specs.Store.{DomainKind, full, withoutInt, Entry, domain, loaded, domainByte, entryBytes, entriesBytes, loadedBody, entryOf, entry}
 use Rattle.rules.proofs.Tests.{none-some, and-then-is, of-true}
 use Rattle.rules.proofs.Back.{entry-is}
-use Rattle.store.specs.Entries.{part, EntryAt, Entries, over, more}
+use Rattle.store.specs.Entries.{part, kindOf, kindAt, EntryAt, Entries, over, more}
 use Rattle.store.proofs.Parts.{drop-one, part-cons, part-nil, part-length, span-drop, drop-span, span-part, drop-same}
 
 -- an entry by its bytes: kind, body length and body
@@ -98,13 +98,29 @@ pub record LoadedBy (s : Bytes) (i : ℕ) (e : Entry) (j : ℕ) : Type 0 where
   pub inside : i + 4 + getD s (i + 3) 0 ≤ j
   pub is : e ≡ loaded (part s (i + 4) (i + 4 + getD s (i + 3) 0)) (part s (i + 4 + getD s (i + 3) 0) j)
 
+-- a domain's entry: its kind byte, and its AID behind the length
+pub record DomainBy (s : Bytes) (i : ℕ) (e : Entry) (j : ℕ) : Type 0 where
+  pub kind : getD s i 0 ≡ domainByte (kindAt s i)
+  pub is : e ≡ domain (kindAt s i) (part s (i + 3) j)
+
 -- an entry's kind
 pub data KindBy (s : Bytes) (i : ℕ) (e : Entry) (j : ℕ) : Type 0 where
-  kind1 : getD s i 0 ≡ 1 → e ≡ domain (part s (i + 3) j) → KindBy s i e j
-  kind2 : LoadedBy s i e j → KindBy s i e j
+  domainBy : DomainBy s i e j → KindBy s i e j
+  loadedBy : LoadedBy s i e j → KindBy s i e j
+
+-- no kind of domains has the byte of a package
+pub not-loaded : (k : DomainKind) → domainByte k ≡ 2 → ⊥
+not-loaded full e = omega arith
+not-loaded withoutInt e = omega arith
+
+-- the kind byte of each kind of domains stands for it
+pub kind-back : (k : DomainKind) → kindOf (domainByte k) ≡ k
+unfolding kindOf
+kind-back full = refl
+kind-back withoutInt = refl
 
 pub kind-by : (s : Bytes) (i : ℕ) (e : Entry) (j : ℕ) → EntryBy s i e j → KindBy s i e j
-kind-by s i e j t = go (eqb (getD s i 0) 1) refl (eqb (getD s i 0) 2) refl (t .is)
+kind-by s i e j t = go (eqb (getD s i 0) 1) refl (eqb (getD s i 0) 2) refl (eqb (getD s i 0) 3) refl (t .is)
   where
     second : getD s i 0 ≡ 2 → loadedBody (part s (i + 3) j) ≡ some e → KindBy s i e j
     second k q = elim (decLe j (i + 3)) [
@@ -116,13 +132,21 @@ kind-by s i e j t = go (eqb (getD s i 0) 1) refl (eqb (getD s i 0) 2) refl (t .i
           at q in
           let x = and-then-is (span (getD s (i + 3) 0) (part s (i + 4) j)) _ e r in
           let p = span-part s (i + 4) j (getD s (i + 3) 0) (x .0) (omega arith) (t .to) (x .1) in
-          kind2 (record { kind = k; length = omega arith; inside = p .0; is = sym (Option·some-injective _ _ (x .2)) ∙ ap₂ loaded (sym (p .1)) (sym (p .2)) })
+          loadedBy (record { kind = k; length = omega arith; inside = p .0; is = sym (Option·some-injective _ _ (x .2)) ∙ ap₂ loaded (sym (p .1)) (sym (p .2)) })
     ]
 
-    go : (b : Bool) → eqb (getD s i 0) 1 ≡ b → (c : Bool) → eqb (getD s i 0) 2 ≡ c → entryOf (getD s i 0) (part s (i + 3) j) ≡ some e → KindBy s i e j
-    go true b c c′ q = kind1 (eqb→eq (getD s i 0) 1 (of-true b)) (sym (Option·some-injective _ _ (rw b at q)))
-    go false b true c q = second (eqb→eq (getD s i 0) 2 (of-true c)) (rw (b, c) at q)
-    go false b false c q = absurd (none-some (rw (b, c) at q))
+    -- the entry of a domain whose kind has this byte
+    of-domain : (k : DomainKind) → getD s i 0 ≡ domainByte k → domain k (part s (i + 3) j) ≡ e → KindBy s i e j
+    of-domain k b q =
+        let z : kindAt s i ≡ k = ap kindOf b ∙ kind-back k in
+        domainBy (record { kind = b ∙ ap domainByte (sym z); is = sym q ∙ ap (λ (x : DomainKind). domain x (part s (i + 3) j)) (sym z) })
+
+    go : (b : Bool) → eqb (getD s i 0) 1 ≡ b → (c : Bool) → eqb (getD s i 0) 2 ≡ c → (d : Bool) → eqb (getD s i 0) 3 ≡ d →
+        entryOf (getD s i 0) (part s (i + 3) j) ≡ some e → KindBy s i e j
+    go true b c c′ d d′ q = of-domain full (eqb→eq (getD s i 0) 1 (of-true b)) (Option·some-injective _ _ (rw b at q))
+    go false b true c d d′ q = second (eqb→eq (getD s i 0) 2 (of-true c)) (rw (b, c) at q)
+    go false b false c true d q = of-domain withoutInt (eqb→eq (getD s i 0) 3 (of-true d)) (Option·some-injective _ _ (rw (b, c, d) at q))
+    go false b false c false d q = absurd (none-some (rw (b, c, d) at q))
 
 -- places
 pub entry-next : (s : Bytes) (i : ℕ) (e : Entry) (j : ℕ) → EntryAt s i e j → i + length (entryBytes e) ≡ j

@@ -8,6 +8,7 @@
 -- FileAt s k a r            == the package of an AID, among the entries that end at place k
 -- InUse s k a r             == whether a package lies in the domain, among the entries that end at place k
 -- Fits s u e r              == question 21, of whatever entries end at place u
+-- SubsetSays s k a r        == whether the domain is of kind 3, among the entries that end at place k
 use Prim.Native.Nat.{ℕ, _≤_}
 use mathlib.Core.Path.{_≡_}
 use mathlib.Core.Bool.{Bool, true, false, not}
@@ -17,9 +18,9 @@ use lib.ListN.{length}
 use Rattle.rules.specs.Bytes.{Bytes, Aid, _andThen_}
 use Rattle.rules.specs.Store.{Entry, domain, loaded, used, firstEntry, storeLimits, entriesOf, storeOpening}
 use Rattle.rules.specs.Classes.{installed, byAid}
-use Rattle.rules.specs.Questions.{q6-empty, q21-fits}
+use Rattle.rules.specs.Questions.{q6-empty, keepsSubset, q21-fits}
 use Rattle.rules.specs.Operations.{isPackage}
-use Rattle.store.specs.Entries.{part, Holds, EntryAt, Entries, FirstIs, placeOf, AllRead, PackageAt}
+use Rattle.store.specs.Entries.{part, kindAt, Holds, EntryAt, Entries, FirstIs, placeOf, AllRead, PackageAt}
 use Rattle.store.specs.declared.Layout.{Layout}
 use Rattle.store.specs.declared.Layout.the-variants.{Used, Broken}
 use Rattle.store.specs.declared.Next.{Next}
@@ -52,7 +53,7 @@ FillSays s i k false = (es : List Entry) → Entries s i es k → ⊥
 
 -- the first entry of those that stand from place i up to place k
 abbrev pub PartSays : Bytes → ℕ → ℕ → List Entry → EntryPart → Type 0
-PartSays s i k es (Domain a j) = (a ≤ j) × FirstIs s i (domain (part s a j)) j k es
+PartSays s i k es (Domain a j) = (a ≤ j) × FirstIs s i (domain (kindAt s i) (part s a j)) j k es
 PartSays s i k es (Package a f j) = (a ≤ f) × (f ≤ j) × FirstIs s i (loaded (part s a f) (part s f j)) j k es
 PartSays s i k es AtEnd = (es ≡ []) × (i ≡ k)
 
@@ -85,3 +86,7 @@ InUse s k a r = (es : List Entry) → Entries s (firstEntry s) es k → AllRead 
 -- 21, of whatever entries end at place u
 abbrev pub Fits : Bytes → ℕ → Entry → Bool → Type 0
 Fits s u e r = (es : List Entry) → used (storeOpening s) es ≡ u → r ≡ q21-fits (storeOpening s) (length s) es e
+
+-- the domain is of kind 3, among whatever entries end at place k
+abbrev pub SubsetSays : Bytes → ℕ → Aid → Bool → Type 0
+SubsetSays s k a r = (es : List Entry) → Entries s (firstEntry s) es k → r ≡ keepsSubset es a

@@ -1,6 +1,7 @@
 -- The entries of a buffer at their places. Assumes nothing.
 --
 -- part s i j          == the bytes from place i up to place j
+-- kindOf b, kindAt s i == the kind of domains that a kind byte stands for, and the one at place i
 -- EntryAt s i e j     == the entry e stands from place i up to place j
 -- Entries s i es j    == the entries es stand back to back from place i up to place j
 -- StandFrom s i j     == entries stand from place i up to place j
@@ -10,21 +11,30 @@
 -- AllRead l es        == the file of each loaded entry reads within the limits l
 -- ownAid f            == a file's own AID, by its place
 -- liesIn a e          == e is a package that lies in the domain a
+-- isWithoutInt a e    == e is a kind-3 domain with the AID a
 use Prim.Native.Nat.{ℕ, _+_, _-_, _≤_, _<_}
 use mathlib.Core.Path.{_≡_}
 use mathlib.Core.Bool.{Bool, false}
 use mathlib.Core.List.{List, [], _∷_}
 use mathlib.Core.Option.{Option, none, some}
+use lib.Dec.{eqb}
 use lib.ListN.{length, take, drop, getD}
 use Rattle.rules.specs.Bytes.{Bytes, Aid, pick, same}
 use Rattle.rules.specs.Package.{Limits, Package, readFile}
-use Rattle.rules.specs.Store.{Entry, domain, loaded, entryBytes, used, write, entry, entriesOf, firstEntry, storeLimits, storeOpening}
+use Rattle.rules.specs.Store.{DomainKind, full, withoutInt, Entry, domain, loaded, entryBytes, used, write, entry, entriesOf, firstEntry, storeLimits, storeOpening}
 use Rattle.rules.specs.Classes.{Installed, installed, byAid}
 use Rattle.rules.specs.Operations.{isPackage}
 
 -- the bytes from place i up to place j
 abbrev pub part : Bytes → ℕ → ℕ → Bytes
 part s i j = take (j - i) (drop i s)
+
+-- the kind of domains that a kind byte other than 2 stands for, and the one at a place
+unfoldable pub kindOf : ℕ → DomainKind
+kindOf b = pick (eqb b 3) withoutInt full
+
+abbrev pub kindAt : Bytes → ℕ → DomainKind
+kindAt s i = kindOf (getD s i 0)
 
 -- the entry e stands from place i up to place j
 pub record EntryAt (s : Bytes) (i : ℕ) (e : Entry) (j : ℕ) : Type 0 where
@@ -64,7 +74,7 @@ placeOf q i (e ∷ es) = pick (q e) (some (i, i + length (entryBytes e))) (place
 
 -- the file of a loaded entry reads
 abbrev pub FileReads : Limits → Entry → Type 0
-FileReads l (domain a) = Unit {0}
+FileReads l (domain k a) = Unit {0}
 FileReads l (loaded d f) = (p : Package) × (readFile l f ≡ some p)
 
 -- the file of each loaded entry reads
@@ -82,8 +92,14 @@ ownAid f = part f 8 (8 + getD f 7 0)
 
 -- a package that lies in the domain a
 abbrev pub liesIn : Aid → Entry → Bool
-liesIn a (domain b) = false
+liesIn a (domain k b) = false
 liesIn a (loaded d f) = same a d
+
+-- a kind-3 domain with the AID a
+abbrev pub isWithoutInt : Aid → Entry → Bool
+isWithoutInt a (domain full b) = false
+isWithoutInt a (domain withoutInt b) = same a b
+isWithoutInt a (loaded d f) = false
 
 -- the package of an AID: its entry stands from place i, its file from place j up to place k
 pub record PackageAt (s : Bytes) (es : List Entry) (a : Aid) (i j k : ℕ) : Type 0 where

@@ -1,5 +1,6 @@
 // The store by its bytes: its opening, layout, entries at their places, what would fit.
 pub mod openings;
+pub mod subset;
 
 use openings::Opening;
 use openings::first_entry;
@@ -8,7 +9,7 @@ ghost use mathlib.Core.Option.{some};
 ghost use Prim.Native.Nat.{max, _+_, _<_, _≤_};
 ghost use lib.ListN.{length, getD, take, drop};
 ghost use Rattle.rules.specs.Bytes.{all, isSome, same};
-ghost use Rattle.rules.specs.Store.{Entry, domain, loaded, isZero, entryOf, openingOf, storeOpening, firstEntry};
+ghost use Rattle.rules.specs.Store.{DomainKind, Entry, domain, loaded, isZero, entryOf, openingOf, storeOpening, firstEntry};
 ghost use Rattle.rules.specs.Questions.{q1-size};
 ghost use Rattle.rules.specs.Operations.{isDomain};
 ghost use Rattle.store.specs.Entries.{StandFrom, FilesStand, ownAid};
@@ -82,6 +83,9 @@ fn body_reads(s: &[u8], at: usize, n: usize) -> bool
     ensures { λ r. ⌜ r ≡ isSome (entryOf (getD (now (s .entry)) at 0) (take n (drop (at + 3) (now (s .entry))))) ⌝ }
 {
     if s[at] == 1 {
+        return true;
+    }
+    if s[at] == 3 {
         return true;
     }
     if s[at] != 2 {
@@ -174,7 +178,7 @@ pub fn entry_at(s: &[u8], at: usize, end: usize) -> EntryPart
         return EntryPart::AtEnd;
     }
     let next = at + 3 + fields::u2_at(s, at + 1);
-    if s[at] == 1 {
+    if s[at] != 2 {
         return EntryPart::Domain(at + 3, next);
     }
     EntryPart::Package(at + 4, at + 4 + fields::wide(s[at + 3]), next)
@@ -261,10 +265,10 @@ pub fn domain_in_use(s: &[u8], end: usize, aid: &[u8]) -> bool
     }
 }
 
-// 21. Does a domain's entry fit?
+// 21. Does a domain's entry fit, of either kind?
 pub fn domain_fits(s: &[u8], end: usize, aid: &[u8]) -> bool
     requires { ⌜ end ≤ length (now s) ⌝ }
-    ensures { λ r. ⌜ Fits (now (s .entry)) end (domain (now (aid .entry))) r ⌝ }
+    ensures { λ r. ⌜ ((k : DomainKind) → Fits (now (s .entry)) end (domain k (now (aid .entry))) r) ⌝ }
 {
     let free = s.len() - end;
     if free < 3 {

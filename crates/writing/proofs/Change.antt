@@ -8,7 +8,7 @@ use lib.ListN.{length, take, drop, set, replicate, length-append, length-replica
 use lib.Seq.{paste, length-paste, take-at, drop-at, length-take-le}
 use borrow.Author.Tests.{leb-true}
 use Rattle.rules.specs.Bytes.{Bytes, Aid, high, low}
-use Rattle.rules.specs.Store.{Opening, version1, version2, Entry, domain, loaded, body, entryBytes, entriesBytes, storeVersion, storeMark, limitsBytes, openingLength, used, write, storeOpening, firstEntry}
+use Rattle.rules.specs.Store.{Opening, version1, version2, DomainKind, domainByte, Entry, domain, loaded, body, entryBytes, entriesBytes, storeVersion, storeMark, limitsBytes, openingLength, used, write, storeOpening, firstEntry}
 use Rattle.rules.specs.Questions.{q21-fits}
 use Rattle.rules.proofs.Lists.{flat-append}
 use Rattle.rules.proofs.Limits.{first-entry}
@@ -151,7 +151,7 @@ room-by {s} {u} {e} r =
     let h = leb-true (used (storeOpening s) (r .laid .0) + length (entryBytes e)) (length s) (r .fits) in
     record { from = omega (arith, first-entry s, r .laid .2); to = omega (arith, r .laid .2); small = r .small }
 
-pub domain-room : {s : Bytes} {u : ℕ} {a : Aid} → Room s u (domain a) → RoomBy s u (length a)
+pub domain-room : {s : Bytes} {u : ℕ} {k : DomainKind} {a : Aid} → Room s u (domain k a) → RoomBy s u (length a)
 domain-room r = room-by r
 
 pub package-room : {s : Bytes} {u : ℕ} {d f : Bytes} → Room s u (loaded d f) → RoomBy s u (1 + length d + length f)
@@ -211,16 +211,17 @@ cut-is s t u i j k c n h es q reads place =
     ∙ ap (write v (length s)) (sym (f .left))
 
 -- a domain appended: kind and length, the AID, the used field
-pub domain-appended : (s s₁ s₂ t : Bytes) (u : ℕ) (a : Aid) → Room s u (domain a) →
-    s₁ ≡ paste s u (1 ∷ two (length a)) 3 → s₂ ≡ paste s₁ (u + 3) a (length a) → t ≡ paste s₂ 5 (two (u + 3 + length a)) 2 → Appended s t (domain a)
-domain-appended s s₁ s₂ t u a r e₁ e₂ e₃ =
+pub domain-appended : (s s₁ s₂ t : Bytes) (u n : ℕ) (k : DomainKind) (a : Aid) → Room s u (domain k a) → domainByte k ≡ n →
+    s₁ ≡ paste s u (n ∷ two (length a)) 3 → s₂ ≡ paste s₁ (u + 3) a (length a) → t ≡ paste s₂ 5 (two (u + 3 + length a)) 2 → Appended s t (domain k a)
+domain-appended s s₁ s₂ t u n k a r e e₁ e₂ e₃ =
     let b = room-by r in
-    let h₃ : Bytes = 1 ∷ two (length a) in
+    let h₃ : Bytes = n ∷ two (length a) in
     let q₂ : s₂ ≡ paste s u (h₃ ++ a) (3 + length a) = e₂ ∙ ap (λ (x : Bytes). paste x (u + 3) a (length a)) e₁ ∙ paste-join s u h₃ a 3 (length a)
     (omega (arith, b .to)) refl refl in
     let v : u + 3 + length a ≡ u + (3 + length a) = omega arith in
     let l : length (h₃ ++ a) ≡ 3 + length a = omega arith in
-    appended-is s t u (domain a) (h₃ ++ a) (3 + length a) r refl l (e₃ ∙ ap₂ (λ (x : Bytes) (k : ℕ). paste x 5 (two k) 2) q₂ v)
+    let w : h₃ ++ a ≡ entryBytes (domain k a) = ap (λ (m : ℕ). m ∷ two (length a) ++ a) (sym e) in
+    appended-is s t u (domain k a) (h₃ ++ a) (3 + length a) r w l (e₃ ∙ ap₂ (λ (x : Bytes) (m : ℕ). paste x 5 (two m) 2) q₂ v)
 
 -- a package appended: kind and length, the domain's length, the domain, the file, the used field
 pub package-appended : (s s₁ s₂ s₃ t : Bytes) (u : ℕ) (d f : Bytes) → Room s u (loaded d f) →

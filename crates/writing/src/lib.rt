@@ -8,9 +8,10 @@ ghost use lib.ListN.{length, drop, replicate};
 ghost use lib.Seq.{paste};
 ghost use Rattle.rules.specs.Bytes.{pick, high, low};
 ghost use Rattle.rules.specs.Limits.{limitsRange};
-ghost use Rattle.rules.specs.Store.{version1, version2, domain, loaded, write};
+ghost use Rattle.rules.specs.Store.{version1, version2, domain, loaded, domainByte, write};
 ghost use Rattle.rules.specs.Questions.{q30-limits};
 ghost use Rattle.cursor.specs.Limits.{limitsOf};
+ghost use Rattle.store.specs.Entries.{kindOf};
 ghost use Rattle.writing.specs.Changes.{limitsGiven, Emptied, Room, Appended, CutAt, CutOut};
 
 // Writes a u2 at a place.
@@ -119,13 +120,13 @@ pub fn write_fresh_limits(store: &mut [u8], depth: u8, parents: u8, code: u16) -
     true
 }
 
-// Writes a domain's entry behind the others.
-pub fn append_domain(store: &mut [u8], end: usize, aid: &[u8])
-    requires { ⌜ Room (now store) end (domain (now aid)) ⌝ }
-    ensures { λ _. ⌜ Appended (now (store .entry)) (now (store .exit)) (domain (now (aid .entry))) ⌝ }
+// Writes a domain's entry behind the others, of the kind with this byte.
+pub fn append_domain(store: &mut [u8], end: usize, kind: u8, aid: &[u8])
+    requires { ⌜ Room (now store) end (domain (kindOf kind) (now aid)) × (domainByte (kindOf kind) ≡ kind) ⌝ }
+    ensures { λ _. ⌜ Appended (now (store .entry)) (now (store .exit)) (domain (kindOf kind) (now (aid .entry))) ⌝ }
 {
     let n = aid.len();
-    put_head(store, end, 1, n);
+    put_head(store, end, kind, n);
     copy_in(store, end + 3, aid);
     put_u2(store, 5, end + 3 + n);
 }

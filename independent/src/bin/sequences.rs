@@ -1,10 +1,11 @@
 //! `sequences SEED COUNT`: runs generated sequences through the byte operations
 //! and the ledger side by side and prints how often each number was answered, how deep
-//! the accepted files were and how often FE, handlers and limits decided.
+//! the accepted files were and how often FE, handlers, limits and kinds of domains decided.
 
 use independent::depths::DepthCounts;
 use independent::generate::sequences::sequence;
 use independent::handler_counts::HandlerCounts;
+use independent::int_counts::IntCounts;
 use independent::ledger::{Call, Ledger};
 use independent::limit_counts::LimitCounts;
 use independent::loader::{damage, shrink, Independent, Loader, Sequence, Step};
@@ -12,25 +13,17 @@ use independent::own_domain::OwnCounts;
 use independent::questions::{q2, NUMBERS};
 use std::process::ExitCode;
 
-const OPERATIONS: [&str; 7] = [
-    "fresh",
-    "create",
-    "delete",
-    "load",
-    "remove",
-    "query",
-    "fresh_limits",
-];
 const GREATEST: u8 = NUMBERS[NUMBERS.len() - 1];
 
 #[derive(Default)]
 struct Counts {
-    answers: [[u64; GREATEST as usize + 1]; OPERATIONS.len()],
+    answers: [[u64; GREATEST as usize + 1]; Call::OPERATIONS.len()],
     with_ledger: u64,
     depths: DepthCounts,
     own: OwnCounts,
     handlers: HandlerCounts,
     limits: LimitCounts,
+    int: IntCounts,
     yes: u64,
 }
 
@@ -92,19 +85,11 @@ fn run(sequence: &Sequence, counts: &mut Counts) -> Result<(), (usize, String)> 
 
 /// Counts an answer; the store is as the call left it.
 fn count(counts: &mut Counts, call: &Call, answer: u32, store: &[u8]) {
-    let row = match call {
-        Call::Fresh => 0,
-        Call::Create(_) => 1,
-        Call::Delete(_) => 2,
-        Call::Load { .. } => 3,
-        Call::Remove(_) => 4,
-        Call::Query { .. } => 5,
-        Call::FreshLimits(_) => 6,
-    };
-    counts.answers[row][(answer & 0xFF) as usize] += 1;
+    counts.answers[call.operation()][(answer & 0xFF) as usize] += 1;
     counts.own.note(call, answer, store);
     counts.handlers.note(call, answer, store);
     counts.limits.note(call, answer, store);
+    counts.int.note(call, answer, store);
     match call {
         Call::Load { .. } if answer & 0xFF == 0 => counts.depths.note(answer >> 8, store),
         Call::Query { .. } => counts.yes += u64::from(answer >> 8),
@@ -114,20 +99,22 @@ fn count(counts: &mut Counts, call: &Call, answer: u32, store: &[u8]) {
 
 fn print_table(counts: &Counts) {
     println!("{} sequences followed by the ledger", counts.with_ledger);
-    print!("{:12}", "");
+    print!("{:18}", "");
     NUMBERS.iter().for_each(|number| print!("{number:>7}"));
     println!();
-    for (name, row) in OPERATIONS.iter().zip(&counts.answers) {
-        print!("{name:12}");
+    for (name, row) in Call::OPERATIONS.iter().zip(&counts.answers) {
+        print!("{name:18}");
         let answers = NUMBERS.map(|number| row[usize::from(number)]);
         answers.iter().for_each(|answers| print!("{answers:>7}"));
         println!();
     }
-    let loads: u64 = counts.answers[3].iter().sum();
-    let accepted = 100 * counts.answers[3][0] / loads.max(1);
+    let answers = &counts.answers[Call::LOAD];
+    let loads: u64 = answers.iter().sum();
+    let accepted = 100 * answers[0] / loads.max(1);
     println!("{accepted}% of {loads} loads accepted: {}", counts.depths);
     println!("{} queries answered yes", counts.yes);
     println!("{}\n{}\n{}", counts.own, counts.handlers, counts.limits);
+    println!("{}", counts.int);
 }
 
 /// A short sequence that shows the difference, in hex.
@@ -145,6 +132,9 @@ fn report(seed: u64, sequence: &Sequence) {
             Step::Call(Call::Fresh) => println!("fresh"),
             Step::Call(Call::FreshLimits(limits)) => println!("fresh {limits:?}"),
             Step::Call(Call::Create(domain)) => println!("create {}", hex(domain)),
+            Step::Call(Call::CreateWithoutInt(domain)) => {
+                println!("create without int {}", hex(domain));
+            }
             Step::Call(Call::Delete(domain)) => println!("delete {}", hex(domain)),
             Step::Call(Call::Load { domain, file }) => {
                 println!("load {} {}", hex(domain), hex(file));

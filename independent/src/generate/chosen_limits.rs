@@ -8,6 +8,7 @@ use super::random::Random;
 use super::scene::Scene;
 use crate::limits::{Limit, Limits, STANDARD_CODE};
 use crate::package::{MAX_CLASSES, MAX_IMPORTS};
+use crate::without_int::DomainKind;
 
 /// Limits in their ranges: the standard ones, the greatest, the least and others.
 pub fn good_limits(random: &mut Random) -> Limits {
@@ -45,22 +46,22 @@ pub fn number_out(random: &mut Random, limit: Limit) -> u16 {
     *random.pick(&[0, 0, 0, past, past, past, past + 1, far])
 }
 
-/// A file at one of the store's limits, one past it or near it.
-pub fn chosen_file(random: &mut Random, scene: &Scene, aid: &[u8]) -> FileModel {
+/// A file for a domain of this kind at one of the store's limits, one past it or near it.
+pub fn chosen_file(random: &mut Random, scene: &Scene, kind: DomainKind, aid: &[u8]) -> FileModel {
     let limits = scene.limits();
     let mut model = FileModel {
         aid: aid.to_vec(),
         ..FileModel::default()
     };
     match random.below(11) {
-        0..=3 => model = code_at(random, aid, limits.code.into()),
+        0..=3 => model = code_at(random, kind, aid, limits.code.into()),
         4..=5 => add_parents(random, scene, &mut model),
         6..=9 => {
             let most = limits.depth;
             let any = random.between(9.min(most.into()), most.into()) as u8;
             let depth = *random.pick(&[most, most + 1, any, any, any, any]);
-            let kind = random.below(2) as u8;
-            deepen(random, scene, &mut model, kind, depth);
+            let interface = random.below(2) as u8;
+            deepen(random, scene, &mut model, interface, depth);
         }
         _ => model = ladder_of(aid, limits, *random.pick(&[0, 1, 4])),
     }
@@ -71,7 +72,7 @@ pub fn chosen_file(random: &mut Random, scene: &Scene, aid: &[u8]) -> FileModel 
 }
 
 /// A code at the limit or past it, or at the ends of a range where limits are others.
-fn code_at(random: &mut Random, aid: &[u8], most: usize) -> FileModel {
+fn code_at(random: &mut Random, kind: DomainKind, aid: &[u8], most: usize) -> FileModel {
     let length = match random.below(10) {
         0 => most,
         1..=2 => most + 1,
@@ -83,7 +84,7 @@ fn code_at(random: &mut Random, aid: &[u8], most: usize) -> FileModel {
         }
     };
     if length > 0 && random.chance(20) {
-        return longest_file(random, aid, length);
+        return longest_file(random, kind, aid, length);
     }
     let mut model = FileModel {
         aid: aid.to_vec(),

@@ -1,8 +1,10 @@
 //! Codes that pass questions 16 and 17.
 
 use super::random::Random;
+use super::without_int::typed_instruction;
 use crate::code::{LENGTHS, NONE, SWITCH};
 use crate::package::{IMPLEMENTED, STATIC};
+use crate::without_int::{barred_at, DomainKind};
 
 /// An instruction, and the place and width of each branch offset in it.
 struct Piece {
@@ -17,18 +19,42 @@ impl Piece {
     }
 }
 
-/// A code with random instructions and these calls among them.
-pub fn valid_code(random: &mut Random, calls: &[Vec<u8>]) -> Vec<u8> {
+/// A code with random instructions that a domain of this kind takes, and these calls among
+/// them.
+pub fn valid_code(random: &mut Random, kind: DomainKind, calls: &[Vec<u8>]) -> Vec<u8> {
     let mut pieces: Vec<Piece> = Vec::new();
     for _ in 0..random.below(6) {
-        pieces.push(random_piece(random));
+        pieces.push(some_piece(random, kind));
     }
     for call in calls {
         let place = random.below(pieces.len() + 1);
         pieces.insert(place, Piece::plain(call.clone()));
     }
-    pieces.push(last_piece(random));
+    pieces.push(match kind {
+        DomainKind::WithInt => last_piece(random),
+        DomainKind::WithoutInt => not_barred(random, last_piece),
+    });
     assemble(random, pieces)
+}
+
+/// An instruction that a domain of this kind takes.
+fn some_piece(random: &mut Random, kind: DomainKind) -> Piece {
+    let typed = |random: &mut Random| Piece::plain(typed_instruction(random));
+    match kind {
+        DomainKind::WithInt => random_piece(random),
+        DomainKind::WithoutInt if random.chance(8) => not_barred(random, typed),
+        DomainKind::WithoutInt => not_barred(random, random_piece),
+    }
+}
+
+/// The first of these that is not barred.
+fn not_barred(random: &mut Random, make: impl Fn(&mut Random) -> Piece) -> Piece {
+    loop {
+        let piece = make(random);
+        if !barred_at(&piece.bytes, 0) {
+            return piece;
+        }
+    }
 }
 
 fn assemble(random: &mut Random, pieces: Vec<Piece>) -> Vec<u8> {

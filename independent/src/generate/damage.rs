@@ -1,4 +1,5 @@
-//! Damage to one byte of a policy, of a handler or of a store's opening.
+//! Damage to one byte of a store: of its opening, of an entry's kind, of a policy, of a
+//! handler, or any.
 
 use super::chosen_limits::number_out;
 use super::model::FileModel;
@@ -45,8 +46,42 @@ fn handler_damage(random: &mut Random, file: &[u8]) -> Option<(usize, u8)> {
     Some((low, *random.pick(&values)))
 }
 
+/// A byte of a store and what to put there, if the store has a place for it.
+type Damage = fn(&mut Random, &[u8]) -> Option<(usize, u8)>;
+
+/// Damages, and how many times in a hundred each is tried in turn.
+const DAMAGES: [(Damage, usize); 3] = [(opening_damage, 40), (kind_damage, 30), (store_damage, 50)];
+
+/// A place and the bits to flip there; so many bytes of the store are used.
+pub fn any_damage(random: &mut Random, store: &[u8], used: usize) -> (usize, u8) {
+    for (damage, percent) in DAMAGES {
+        if random.chance(percent) {
+            if let Some((place, byte)) = damage(random, store) {
+                return (place, byte ^ store[place]);
+            }
+        }
+    }
+    let limit = match random.chance(90) && used > 0 {
+        true => used,
+        false => store.len(),
+    };
+    (random.below(limit), 1 << random.below(8))
+}
+
+/// The kind of an entry of a store that is laid out well, mostly of a domain, and what to
+/// put there.
+fn kind_damage(random: &mut Random, bytes: &[u8]) -> Option<(usize, u8)> {
+    let mut entries = store::layout(bytes)?.entries;
+    if random.chance(85) {
+        entries.retain(|entry| matches!(entry.body, Body::Domain(..)));
+    }
+    let entry = random.pick_any(&entries)?;
+    let kind = *random.pick(&[0, 1, 2, 3, 3, 4, 4]);
+    Some((entry.bytes.start, kind))
+}
+
 /// A byte of the opening of a store of version 2, and what to put there.
-pub fn opening_damage(random: &mut Random, bytes: &[u8]) -> Option<(usize, u8)> {
+fn opening_damage(random: &mut Random, bytes: &[u8]) -> Option<(usize, u8)> {
     let StoreVersion::Second(limits) = StoreVersion::of(bytes)? else {
         return None;
     };
@@ -66,11 +101,11 @@ pub fn opening_damage(random: &mut Random, bytes: &[u8]) -> Option<(usize, u8)> 
     })
 }
 
-/// The same for a package of a store that is laid out well.
-pub fn store_damage(random: &mut Random, bytes: &[u8]) -> Option<(usize, u8)> {
+/// A byte of a package of a store that is laid out well, and what to put there.
+fn store_damage(random: &mut Random, bytes: &[u8]) -> Option<(usize, u8)> {
     let layout = store::layout(bytes)?;
     let packages = layout.entries.iter().filter_map(|entry| match entry.body {
-        Body::Domain(_) => None,
+        Body::Domain(..) => None,
         Body::Package { file, .. } => Some((entry.bytes.end - file.len(), file)),
     });
     let packages: Vec<(usize, &[u8])> = packages.collect();

@@ -6,8 +6,10 @@ use super::model::{set_size, ClassModel, FileModel, MethodModel};
 use super::random::Random;
 use super::scene::Scene;
 use super::spoiled_codes::{unlanded_code, unsplit_code};
+use super::without_int::plant_26;
 use crate::package::{Version, HEAD, MARK, MAX_CLASSES, MAX_DOMAINS, MAX_IMPORTS, MAX_REFERENCES};
 use crate::questions::asked_place;
+use crate::without_int::DomainKind;
 
 /// Bits of a visible implemented method.
 pub const BODY: u8 = 0xC0;
@@ -42,7 +44,8 @@ pub fn plant(
         18 => plant_18(random, scene, model),
         19 => plant_19(random, scene, domain, model),
         20 => plant_20(random, scene, domain, model),
-        24 => plant_24(random, model),
+        24 => plant_24(random, scene.kind(domain), model),
+        26 if scene.kind(domain) == DomainKind::WithoutInt => plant_26(random, model),
         _ => return false,
     }
     true

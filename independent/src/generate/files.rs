@@ -14,17 +14,23 @@ use super::valid::valid_file;
 use crate::package::{self, Version};
 use crate::questions::OF_A_FILE;
 use crate::store::StoreVersion;
+use crate::without_int::DomainKind;
 
 pub fn any_file(random: &mut Random, scene: &Scene, domain: &[u8]) -> Vec<u8> {
     let aid = new_aid(random, scene);
     let chosen = match scene.version {
-        StoreVersion::First => 6,
-        StoreVersion::Second(_) => 15,
+        StoreVersion::First => 7,
+        StoreVersion::Second(_) => 17,
     };
     if random.chance(chosen) {
-        return chosen_file(random, scene, &aid).bytes();
+        return chosen_file(random, scene, scene.kind(domain), &aid).bytes();
     }
     let model = valid_file(random, scene, domain, &aid);
+    if scene.kind(domain) == DomainKind::WithoutInt && random.chance(32) {
+        if let Some(file) = barred_file(random, scene, domain, &model) {
+            return file;
+        }
+    }
     let questions = two_questions(random);
     let faulty = match random.below(100) {
         0..=43 => None,
@@ -46,6 +52,26 @@ fn two_questions(random: &mut Random) -> [u8; 2] {
         return [*random.pick(&[16, 17, 18, 19, 20]), 24];
     }
     [(); 2].map(|()| *random.pick(&OF_A_FILE))
+}
+
+/// A file with a barred instruction, now and then with a fault that is asked about before
+/// or after it, or one that a domain with int takes.
+fn barred_file(
+    random: &mut Random,
+    scene: &Scene,
+    domain: &[u8],
+    model: &FileModel,
+) -> Option<Vec<u8>> {
+    let beside = *random.pick(&[16, 17, 24, 24, 18, 18, 19, 20]);
+    match random.below(10) {
+        0..=6 => faulty_file(random, scene, domain, model, &[26]),
+        7..=8 => faulty_file(random, scene, domain, model, &[26, beside]),
+        _ => {
+            let mut with_int = scene.clone();
+            with_int.without_int.clear();
+            Some(valid_file(random, &with_int, domain, &model.aid).bytes())
+        }
+    }
 }
 
 /// An AID that is not installed.
@@ -111,7 +137,10 @@ fn limit_file(random: &mut Random, scene: &Scene, domain: &[u8], aid: &[u8]) -> 
             return random.pick(&files).file.clone();
         }
         3 => return random.pick(&handler_limits(aid)).file.clone(),
-        4 => return longest_file(random, aid, limits.code.into()).bytes(),
+        4 => {
+            let kind = scene.kind(domain);
+            return longest_file(random, kind, aid, limits.code.into()).bytes();
+        }
         _ => random
             .pick(&count_limits(aid, listed, import))
             .model

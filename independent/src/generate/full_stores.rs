@@ -26,6 +26,7 @@ fn filled(first: &Call, opening: usize) -> Vec<Sequence> {
         let size = length - opening - 8 - 9 - 9 + past;
         let file = sized_file(version, FIRST, size, STANDARD_CODE)?;
         let mut calls = vec![load(&file), Call::Create(THIRD.to_vec())];
+        calls.push(Call::CreateWithoutInt(THIRD.to_vec()));
         calls.extend([Call::Delete(OTHER.to_vec()), Call::Create(THIRD.to_vec())]);
         calls.extend([Call::Delete(THIRD.to_vec()), load(&chain(SECOND, 0, 1))]);
         calls.extend([Call::Create(OTHER.to_vec()), Call::Remove(FIRST.to_vec())]);

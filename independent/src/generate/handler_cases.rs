@@ -82,6 +82,7 @@ pub fn with_code_faults(faults: &[u8]) -> FileModel {
             16 => (&[0x00], Handler::new(0, 1, 0)),
             17 => (&[0x70, 0x01], Handler::new(0, 2, 0)),
             24 => (&[0x10, 0x00, 0x7A], Handler::new(0, 3, 1)),
+            26 => (&[0x0A, 0x7A], Handler::new(0, 1, 1)),
             18 => (&[0x8D, 0, 1, 0x7A], Handler::new(0, 3, 3)),
             19 => (&[0x8D, 0, 0, 0x7A], Handler::new(3, 4, 0)),
             _ => (RETURN, Handler::new(0, 1, 0)),
@@ -141,7 +142,7 @@ pub fn version_pairs() -> Vec<Sequence> {
     sequences
 }
 
-fn every_two<T: Copy>(two: [T; 2]) -> [[T; 2]; 4] {
+pub(super) fn every_two<T: Copy>(two: [T; 2]) -> [[T; 2]; 4] {
     let [a, b] = two;
     [[a, a], [a, b], [b, a], [b, b]]
 }

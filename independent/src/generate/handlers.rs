@@ -10,6 +10,7 @@ use crate::handler_faults::HandlerFault;
 use crate::handlers::{Handler, HANDLER_BYTES, MAX_HANDLERS};
 use crate::limits::STANDARD_CODE;
 use crate::package::{Version, IMPLEMENTED};
+use crate::without_int::DomainKind;
 
 /// Makes a file one of version 2, and gives handlers to codes that have none.
 pub fn to_second(random: &mut Random, model: &mut FileModel) {
@@ -114,11 +115,11 @@ fn add_handled(model: &mut FileModel, code: &[u8], handlers: &[Handler]) {
 }
 
 /// Question 24: a code with one bad handler, among good ones or alone.
-pub fn plant_24(random: &mut Random, model: &mut FileModel) {
+pub fn plant_24(random: &mut Random, kind: DomainKind, model: &mut FileModel) {
     model.version = Version::Second;
     let fault = *random.pick(&HandlerFault::ALONE);
     let (code, bad) = loop {
-        let code = valid_code(random, &[]);
+        let code = valid_code(random, kind, &[]);
         if let Some(bad) = bad_handler(random, &code, fault) {
             break (code, bad);
         }
@@ -152,8 +153,8 @@ pub fn cut_off(random: &mut Random, mut model: FileModel) -> Vec<u8> {
 }
 
 /// A file with a code of this length and 16 handlers, now and then one of them bad.
-pub fn longest_file(random: &mut Random, aid: &[u8], length: usize) -> FileModel {
-    let code = long_code(random, length);
+pub fn longest_file(random: &mut Random, kind: DomainKind, aid: &[u8], length: usize) -> FileModel {
+    let code = long_code(random, kind, length);
     let mut handlers = good_handlers(random, &code, MAX_HANDLERS);
     if random.chance(30) {
         let fault = *random.pick(&HandlerFault::ALONE);
@@ -172,10 +173,10 @@ pub fn longest_file(random: &mut Random, aid: &[u8], length: usize) -> FileModel
 
 /// A code of this length: codes that pass by themselves, one after the other, and a short
 /// rest.
-pub fn long_code(random: &mut Random, length: usize) -> Vec<u8> {
+pub fn long_code(random: &mut Random, kind: DomainKind, length: usize) -> Vec<u8> {
     let mut code = Vec::new();
     loop {
-        let next = valid_code(random, &[]);
+        let next = valid_code(random, kind, &[]);
         if code.len() + next.len() >= length {
             code.extend(plain_code(length - code.len()));
             return code;

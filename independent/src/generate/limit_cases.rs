@@ -62,7 +62,7 @@ pub fn given() -> Vec<Sequence> {
 }
 
 /// A call that writes nothing and answers 7 over a sound store without the package.
-fn probe() -> Call {
+pub(super) fn probe() -> Call {
     Call::Query {
         domain: DOMAIN.to_vec(),
         package: SECOND.to_vec(),

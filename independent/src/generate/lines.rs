@@ -45,7 +45,9 @@ fn line(call: &Call) -> Option<Vec<u8>> {
         Call::Delete(domain) => format!("D {}", hex(domain)),
         Call::Load { domain, file } => format!("L {} {}", hex(domain), hex(file)),
         Call::Remove(package) => format!("R {}", hex(package)),
-        Call::Fresh | Call::FreshLimits(_) | Call::Query { .. } => return None,
+        Call::Fresh | Call::FreshLimits(_) | Call::CreateWithoutInt(_) | Call::Query { .. } => {
+            return None
+        }
     };
     Some(text.into_bytes())
 }
@@ -69,7 +71,7 @@ fn spoil(random: &mut Random, line: &mut Vec<u8>) {
         8 => line.truncate(place),
         9 => line[1] = b'\t',
         10 => line[place] = random.byte(),
-        _ => line[0] = *random.pick(b"CDLRQcdlr0"),
+        _ => line[0] = *random.pick(b"CDLRQKcdlr0"),
     }
 }
 

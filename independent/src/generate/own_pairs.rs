@@ -2,7 +2,7 @@
 
 use super::faults::{BARE, BODY, RETURN, STATIC_BODY};
 use super::model::{ClassModel, FileModel, MethodModel};
-use super::special::{after_fresh, DOMAIN, FIRST, OTHER, SECOND, THIRD};
+use super::special::{after_fresh, load_in, DOMAIN, FIRST, OTHER, SECOND, THIRD};
 use crate::ledger::Call;
 use crate::loader::Sequence;
 use crate::policy::OWN;
@@ -100,13 +100,6 @@ fn meet(meeting: Meeting, list: List, home: &[u8]) -> Vec<Call> {
     calls.extend(queries(SECOND));
     calls.push(Call::Remove(SECOND.to_vec()));
     calls
-}
-
-fn load_in(domain: &[u8], model: &FileModel) -> Call {
-    Call::Load {
-        domain: domain.to_vec(),
-        file: model.bytes(),
-    }
 }
 
 /// Queries of class 0's method 2 for both homes and a domain that is not created.

@@ -5,6 +5,7 @@ use crate::limits::Limits;
 use crate::package::{IMPLEMENTED, STATIC};
 use crate::policy::Item;
 use crate::store::StoreVersion;
+use crate::without_int::DomainKind;
 use std::collections::{BTreeMap, BTreeSet};
 
 /// The domains that a method allows.
@@ -112,7 +113,10 @@ pub struct PackageFacts {
 
 #[derive(Clone, Debug, Default)]
 pub struct Scene {
+    /// Created, of either kind.
     pub domains: Vec<Vec<u8>>,
+    /// Those of them that are without int.
+    pub without_int: BTreeSet<Vec<u8>>,
     pub packages: Vec<PackageFacts>,
     /// AIDs that files may list, created as domains or not.
     pub domain_pool: Vec<Vec<u8>>,
@@ -129,6 +133,36 @@ impl Scene {
 
     pub fn package_named(&self, aid: &[u8]) -> Option<usize> {
         self.packages.iter().position(|p| p.model.aid == aid)
+    }
+
+    /// The kind of a domain, kind 1 if it is not created.
+    pub fn kind(&self, domain: &[u8]) -> DomainKind {
+        match self.without_int.contains(domain) {
+            true => DomainKind::WithoutInt,
+            false => DomainKind::WithInt,
+        }
+    }
+
+    /// Adds a created domain.
+    pub fn create(&mut self, kind: DomainKind, domain: &[u8]) {
+        self.domains.push(domain.to_vec());
+        if kind == DomainKind::WithoutInt {
+            self.without_int.insert(domain.to_vec());
+        }
+    }
+
+    /// Leaves a domain out.
+    pub fn delete(&mut self, domain: &[u8]) {
+        self.domains.retain(|created| created != domain);
+        self.without_int.remove(domain);
+    }
+
+    /// Nothing is created or installed.
+    pub fn empty(&mut self, version: StoreVersion) {
+        self.version = version;
+        self.domains.clear();
+        self.without_int.clear();
+        self.packages.clear();
     }
 
     /// Adds an accepted file.

@@ -1,15 +1,20 @@
 //! Call sequences over one buffer.
 
 use super::chosen_limits::{bad_limits, good_limits};
-use super::damage::{opening_damage, store_damage};
+use super::damage::any_damage;
 use super::files::any_file;
 use super::random::Random;
 use super::scene::Scene;
 use super::starts::{pools, some_start, Start};
 use super::stores::planted_store;
+use super::without_int::some_kind;
 use crate::ledger::Call;
 use crate::loader::{damage, Independent, Loader, Sequence, Step};
 use crate::store::{self, StoreVersion};
+use crate::without_int::DomainKind;
+
+/// How many of a hundred new domains are without int.
+const WITHOUT_INT: usize = 40;
 
 /// Builds a sequence while running it, so that later calls suit the store.
 struct Run<'r> {
@@ -20,6 +25,8 @@ struct Run<'r> {
     steps: Vec<Step>,
     /// The last damage, while it has not been undone.
     damaged: Option<(usize, u8)>,
+    /// How many of a hundred new domains are without int.
+    without_int: usize,
 }
 
 /// The sequence for this number; equal numbers give equal sequences.
@@ -29,15 +36,15 @@ pub fn sequence(seed: u64) -> Sequence {
         return build_over_store(random);
     }
     let Start { length, first } = some_start(random);
-    build(random, length, first)
+    build(random, length, first, WITHOUT_INT)
 }
 
-/// A sequence over a buffer of this length, of version 1 at first.
+/// A sequence over a buffer of this length, of version 1 at first, its domains with int.
 pub fn sequence_over(length: usize, seed: u64) -> Sequence {
-    build(&mut Random::new(seed), length, Call::Fresh)
+    build(&mut Random::new(seed), length, Call::Fresh, 0)
 }
 
-fn build(random: &mut Random, length: usize, first: Call) -> Sequence {
+fn build(random: &mut Random, length: usize, first: Call, without_int: usize) -> Sequence {
     let start = match random.below(4) {
         0 => random.bytes(length),
         1 => vec![0xFF; length],
@@ -45,6 +52,7 @@ fn build(random: &mut Random, length: usize, first: Call) -> Sequence {
     };
     let scene = pools(random);
     let mut run = Run::new(random, start, scene);
+    run.without_int = without_int;
     let refused = match (64..=65_535).contains(&length) {
         true => 2,
         false => 50,
@@ -63,7 +71,7 @@ fn build(random: &mut Random, length: usize, first: Call) -> Sequence {
 fn build_over_store(random: &mut Random) -> Sequence {
     let pools = pools(random);
     let question = *random.pick(&[0, 0, 0, 1, 2, 3, 4, 5, 10, 11, 12, 13, 14, 15, 16]);
-    let later = *random.pick(&[16, 17, 24, 24, 18, 19, 20]);
+    let later = *random.pick(&[16, 17, 24, 24, 26, 26, 26, 18, 19, 20]);
     let question = *random.pick(&[question, question, later, 30, 30]);
     let store = planted_store(random, &pools, question);
     Run::new(random, store.bytes, store.scene).fill()
@@ -78,6 +86,7 @@ impl<'r> Run<'r> {
             scene,
             steps: Vec::new(),
             damaged: None,
+            without_int: WITHOUT_INT,
         }
     }
 
@@ -85,7 +94,8 @@ impl<'r> Run<'r> {
         let damaging = self.random.chance(12);
         for _ in 0..self.random.between(1, 3) {
             let domain = self.random.pick(&self.scene.domain_pool).clone();
-            self.call(Call::Create(domain));
+            let call = self.create(&domain);
+            self.call(call);
         }
         for _ in 0..self.random.between(5, 25) {
             if damaging && self.random.chance(15) {
@@ -112,22 +122,19 @@ impl<'r> Run<'r> {
     fn note(&mut self, call: &Call) {
         let scene = &mut self.scene;
         match call {
-            Call::Fresh | Call::FreshLimits(_) => {
-                scene.domains.clear();
-                scene.packages.clear();
-                scene.version = match call {
-                    Call::FreshLimits(limits) => StoreVersion::Second(*limits),
-                    _ => StoreVersion::First,
-                };
-                self.damaged = None;
-            }
-            Call::Create(domain) => scene.domains.push(domain.clone()),
-            Call::Delete(domain) => scene.domains.retain(|d| d != domain),
+            Call::Fresh => scene.empty(StoreVersion::First),
+            Call::FreshLimits(limits) => scene.empty(StoreVersion::Second(*limits)),
+            Call::Create(domain) => scene.create(DomainKind::WithInt, domain),
+            Call::CreateWithoutInt(domain) => scene.create(DomainKind::WithoutInt, domain),
+            Call::Delete(domain) => scene.delete(domain),
             Call::Load { domain, file } => scene.install(domain, file),
             Call::Remove(package) => scene.packages.retain(|p| p.model.aid != *package),
             Call::Query { .. } => {}
         }
         scene.free = self.store.len() - store::used(&self.store);
+        if matches!(call, Call::Fresh | Call::FreshLimits(_)) {
+            self.damaged = None;
+        }
     }
 
     /// Damages a byte, or undoes the last damage.
@@ -137,7 +144,7 @@ impl<'r> Run<'r> {
             Some(last) => last,
             None if self.store.is_empty() => return,
             None => {
-                let new = self.new_damage(used);
+                let new = any_damage(self.random, &self.store, used);
                 self.damaged = Some(new);
                 new
             }
@@ -146,31 +153,14 @@ impl<'r> Run<'r> {
         self.steps.push(Step::Damage { place, bits });
     }
 
-    /// A place and bits to flip there: in the opening of version 2, in a policy or a
-    /// handler, or a bit of any byte.
-    fn new_damage(&mut self, used: usize) -> (usize, u8) {
-        if self.random.chance(40) {
-            if let Some((place, byte)) = opening_damage(self.random, &self.store) {
-                return (place, byte ^ self.store[place]);
-            }
-        }
-        if self.random.chance(40) {
-            if let Some((place, byte)) = store_damage(self.random, &self.store) {
-                return (place, byte ^ self.store[place]);
-            }
-        }
-        let limit = match self.random.chance(90) && used > 0 {
-            true => used,
-            false => self.store.len(),
-        };
-        (self.random.below(limit), 1 << self.random.below(8))
-    }
-
     fn any_call(&mut self) -> Call {
         match self.random.below(100) {
             0 => Call::Fresh,
             1..=2 => self.fresh_limits(),
-            3..=15 => Call::Create(self.domain(20, 70)),
+            3..=15 => {
+                let domain = self.domain(20, 70);
+                self.create(&domain)
+            }
             16..=24 => Call::Delete(self.domain(75, 17)),
             25..=70 => {
                 let domain = self.domain(92, 5);
@@ -180,6 +170,11 @@ impl<'r> Run<'r> {
             71..=82 => Call::Remove(self.package(75)),
             _ => self.query(),
         }
+    }
+
+    /// A creation of either kind.
+    fn create(&mut self, domain: &[u8]) -> Call {
+        Call::create(some_kind(self.random, self.without_int), domain)
     }
 
     fn fresh_limits(&mut self) -> Call {

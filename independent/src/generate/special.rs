@@ -12,6 +12,7 @@ use crate::ledger::Call;
 use crate::limits::Limits;
 use crate::loader::{Independent, Loader, Sequence, Step};
 use crate::package::Version;
+use crate::without_int::DomainKind;
 
 pub(super) const DOMAIN: &[u8] = &[0xA0, 0, 0, 0, 0xD1];
 pub(super) const OTHER: &[u8] = &[0xA0, 0, 0, 0, 0xD2, 7];
@@ -42,8 +43,12 @@ pub(super) fn after(first: Call, length: usize, calls: Vec<Call>) -> Sequence {
 }
 
 pub(super) fn load(model: &FileModel) -> Call {
+    load_in(DOMAIN, model)
+}
+
+pub(super) fn load_in(domain: &[u8], model: &FileModel) -> Call {
     Call::Load {
-        domain: DOMAIN.to_vec(),
+        domain: domain.to_vec(),
         file: model.bytes(),
     }
 }
@@ -81,8 +86,8 @@ pub fn three_byte_codes(version: Version, seed: u64) -> Sequence {
     codes_sequence(version, (0..256).map(move |_| random.bytes(3)))
 }
 
-/// A store with two domains and three packages of both versions, the later ones importing;
-/// this fresh made it, with the standard limits.
+/// A store with a domain of each kind and three packages of both versions, the later ones
+/// importing; this fresh made it, with the standard limits.
 pub fn test_store(first: &Call) -> Vec<u8> {
     let random = &mut Random::new(12);
     let mut store = vec![0; 2048];
@@ -91,8 +96,9 @@ pub fn test_store(first: &Call) -> Vec<u8> {
         domain_pool: vec![DOMAIN.to_vec(), OTHER.to_vec(), THIRD.to_vec()],
         ..Scene::default()
     };
-    for domain in [DOMAIN, OTHER] {
-        Independent.create(&mut store, domain);
+    for (domain, kind) in [DOMAIN, OTHER].into_iter().zip(DomainKind::BOTH) {
+        Independent.call(&mut store, &Call::create(kind, domain));
+        scene.create(kind, domain);
     }
     let (first, second) = (Version::First, Version::Second);
     let packages = [
@@ -154,6 +160,7 @@ fn every_call(domain: &[u8], package: &[u8], file: &[u8]) -> Vec<Call> {
         },
         query,
         Call::Delete(domain.clone()),
+        Call::CreateWithoutInt(domain.clone()),
         Call::Remove(package),
         Call::Delete(domain),
     ]

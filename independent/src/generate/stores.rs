@@ -5,9 +5,11 @@ use super::faults::faulty_file;
 use super::random::Random;
 use super::scene::Scene;
 use super::valid::valid_file;
+use super::without_int::{file_has_barred, some_kind};
 use crate::ledger::{Entry, Ledger};
 use crate::limits::{Limit, Limits};
 use crate::store::{self, StoreVersion};
+use crate::without_int::DomainKind;
 
 /// A store, what it holds, and whether a fault was planted.
 pub struct PlantedStore {
@@ -24,11 +26,7 @@ pub fn planted_store(random: &mut Random, pools: &Scene, question: u8) -> Plante
     if question == 30 || random.chance(50) {
         scene.version = StoreVersion::Second(good_limits(random));
     }
-    let mut entries = Vec::new();
-    for domain in &pools.domain_pool[..3] {
-        entries.push(Entry::Domain(domain.clone()));
-        scene.domains.push(domain.clone());
-    }
+    let mut entries = three_domains(random, &mut scene, question);
     let packages = match question == 30 && random.chance(60) {
         true => 0,
         false => random.between(1, 3),
@@ -55,6 +53,19 @@ pub fn planted_store(random: &mut Random, pools: &Scene, question: u8) -> Plante
         scene,
         faulty,
     }
+}
+
+/// Three domains of either kind; a fault for 26 needs one without int.
+fn three_domains(random: &mut Random, scene: &mut Scene, question: u8) -> Vec<Entry> {
+    let mut entries = Vec::new();
+    for place in 0..3 {
+        let domain = scene.domain_pool[place].clone();
+        let needed = question == 26 && place == 0;
+        let kind = some_kind(random, if needed { 100 } else { 40 });
+        scene.create(kind, &domain);
+        entries.push(Entry::Domain(kind, domain));
+    }
+    entries
 }
 
 /// How far the packages go towards a limit.
@@ -106,7 +117,10 @@ fn spoil_opening(random: &mut Random, bytes: &mut [u8], scene: &Scene) {
 
 /// Plants a fault in the list; false when it finds no place.
 fn plant_entry(random: &mut Random, scene: &Scene, list: &mut Vec<Entry>, question: u8) -> bool {
-    let domain = random.pick(&scene.domains).clone();
+    if question == 26 && random.chance(50) && hold_to_26(list) {
+        return true;
+    }
+    let domain = home(random, scene, question);
     let model = valid_file(random, scene, &domain, &[0xFA; 7]);
     let (valid, last) = (model.bytes(), list.len() - 1);
     match question {
@@ -120,13 +134,14 @@ fn plant_entry(random: &mut Random, scene: &Scene, list: &mut Vec<Entry>, questi
             let length = *random.pick(&[0, 4, 17, 200]);
             let domain = random.bytes(length);
             if random.chance(50) {
-                list.insert(random.below(last), Entry::Domain(domain));
+                let domain = Entry::Domain(some_kind(random, 50), domain);
+                list.insert(random.below(last), domain);
             } else {
                 let file = valid;
                 list.push(Entry::Package { domain, file });
             }
         }
-        4 => list.push(Entry::Domain(domain)),
+        4 => list.push(Entry::Domain(some_kind(random, 50), domain)),
         5 => {
             let domain = random.bytes(9);
             let file = valid;
@@ -136,6 +151,31 @@ fn plant_entry(random: &mut Random, scene: &Scene, list: &mut Vec<Entry>, questi
             Some(file) => list.push(Entry::Package { domain, file }),
             None => return false,
         },
+    }
+    true
+}
+
+/// The domain of a package with a fault; 26 is asked of one without int.
+fn home(random: &mut Random, scene: &Scene, question: u8) -> Vec<u8> {
+    match scene.without_int.iter().next() {
+        Some(without) if question == 26 => without.clone(),
+        _ => random.pick(&scene.domains).clone(),
+    }
+}
+
+/// Makes a domain that holds a package with a barred instruction one without int.
+fn hold_to_26(list: &mut [Entry]) -> bool {
+    let barred = |entry: &Entry| match entry {
+        Entry::Package { domain, file } if file_has_barred(file) => Some(domain.clone()),
+        _ => None,
+    };
+    let Some(home) = list.iter().find_map(barred) else {
+        return false;
+    };
+    for entry in list {
+        if matches!(entry, Entry::Domain(_, aid) if *aid == home) {
+            *entry = Entry::Domain(DomainKind::WithoutInt, home.clone());
+        }
     }
     true
 }

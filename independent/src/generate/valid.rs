@@ -183,9 +183,10 @@ impl Draft<'_> {
     /// A code with these calls, or a shorter one where the store's limit asks for it.
     fn fitting_code(&self, random: &mut Random, calls: &[Vec<u8>]) -> Vec<u8> {
         let most = usize::from(self.scene.limits().code);
-        let mut code = valid_code(random, calls);
+        let kind = self.scene.kind(self.domain);
+        let mut code = valid_code(random, kind, calls);
         if code.len() > most {
-            code = valid_code(random, &[]);
+            code = valid_code(random, kind, &[]);
         }
         match code.len() <= most {
             true => code,

@@ -6,14 +6,33 @@ use independent::loader::{compare, shrink, Independent, Loader, Sequence};
 use independent::misreadings::Misreading;
 use independent::operations::asked::room;
 use independent::policy::Role;
-use independent::questions::{judge_load, number, q1, q2_by, q3, q7, q9};
-use independent::store::{append, write_empty, Body};
+use independent::questions::{judge_creation, judge_deletion, judge_load};
+use independent::questions::{number, q1, q2_by, q3, q7, q9};
+use independent::store::{append, cut, write_empty, Body};
+use independent::without_int::DomainKind;
 use independent::Answer;
 
 /// A loader that misreads one thing and is right in all else.
 pub struct Misread(pub Misreading);
 
 impl Misread {
+    /// Either creation.
+    fn create(&self, store: &mut [u8], kind: DomainKind, domain: &[u8]) -> Result<u8, u8> {
+        number(q1(store), 1)?;
+        let contents = q2_by(store, Some(self.0)).ok_or(2)?;
+        judge_creation(&contents, room(store), kind, domain)?;
+        append(store, &Body::Domain(self.0.entered_kind(kind), domain));
+        Ok(0)
+    }
+
+    fn delete(&self, store: &mut [u8], domain: &[u8]) -> Result<u8, u8> {
+        number(q1(store), 1)?;
+        let contents = q2_by(store, Some(self.0)).ok_or(2)?;
+        let entry = judge_deletion(&contents, domain)?;
+        cut(store, entry);
+        Ok(0)
+    }
+
     fn load(&self, store: &[u8], domain: &[u8], file: &[u8]) -> Result<u8, u8> {
         number(q1(store), 1)?;
         let mut contents = q2_by(store, Some(self.0)).ok_or(2)?;
@@ -71,11 +90,15 @@ impl Loader for Misread {
     }
 
     fn create(&self, store: &mut [u8], domain: &[u8]) -> u32 {
-        self.unless_unsound(store, |s| Independent.create(s, domain))
+        Answer::of(self.create(store, DomainKind::WithInt, domain)).encoded()
+    }
+
+    fn create_without_int(&self, store: &mut [u8], domain: &[u8]) -> u32 {
+        Answer::of(self.create(store, DomainKind::WithoutInt, domain)).encoded()
     }
 
     fn delete(&self, store: &mut [u8], domain: &[u8]) -> u32 {
-        self.unless_unsound(store, |s| Independent.delete(s, domain))
+        Answer::of(self.delete(store, domain)).encoded()
     }
 
     fn load(&self, store: &mut [u8], domain: &[u8], file: &[u8]) -> u32 {

@@ -4,13 +4,14 @@
 pub mod misread;
 
 use independent::generate::model::{ClassModel, FileModel, MethodModel};
-use independent::ledger::Ledger;
+use independent::ledger::{Call, Ledger};
 use independent::limits::Limits;
 use independent::loader::{damage, Independent, Loader, Sequence, Step};
-use independent::operations::{create, fresh, fresh_limits, load};
+use independent::operations::{create, create_without_int, fresh, fresh_limits, load};
 
 pub const D1: &[u8] = &[0xA0, 0, 0, 0, 0xD1];
 pub const D2: &[u8] = &[0xA0, 0, 0, 0, 0xD2];
+pub const D3: &[u8] = &[0xA0, 0, 0, 0, 0xD3];
 pub const P1: &[u8] = &[0xA0, 0, 0, 1, 1];
 pub const P2: &[u8] = &[0xA0, 0, 0, 1, 2];
 pub const P3: &[u8] = &[0xA0, 0, 0, 1, 3];
@@ -26,6 +27,13 @@ pub fn store(length: usize) -> Vec<u8> {
     for domain in [D1, D2] {
         assert_eq!(create(&mut store, domain).number, 0);
     }
+    store
+}
+
+/// The same with D3, which is without int.
+pub fn store_of_both(length: usize) -> Vec<u8> {
+    let mut store = store(length);
+    assert_eq!(create_without_int(&mut store, D3).number, 0);
     store
 }
 
@@ -102,28 +110,45 @@ pub fn with_code(code: &[u8]) -> FileModel {
     )
 }
 
-/// The answers of a sequence; the ledger follows where it may.
-pub fn answers(sequence: &Sequence) -> Vec<u32> {
+/// Runs a sequence; each call is handed over with its answer and the store that it left.
+pub fn replay(sequence: &Sequence, mut each: impl FnMut(&Call, u32, &[u8])) {
     let mut store = sequence.start.clone();
-    let mut ledger = sequence.has_ledger().then(|| Ledger::new(store.len()));
-    let mut found = Vec::new();
     for step in &sequence.steps {
         match step {
             Step::Damage { place, bits } => damage(&mut store, *place, *bits),
             Step::Call(call) => {
                 let answer = Independent.call(&mut store, call);
-                if let Some(ledger) = &mut ledger {
-                    assert_eq!(answer, ledger.call(call).encoded());
-                    assert!(store == ledger.written_out(store.len()));
-                }
-                found.push(answer);
+                each(call, answer, &store);
             }
         }
     }
+}
+
+/// The answers of a sequence; the ledger follows where it may.
+pub fn answers(sequence: &Sequence) -> Vec<u32> {
+    let length = sequence.start.len();
+    let mut ledger = sequence.has_ledger().then(|| Ledger::new(length));
+    let mut found = Vec::new();
+    replay(sequence, |call, answer, store| {
+        if let Some(ledger) = &mut ledger {
+            assert_eq!(answer, ledger.call(call).encoded());
+            assert!(store == ledger.written_out(length));
+        }
+        found.push(answer);
+    });
     found
 }
 
 /// The numbers of a sequence.
 pub fn numbers(sequence: &Sequence) -> Vec<u32> {
     answers(sequence).into_iter().map(|a| a & 0xFF).collect()
+}
+
+/// The numbers of a list of hexadecimal numbers and ranges.
+pub fn listed(list: &str) -> impl Iterator<Item = usize> + '_ {
+    let number = |text: &str| usize::from_str_radix(text, 16).unwrap();
+    list.split(", ").flat_map(move |range| {
+        let (first, last) = range.split_once('-').unwrap_or((range, range));
+        number(first)..=number(last)
+    })
 }

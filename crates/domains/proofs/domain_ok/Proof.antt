@@ -5,7 +5,7 @@ use mathlib.Core.Bool.{true, false}
 use borrow.Author.Tests.{not-true, not-false}
 use borrow.Author.Needs.{needs}
 use Rattle.sorted.proofs.Order.{clash}
-use Rattle.store.specs.Entries.{part}
+use Rattle.store.specs.Entries.{part, kindAt}
 use Rattle.domains.proofs.Keys as keys
 use Rattle.domains.proofs.domain_ok.Statement.{statement}
 use Rattle.domains.proofs.domain_ok.Tie as tie
@@ -21,7 +21,7 @@ returns c =
     let start = c .before .before .before .before in
     let range = c .before .length-ok in (
       keys.short-says (now (start .args .s)) (start .args .at) (now (start .args .table)) (start .pre .0)
-          (part (now (start .args .s)) (start .args .from) (start .args .next))
+          (kindAt (now (start .args .s)) (start .args .at)) (part (now (start .args .s)) (start .args .from) (start .args .next))
           (keys.part-range (now (start .args .s)) (start .args .from) (start .args .next) (start .pre .1 .0 .0 .to) (range .result) false (range .ensures)
           (not-true _ (c .if1 .taken))),
       λ e. absurd (clash (sym e)),

@@ -6,10 +6,10 @@ use mathlib.Core.Path.{_≡_, refl, sym, subst}
 use lib.ListN.{length-set, length, set}
 use borrow.Author.Tests.{not-true, not-false}
 use borrow.Author.Needs.{needs}
-use Rattle.domains.specs.Domains.{DomainsIs, EntrySays, PackageSays}
-use Rattle.rules.specs.Store.{domain}
+use Rattle.domains.specs.Domains.{DomainsIs, EntrySays}
+use Rattle.rules.specs.Store.{domain, loaded}
 use Rattle.store.proofs.Find.{part-told}
-use Rattle.store.specs.Entries.{part}
+use Rattle.store.specs.Entries.{part, kindAt}
 use Rattle.domains.proofs.Phase as phase
 use Rattle.domains.proofs.Keys as keys
 use Rattle.domains.proofs.domains_ok.Statement.{statement}
@@ -83,7 +83,8 @@ returns c =
     let start = c4 .before .before .before .before in
     phase.domain-bad (now (start .args .s)) (start .args .end) (turn .at) (turn .inv .0) (entry .given .0 .0) (entry .given .0 .1 .0)
     (part-told (entry .given .1) (c3 .entry-at .ensures))
-    (subst (EntrySays (now (start .args .s)) (turn .at) (domain (part (now (start .args .s)) (entry .given .0 .0) (entry .given .0 .1 .0))))
+    (subst (EntrySays (now (start .args .s)) (turn .at) (domain (kindAt (now (start .args .s)) (turn .at))
+    (part (now (start .args .s)) (entry .given .0 .0) (entry .given .0 .1 .0))))
     (not-true _ (c .if1 .taken)) (c1 .domain-ok .ensures .0))
 
 loop-less : tie.Need-loop-less Inv-loop μ-loop
@@ -110,7 +111,8 @@ loop-again c =
     let told = c1 .domain-ok in (
       phase.domain-on (now (start .args .s)) (start .args .end) (turn .at) (turn .inv .0) (entry .given .0 .0) (entry .given .0 .1 .0)
           (part-told (entry .given .1) (c3 .entry-at .ensures))
-          (subst (EntrySays (now (start .args .s)) (turn .at) (domain (part (now (start .args .s)) (entry .given .0 .0) (entry .given .0 .1 .0))))
+          (subst (EntrySays (now (start .args .s)) (turn .at) (domain (kindAt (now (start .args .s)) (turn .at))
+          (part (now (start .args .s)) (entry .given .0 .0) (entry .given .0 .1 .0))))
           (not-false _ (c .if1 .left)) (told .ensures .0)),
       told .ensures .1 (not-false _ (c .if1 .left)),
       omega (arith, turn .inv .2, told .kept),
@@ -129,7 +131,7 @@ package-ok-requires c κs =
     let start = c3 .before .before .before .before in
     let first = phase.package-first (now (start .args .s)) (start .args .end) (turn .at) (turn .inv .0) (entry .given .0 .0) (entry .given .0 .1 .0)
     (entry .given .0 .1 .1 .0) (part-told (entry .given .1) (c2 .entry-at .ensures)) (start .pre .0) in
-    (turn .inv .1, (first .1, omega (arith, first .2, first .0 .to)))
+    (turn .inv .1, (first .1, first .2, first .0 .to))
 
 same-length-2 : tie.Need-same-length-2 Inv-loop μ-loop
 same-length-2 c =
@@ -147,7 +149,8 @@ returns-2 c =
     let start = c3 .before .before .before .before in
     phase.package-bad (now (start .args .s)) (start .args .end) (turn .at) (turn .inv .0) (entry .given .0 .0) (entry .given .0 .1 .0)
     (entry .given .0 .1 .1 .0) (part-told (entry .given .1) (c2 .entry-at .ensures))
-    (subst (PackageSays (now (start .args .s)) (turn .at) (part (now (start .args .s)) (entry .given .0 .0) (entry .given .0 .1 .0)))
+    (subst (EntrySays (now (start .args .s)) (turn .at) (loaded (part (now (start .args .s)) (entry .given .0 .0) (entry .given .0 .1 .0))
+    (part (now (start .args .s)) (entry .given .0 .1 .0) (entry .given .0 .1 .1 .0))))
     (not-true _ (c .if2 .taken)) (c .before .package-ok .ensures))
 
 loop-less-2 : tie.Need-loop-less-2 Inv-loop μ-loop
@@ -175,7 +178,8 @@ loop-again-2 c =
     (entry .given .0 .1 .1 .0) (part-told (entry .given .1) (part-at .ensures)) (start .pre .0) in (
       phase.package-on (now (start .args .s)) (start .args .end) (turn .at) (turn .inv .0) (entry .given .0 .0) (entry .given .0 .1 .0)
           (entry .given .0 .1 .1 .0) (part-told (entry .given .1) (part-at .ensures))
-          (subst (PackageSays (now (start .args .s)) (turn .at) (part (now (start .args .s)) (entry .given .0 .0) (entry .given .0 .1 .0)))
+          (subst (EntrySays (now (start .args .s)) (turn .at) (loaded (part (now (start .args .s)) (entry .given .0 .0) (entry .given .0 .1 .0))
+          (part (now (start .args .s)) (entry .given .0 .1 .0) (entry .given .0 .1 .1 .0))))
           (not-false _ (c .if2 .left)) (c .before .package-ok .ensures)),
       keys.domains-package (now (start .args .s)) (turn .at) (entry .given .0 .1 .1 .0)
           (part (now (start .args .s)) (entry .given .0 .0) (entry .given .0 .1 .0))

@@ -6,9 +6,9 @@ use Rattle.homes.specs.Homes.{aidAt}
 use Rattle.homes.specs.Found.{Indexed}
 use Rattle.store.specs.Sound.{OverSome}
 use Rattle.depths.specs.Depths.{DepthsKept}
-use Rattle.judge.specs.Says.{usedAt, FileSays}
+use Rattle.judge.specs.Says.{usedAt, DomainTold, FileSays}
 use Rattle.judge.specs.declared.LoadAnswer.{LoadAnswer}
-use Rattle.judge.proofs.Loading as loading
+use Rattle.judge.proofs.Loading as stage
 use Rattle.judge.proofs.Stages as stages
 use borrow.Author.Needs.{needs}
 use Rattle.judge.proofs.file_answer.Statement.{statement}
@@ -33,14 +33,20 @@ tables k =
     subst (λ (i : ℕ). Indexed (now (b .args .s)) i (now (b .args .index)) × DepthsKept (now (b .args .s)) i (now (b .args .depths)))
     (sym (k .u2-at .ensures .0)) (b .pre .1 .0)
 
+-- the domain, over the entries up to the place that was read
+loading : (k : tie.After-u2-at) → let a = k .before .before .before .before .before .before .before .args in DomainTold (now (a .s)) (k .u2-at .result) (now (a .file)) (a .domain)
+loading k =
+    let b = k .before .before .before .before .before .before .before in
+    subst (λ (i : ℕ). DomainTold (now (b .args .s)) i (now (b .args .file)) (b .args .domain)) (sym (k .u2-at .ensures .0)) (b .pre .0 .1)
+
 -- an answer over them, as one over all entries of the store
 told : (k : tie.After-u2-at) (r : LoadAnswer) →
     let a = k .before .before .before .before .before .before .before .args in
-    FileSays (now (a .s)) (k .u2-at .result) (aidAt (now (a .s)) (a .domain)) (now (a .file)) r →
-    FileSays (now (a .s)) (usedAt (now (a .s))) (aidAt (now (a .s)) (a .domain)) (now (a .file)) r
+    FileSays (now (a .s)) (k .u2-at .result) (aidAt (now (a .s)) (a .domain .aid)) (now (a .file)) r →
+    FileSays (now (a .s)) (usedAt (now (a .s))) (aidAt (now (a .s)) (a .domain .aid)) (now (a .file)) r
 told k r h =
     let a = k .before .before .before .before .before .before .before .args in
-    subst (λ (i : ℕ). FileSays (now (a .s)) i (aidAt (now (a .s)) (a .domain)) (now (a .file)) r) (k .u2-at .ensures .0) h
+    subst (λ (i : ℕ). FileSays (now (a .s)) i (aidAt (now (a .s)) (a .domain .aid)) (now (a .file)) r) (k .u2-at .ensures .0) h
 
 u2-at-requires : tie.Need-u2-at-requires
 u2-at-requires c κs = let b = c .before .before .before .before .before .before in stages.used-inside (now (b .args .s)) (b .pre .0 .0)
@@ -53,7 +59,7 @@ inside-answer-requires c κs =
     let k = c .before in
     let pre = k .before .before .before .before .before .before .before .pre in
     let t = tables k in
-    ((over k, pre .0 .1), ((t .0, t .1, pre .1 .1 .0), refl))
+    ((over k, loading k), ((t .0, t .1, pre .1 .1 .0), refl))
 
 enum-known-n : tie.Need-enum-known-n
 enum-known-n c = search needs
@@ -69,9 +75,9 @@ running-number-requires c κs =
     let k = read at-answer in
     let b = start at-answer in
     let a = b .args in
-    let asked = loading.asked-inside (now (a .s)) (k .u2-at .result) (aidAt (now (a .s)) (a .domain)) (now (a .file)) (answer .result) (answer .ensures .0)
+    let asked = stage.asked-inside (now (a .s)) (k .u2-at .result) (aidAt (now (a .s)) (a .domain .aid)) (now (a .file)) (answer .result) (answer .ensures .0)
     (depth .given .0 .0) (depth .given .1) (over k) in
-    ((asked, (tables k) .0, b .pre .0 .1), b .pre .1 .1)
+    ((asked, (tables k) .0, b .pre .0 .1 .there), b .pre .1 .1)
 
 same-length : tie.Need-same-length
 same-length c = search needs
@@ -87,7 +93,7 @@ returns c =
     let answer = at-answer .inside-answer in
     let k = read at-answer in
     let a = start at-answer .args in
-    told k _ (loading.later-refused (now (a .s)) (k .u2-at .result) (aidAt (now (a .s)) (a .domain)) (now (a .file)) (answer .result) (answer .ensures .0)
+    told k _ (stage.later-refused (now (a .s)) (k .u2-at .result) (aidAt (now (a .s)) (a .domain .aid)) (now (a .file)) (answer .result) (answer .ensures .0)
     (depth .given .0 .0) (depth .given .1) (number .result) (number .ensures) (c .if1 .taken))
 
 returns-2 : tie.Need-returns-2
@@ -97,7 +103,7 @@ returns-2 c =
     let answer = at-answer .inside-answer in
     let k = read at-answer in
     let a = start at-answer .args in
-    told k _ (loading.file-inside (now (a .s)) (k .u2-at .result) (aidAt (now (a .s)) (a .domain)) (now (a .file)) (answer .result) (answer .ensures .0)
+    told k _ (stage.file-inside (now (a .s)) (k .u2-at .result) (aidAt (now (a .s)) (a .domain .aid)) (now (a .file)) (answer .result) (answer .ensures .0)
     (n .given .0 .0) (n .given .1))
 
 same-length-3 : tie.Need-same-length-3
@@ -114,7 +120,7 @@ returns-3 c =
     let answer = at-answer .inside-answer in
     let k = read at-answer in
     let a = start at-answer .args in
-    told k _ (loading.later-done (now (a .s)) (k .u2-at .result) (aidAt (now (a .s)) (a .domain)) (now (a .file)) (answer .result) (answer .ensures .0)
+    told k _ (stage.later-done (now (a .s)) (k .u2-at .result) (aidAt (now (a .s)) (a .domain .aid)) (now (a .file)) (answer .result) (answer .ensures .0)
     (depth .given .0 .0) (depth .given .1) (number .result) (number .ensures) (c .if1 .left))
 
 pub file-answer-spec : {M : Type 1} → statement M

@@ -11,7 +11,7 @@ use Rattle.rules.specs.Bytes.{Aid, isSome, aidLength, aid}
 use Rattle.rules.specs.Store.{firstEntry}
 use Rattle.rules.specs.Operations.{isDomain}
 use Rattle.store.specs.Entries.{StandFrom}
-use Rattle.store.specs.Answers.{spot, SpotAt}
+use Rattle.store.specs.Answers.{spot, SpotAt, SubsetSays}
 use Rattle.store.specs.declared.Spot.{Spot}
 use Rattle.store.proofs.Sound.{over-stand, created-is}
 use Rattle.places.specs.Reads.{Ends}
@@ -52,6 +52,18 @@ stands k =
     loading.domain-place (now (b .args .s)) (usedAt (now (b .args .s))) (now (b .args .domain)) (x .find-domain .result) (at .0) (at .1 .0) (found x)
     (k .at .given .1) (b .pre .0) (three (x .before .before))
 
+-- whether it is of kind 3
+told : (c : tie.After-keeps-subset) →
+    let k = c .before .before in
+    let a = begin (k .before .before) .args in
+    SubsetSays (now (a .s)) (usedAt (now (a .s))) (aidAt (now (a .s)) (k .at .given .0 .0 + 2)) (c .keeps-subset .result)
+told c =
+    let k = c .before .before in
+    let x = k .before .before in
+    let s = now (begin x .args .s) in
+    let read = subst (λ (i : ℕ). SubsetSays s i (now (begin x .args .domain)) (c .keeps-subset .result)) (x .before .u2-at .ensures .0) (c .keeps-subset .ensures) in
+    subst (λ (d : Aid). SubsetSays s (usedAt s) d (c .keeps-subset .result)) ((stands k) .1) read
+
 length-ok-requires : tie.Need-length-ok-requires
 length-ok-requires c κs = search needs
 
@@ -73,14 +85,24 @@ find-domain-requires c κs =
 enum-known-at : tie.Need-enum-known-at
 enum-known-at c = search needs
 
-add-file-answer : tie.Need-add-file-answer
-add-file-answer c = omega (arith, aid-inside ((stands (c .before)) .0))
+add-t15 : tie.Need-add-t15
+add-t15 c = omega (arith, aid-inside ((stands (c .before)) .0))
+
+keeps-subset-requires : tie.Need-keeps-subset-requires
+keeps-subset-requires c κs =
+    let x = c .before .before .before in
+    let b = begin x in
+    let s = now (b .args .s) in
+    subst (StandFrom s (firstEntry s)) (sym (x .before .u2-at .ensures .0)) (over-stand s (usedAt s) (b .pre .0))
 
 file-answer-requires : tie.Need-file-answer-requires
 file-answer-requires c κs =
-    let k = c .before .before .before in
-    let pre = begin (k .before .before) .pre in
-    ((pre .0, (stands k) .0), pre .1)
+    let kept = c .before .before in
+    let k = kept .before .before in
+    let b = begin (k .before .before) in
+    let s = now (b .args .s) in
+    let asked = loading.kind-asked s (usedAt s) (aidAt s (k .at .given .0 .0 + 2)) (now (b .args .file)) (kept .keeps-subset .result) (told kept) in
+    ((b .pre .0, record { there = (stands k) .0; asked = asked }), b .pre .1)
 
 enum-told : tie.Need-enum-told
 enum-told c = search needs
@@ -94,7 +116,7 @@ same-length-2 c = search needs
 returns-2 : tie.Need-returns-2
 returns-2 c =
     let file = c .before .before .before .before .file-answer in
-    let k = c .before .before .before .before .before .before .before .before in
+    let k = c .before .before .before .before .before .before .before .before .before in
     let x = k .before .before in
     let a = begin x .args in
     let says = subst (λ (d : Aid). FileSays (now (a .s)) (usedAt (now (a .s))) d (now (a .file)) (file .result)) (sym ((stands k) .1)) (file .ensures) in
@@ -120,7 +142,8 @@ load-answer-spec =
     u2-at-requires
     find-domain-requires
     enum-known-at
-    add-file-answer
+    add-t15
+    keeps-subset-requires
     file-answer-requires
     enum-told
     same-length

@@ -1,7 +1,7 @@
 -- `judge::package_sound` meets its contract: the questions of the package's entry, and what is kept of it where all are answered yes. Assumes nothing.
 use Prim.Native.Nat.{ℕ, _+_}
 use native.Mathlib.Omega.{arith}
-use mathlib.Core.Path.{_≡_, refl, subst}
+use mathlib.Core.Path.{_≡_, refl, sym, subst}
 use denote.Ref.{now}
 use borrow.Author.Needs.{needs}
 use Rattle.rules.specs.Bytes.{Bytes, Aid}
@@ -52,8 +52,8 @@ part-g-start c = let t = start c .pre .0 .1 in omega (arith, t .file, t .stands 
 part-g-end : tie.Need-part-g-end
 part-g-end c = let t = start c .pre .0 .1 in omega (arith, t .file, t .stands .to)
 
-add-inside-answer : tie.Need-add-inside-answer
-add-inside-answer c = omega (arith, aid-inside (start (c .before) .pre .0 .1 .domain))
+add-t14 : tie.Need-add-t14
+add-t14 c = omega (arith, aid-inside (start (c .before) .pre .0 .1 .domain))
 
 slice-aggregate-inside-answer : tie.Need-slice-aggregate-inside-answer
 slice-aggregate-inside-answer c = search needs
@@ -62,7 +62,7 @@ inside-answer-requires : tie.Need-inside-answer-requires
 inside-answer-requires c κs =
     let b = start (c .before .before .before .before) in
     let pre = b .pre in (
-      (pre .0 .0, pre .0 .1 .domain),
+      (pre .0 .0, record { there = pre .0 .1 .domain; asked = λ es o p e. sym (pre .0 .1 .known es o .2 p e) }),
       ((packages.indexed (now (b .args .s)) (b .args .x .at) _ (pre .0 .0) (pre .1 .0 .0), pre .1 .0 .1, pre .1 .1 .0), refl),
     )
 
@@ -190,7 +190,7 @@ package-sound-spec =
     sub-g
     part-g-start
     part-g-end
-    add-inside-answer
+    add-t14
     slice-aggregate-inside-answer
     inside-answer-requires
     enum-told

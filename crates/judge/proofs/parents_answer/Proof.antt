@@ -1,6 +1,8 @@
 -- `judge::parents_answer` meets its contract. Assumes nothing.
 use Rattle.cursor.specs.Limits.{limitsOf}
 use denote.Ref.{now}
+use Rattle.rules.specs.Store.{storeLimits}
+use Rattle.reader.proofs.Said as said
 use Rattle.judge.proofs.Loading as loading
 use borrow.Author.Needs.{needs}
 use Rattle.judge.proofs.parents_answer.Statement.{statement}
@@ -36,7 +38,7 @@ package-answer-requires c κs =
     let start = c3 .before .before .before .before .before .before in
     let a = start .args in
     let pre = start .pre in
-    let read = loading.said-0 (now (a .s)) (limitsOf (limits-of .result)) (limits-of .ensures) (now (a .file)) (read-package .result)
+    let read = said.said-0 (storeLimits (now (a .s))) (limitsOf (limits-of .result)) (limits-of .ensures) (now (a .file)) (read-package .result)
     (read-package .ensures) (enum-told3 .given .0 .0) (enum-told3 .given .1) in
     ((pre .0, read .0, read .1), pre .1)
 
@@ -47,7 +49,7 @@ returns c =
     let c2 = c1 .before in
     let limits-of = c2 .limits-of in
     let a = c2 .before .before .before .before .before .before .args in (
-      loading.parents-10 (now (a .s)) (a .end) (now (a .file)) (loading.said-10 (now (a .s)) (limitsOf (limits-of .result)) (limits-of .ensures)
+      loading.parents-10 (now (a .s)) (a .end) (now (a .file)) (said.said-10 (storeLimits (now (a .s))) (limitsOf (limits-of .result)) (limits-of .ensures)
           (now (a .file)) (read-package .result) (read-package .ensures) (c .enum-told .given .1)),
       tt,
     )
@@ -59,7 +61,7 @@ returns-2 c =
     let c2 = c1 .before in
     let limits-of = c2 .limits-of in
     let a = c2 .before .before .before .before .before .before .args in
-    let read = loading.said-11 (now (a .s)) (limitsOf (limits-of .result)) (limits-of .ensures) (now (a .file)) (read-package .result)
+    let read = said.said-11 (storeLimits (now (a .s))) (limitsOf (limits-of .result)) (limits-of .ensures) (now (a .file)) (read-package .result)
     (read-package .ensures) (c .enum-told2 .given .1) in
     (loading.parents-11 (now (a .s)) (a .end) (now (a .file)) (read .0) (read .1), tt)
 

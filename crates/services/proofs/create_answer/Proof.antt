@@ -25,7 +25,7 @@ returns : tie.Need-returns
 returns c =
     let start = c .before .before .before .before in
     let lengths = c .before .length-ok in
-    creation.create-3 (now (start .args .s)) (start .args .used) (now (start .args .domain))
+    λ k. creation.create-3 (now (start .args .s)) (start .args .used) (now (start .args .domain)) k
     (sym (lengths .ensures) ∙ not-true (lengths .result) (c .if1 .taken))
 
 find-domain-requires : tie.Need-find-domain-requires
@@ -52,9 +52,9 @@ returns-2 c =
     let asked = c2 .before in
     let start = asked .before .before .before .before in
     let fits = c .before .domain-fits in
-    creation.create-21 (now (start .args .s)) (start .args .used) (now (start .args .domain)) (three asked) (found .result) (found .ensures) false
+    λ k. creation.create-21 (now (start .args .s)) (start .args .used) (now (start .args .domain)) k (three asked) (found .result) (found .ensures) false
     (c1 .enum-told2 .given .1)
-    (subst (Fits (now (start .args .s)) (start .args .used) (domain (now (start .args .domain)))) (not-true (fits .result) (c .if2 .taken)) (fits .ensures))
+    (subst (Fits (now (start .args .s)) (start .args .used) (domain k (now (start .args .domain)))) (not-true (fits .result) (c .if2 .taken)) (fits .ensures k))
 
 returns-3 : tie.Need-returns-3
 returns-3 c =
@@ -63,7 +63,7 @@ returns-3 c =
     let asked = c1 .before in
     let start = asked .before .before .before .before in
     let at = c .enum-told .given in
-    creation.create-4 (now (start .args .s)) (start .args .used) (now (start .args .domain)) (three asked) (found .result) (found .ensures) (at .0 .0)
+    λ k. creation.create-4 (now (start .args .s)) (start .args .used) (now (start .args .domain)) k (three asked) (found .result) (found .ensures) (at .0 .0)
     (at .0 .1 .0) (at .1)
 
 returns-4 : tie.Need-returns-4
@@ -74,9 +74,9 @@ returns-4 c =
     let asked = c2 .before in
     let start = asked .before .before .before .before in
     let fits = c .before .domain-fits in
-    creation.create-21 (now (start .args .s)) (start .args .used) (now (start .args .domain)) (three asked) (found .result) (found .ensures) true
+    λ k. creation.create-21 (now (start .args .s)) (start .args .used) (now (start .args .domain)) k (three asked) (found .result) (found .ensures) true
     (c1 .enum-told2 .given .1)
-    (subst (Fits (now (start .args .s)) (start .args .used) (domain (now (start .args .domain)))) (not-false (fits .result) (c .if2 .left)) (fits .ensures))
+    (subst (Fits (now (start .args .s)) (start .args .used) (domain k (now (start .args .domain)))) (not-false (fits .result) (c .if2 .left)) (fits .ensures k))
 
 pub create-answer-spec : {M : Type 1} → statement M
 create-answer-spec =

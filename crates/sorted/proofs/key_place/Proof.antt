@@ -1,4 +1,4 @@
--- `sorted::key_place` tells a domain by its kind. Assumes nothing.
+-- `sorted::key_place` tells a package by its kind. Assumes nothing.
 use denote.Ref.{now}
 use native.Mathlib.Omega.{arith}
 use mathlib.Core.Path.{sym}

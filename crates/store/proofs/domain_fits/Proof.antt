@@ -20,7 +20,7 @@ returns c =
     let aid = now (start .args .aid) in
     let s = now (start .args .s) in
     let end = start .args .end in
-    fits.fits-is s end (length aid) (domain aid) false refl (sym (lt-leb (end + (3 + length aid)) (length s) (omega arith)))
+    λ k. fits.fits-is s end (length aid) (domain k aid) false refl (sym (lt-leb (end + (3 + length aid)) (length s) (omega arith)))
 
 returns-2 : tie.Need-returns-2
 returns-2 c =
@@ -28,7 +28,7 @@ returns-2 c =
     let aid = now (start .args .aid) in
     let s = now (start .args .s) in
     let end = start .args .end in
-    fits.fits-is s end (length aid) (domain aid) _ refl (fits.leb-same (length aid) (length s - end - 3) (end + (3 + length aid)) (length s)
+    λ k. fits.fits-is s end (length aid) (domain k aid) _ refl (fits.leb-same (length aid) (length s - end - 3) (end + (3 + length aid)) (length s)
     (λ h. omega arith) (λ h. omega arith))
 
 pub domain-fits-spec : {M : Type 1} → statement M
