@@ -26,8 +26,9 @@ inside-number-requires c κs =
     let answer = at-answer .parents-answer in
     let start = at-answer .before .before .before .before .before .before .before .before in
     let a = start .args in
+    let d = aidAt (now (a .s)) (a .domain .aid) in
     let told = subst (ParentsTold (now (a .s)) (a .end) (now (a .file)) _ _) (depth .given .1) (answer .ensures .1) in
-    let asked = loading.asked-14 (now (a .s)) (a .end) (aidAt (now (a .s)) (a .domain .aid)) (now (a .file)) (answer .result) (answer .ensures .0) (depth .given .0 .0)
+    let asked = loading.asked-14 (now (a .s)) (a .end) d (now (a .file)) (answer .result) (answer .ensures .0) (depth .given .0 .0)
     (depth .given .1) (start .pre .0 .0) in
     ((asked, start .pre .0 .1), (told .0, start .pre .1 .0 .2))
 
@@ -41,7 +42,8 @@ returns c =
     let at-answer = c .before .before .before .before .before .before .before .before in
     let answer = at-answer .parents-answer in
     let a = at-answer .before .before .before .before .before .before .before .before .args in
-    let no = loading.inside-refused (now (a .s)) (a .end) (aidAt (now (a .s)) (a .domain .aid)) (now (a .file)) (answer .result) (answer .ensures .0) (depth .given .0 .0)
+    let d = aidAt (now (a .s)) (a .domain .aid) in
+    let no = loading.inside-refused (now (a .s)) (a .end) d (now (a .file)) (answer .result) (answer .ensures .0) (depth .given .0 .0)
     (depth .given .1) (number .result) (number .ensures) (c .if1 .taken) in
     (no, tt)
 
@@ -54,7 +56,8 @@ returns-2 c =
     let at-answer = c .before .before .before .before .before in
     let answer = at-answer .parents-answer in
     let a = at-answer .before .before .before .before .before .before .before .before .args in
-    (loading.inside-first (now (a .s)) (a .end) (aidAt (now (a .s)) (a .domain .aid)) (now (a .file)) (answer .result) (answer .ensures .0) (n .given .0 .0) (n .given .1), tt)
+    let d = aidAt (now (a .s)) (a .domain .aid) in
+    (loading.inside-first (now (a .s)) (a .end) d (now (a .file)) (answer .result) (answer .ensures .0) (n .given .0 .0) (n .given .1), tt)
 
 same-length-3 : tie.Need-same-length-3
 same-length-3 c = search needs
@@ -66,8 +69,9 @@ returns-3 c =
     let at-answer = c .before .before .before .before .before .before .before .before in
     let answer = at-answer .parents-answer in
     let a = at-answer .before .before .before .before .before .before .before .before .args in
+    let d = aidAt (now (a .s)) (a .domain .aid) in
     let told = subst (ParentsTold (now (a .s)) (a .end) (now (a .file)) _ _) (depth .given .1) (answer .ensures .1) in
-    let accepted = loading.inside-yes (now (a .s)) (a .end) (aidAt (now (a .s)) (a .domain .aid)) (now (a .file)) (answer .result) (answer .ensures .0) (depth .given .0 .0)
+    let accepted = loading.inside-yes (now (a .s)) (a .end) d (now (a .file)) (answer .result) (answer .ensures .0) (depth .given .0 .0)
     (depth .given .1) (number .result) (number .ensures) (c .if1 .left) in
     (accepted, (told .1, told .2))
 
