@@ -1,7 +1,6 @@
 -- The depth of a parent, as it is told by the own depths or by the table. Assumes nothing.
-use Prim.Native.Nat.{ℕ, zero, suc, _+_, _/_, _<_, _^_, _≤_, _*_}
+use Prim.Native.Nat.{ℕ, zero, suc, _+_, _/_, _<_}
 use native.Mathlib.Omega.{arith}
-use native.Mathlib.Nat.{mul-le-mul-right}
 use native.Mathlib.Decide.{decLe}
 use mathlib.Core.Path.{_≡_, refl, sym, _∙_, ap, subst}
 use mathlib.Core.Bool.{Bool}
@@ -27,7 +26,7 @@ use Rattle.homes.specs.Found.{homeAt, ImportHomes}
 use Rattle.homes.specs.declared.Home.{Home}
 use Rattle.homes.proofs.Homes.{home-reads, stored-file}
 use Rattle.named.specs.Named.{homeOf, PackageThere, ClassFrom, Stands}
-use Rattle.depths.specs.Depths.{ClassIs, ClassThere, Kind0Is, depthOf, DepthIs, DepthsKept, toldDepth, depthWidth, depthField, depthsLength}
+use Rattle.depths.specs.Depths.{ClassIs, ClassThere, Kind0Is, depthOf, DepthIs, DepthsKept, toldDepth, depthWidth, depthField}
 use Rattle.depths.proofs.Records.{RecordBy, record-by}
 use Rattle.depths.proofs.ParentKinds.{kind-is}
 
@@ -45,25 +44,6 @@ depth-one s es x n k e z = rw (e, empty (k .parents) z)
     empty : (xs : List ClassNumber) → length xs ≡ 0 → xs ≡ []
     empty [] z = refl
     empty (x ∷ xs) z = absurd (omega (arith, z))
-
--- a field of so few bits is small
-pub field-small : {w r : ℕ} → r < 2 ^ w → w ≤ 4 → r < 16
-field-small {w} {r} h l = go w h l
-  where
-    go : (w : ℕ) → r < 2 ^ w → w ≤ 4 → r < 16
-    go zero h l = omega arith
-    go (suc zero) h l = omega arith
-    go (suc (suc zero)) h l = omega arith
-    go (suc (suc (suc zero))) h l = omega arith
-    go (suc (suc (suc (suc zero)))) h l = h
-    go (suc (suc (suc (suc (suc w))))) h l = absurd (omega arith)
-
--- the field of a place of the store lies in the table
-pub field-room : (s : Bytes) (w : ℕ) {p n : ℕ} → w ≡ depthWidth s → p < length s → depthsLength s ≤ n → p / 5 * w / 8 + 1 < n
-field-room s w {p} {n} e h r =
-    let m : p / 5 * depthWidth s ≤ length s / 5 * depthWidth s = mul-le-mul-right (depthWidth s) (omega (arith, h)) in
-    let z : p / 5 * w ≡ p / 5 * depthWidth s = ap (λ (v : ℕ). p / 5 * v) e in
-    omega (arith, z, m, r)
 
 -- what the code tells, by its cases
 module _ (w : ℕ) (ds tab : List ℕ) (from i c n : ℕ) where
@@ -129,8 +109,11 @@ module _ (f s : Bytes) (end : ℕ) (t : List ℕ) (u : ImportHomes f s end t) wh
         zero-own : p ≡ 0 → ⊥
         zero-own z = let w : h .from ≡ 0 = ap (λ (v : Home). v .from) (e ∙ ap (homeOf end t) z) in omega (arith, n, w)
 
-    module _ (ds tab : List ℕ) (kept : DepthsKept s end tab) (low : p ≡ 0 → DepthIs f s end (ownHome end) c (getD ds c 0)) (v r : ℕ)
-        (zv : v ≡ getD b (i + 1) 0) (zr : r ≡ toldDepth (depthWidth s) ds tab (h .from) i c v) where
+    module _ (ds tab : List ℕ) (kept : DepthsKept s end tab) (low : p ≡ 0 → DepthIs f s end (ownHome end) c (getD ds c 0)) (v w r : ℕ)
+        (zv : v ≡ getD b (i + 1) 0) (zw : w ≡ depthWidth s) (z : r ≡ toldDepth w ds tab (h .from) i c v) where
+      zr : r ≡ toldDepth (depthWidth s) ds tab (h .from) i c v
+      zr = z ∙ ap (λ (x : ℕ). toldDepth x ds tab (h .from) i c v) zw
+
       own-case : p ≡ 0 → DepthIs f s end (homeOf end t p) c r
       own-case z =
           let w : h .from ≡ 0 = ap (λ (v : Home). v .from) (e ∙ ap (homeOf end t) z) in

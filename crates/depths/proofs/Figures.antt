@@ -1,4 +1,4 @@
--- Question 14's second and third part over the own classes, with the depth figure; and its three parts together. Assumes nothing.
+-- Question 14's second and third part over the own classes, with the depth figure. Assumes nothing.
 use Prim.Native.Nat.{ℕ, _+_, _≤_, _<_, max}
 use native.Mathlib.Omega.{arith}
 use native.Mathlib.Numerals.{add-one}
@@ -11,24 +11,22 @@ use lib.Dec.{leb, eqb}
 use lib.ListN.{length, drop, getD, set, length-set}
 use lib.Seq.{getD-set-same, getD-set-other}
 use borrow.Author.Tests.{le-leb, lt-leb, eqb-true, eqb-false}
-use Rattle.rules.specs.Bytes.{Bytes, all, allFrom, at}
+use Rattle.rules.specs.Bytes.{Bytes, all, at}
 use Rattle.rules.specs.Package.{mostClasses, Class}
 use Rattle.rules.specs.Store.{Entry, storeLimits}
 use Rattle.rules.specs.Classes.{Installed, installed}
-use Rattle.rules.specs.Questions.{parentExists, parentKinds, depthWithin, q14-parents}
+use Rattle.rules.specs.Questions.{parentKinds, depthWithin}
 use Rattle.rules.specs.Operations.{deepestFrom}
-use Rattle.rules.proofs.Tests.{of-true, none-some}
+use Rattle.rules.proofs.Tests.{none-some}
 use Rattle.rules.proofs.Lists.{at-there, at-below}
-use Rattle.rules.proofs.Asked.{parents-yes}
 use Rattle.places.proofs.Track.{placed-none}
 use Rattle.files.specs.Say.{ClassPlaced}
 use Rattle.files.specs.declared.Spot.the-variants.{Nothing}
-use Rattle.homes.specs.Homes.{Imports, Parents, ownHome}
+use Rattle.homes.specs.Homes.{Parents, ownHome}
 use Rattle.homes.specs.Homes as homes
 use Rattle.homes.proofs.Homes.{home-reads}
-use Rattle.named.specs.Named.{Judged, ClassFrom}
-use Rattle.depths.specs.Depths.{ParentsThere, OfParents, ParentsExist, ClassIs, KindsIs, DepthIs, OwnTo, OwnDepths, laterParts, LaterParts, ParentedIs, OwnTold}
-use Rattle.depths.specs.declared.Parented.{Parented}
+use Rattle.named.specs.Named.{ClassFrom}
+use Rattle.depths.specs.Depths.{OfParents, ClassIs, KindsIs, DepthIs, OwnTo, OwnDepths, laterParts, LaterParts}
 use Rattle.depths.specs.declared.Parented.the-variants.{Yes, No}
 use Rattle.depths.proofs.ByNumber.{drop-at, drop-none, all-from, Left, left-more, left-bad, left-none}
 use Rattle.depths.proofs.Exist.{own-at}
@@ -138,40 +136,3 @@ module _ (f s : Bytes) (end : ℕ) where
             (λ j k. parentKinds (installed (storeLimits s) es) self k) (self .pack .classes) n e (t es self g) in
             let d = left-none (λ j k. depthWithin (storeLimits s) (installed (storeLimits s) es) self j) (self .pack .classes) n e (b .0) in
             (ap₂ _&&_ k d, omega (arith, b .1, r))
-
-  -- the three parts
-  abbrev exist : List Entry → Installed → Bool
-  exist es self = allFrom (λ i k. all (parentExists (installed (storeLimits s) es) self i) (k .parents)) 0 (self .pack .classes)
-
-  pub no-parent : ParentsExist f s end false → ParentedIs f s end No
-  unfolding q14-parents
-  no-parent q es self i = ap (λ (b : Bool). b && laterParts s es self) (sym (q es self i))
-
-  module _ (p : ParentsExist f s end true) where
-    with-parents : (es : List Entry) (self : Installed) → Imports f s end es self → Parents f s end es self
-    with-parents es self i = record { imported = i; exist = of-true (sym (p es self i)) }
-
-    pub parents-there : Judged f s end → ParentsThere f s end
-    parents-there t = (t .0, t .1, with-parents (t .0) (t .1) (t .2))
-
-    -- the answer is that of the later parts
-    later-is : (es : List Entry) (self : Installed) → Imports f s end es self → q14-parents (storeLimits s) (installed (storeLimits s) es) self ≡
-        laterParts s es self
-    unfolding q14-parents
-    later-is es self i = ap (λ (b : Bool). b && laterParts s es self) (sym (p es self i))
-
-    pub all-parts : (ds : List ℕ) (r : Parented) → LaterParts f s end ds r → ParentedIs f s end r
-    all-parts ds No d = λ es self i. later-is es self i ∙ d es self (with-parents es self i)
-    all-parts ds (Yes v) d = λ es self i. let z = d .0 es self (with-parents es self i) in (later-is es self i ∙ z .0, z .1)
-
-  pub own-told : (ds : List ℕ) (r : Parented) → LaterParts f s end ds r → OwnTold f s end ds r
-  own-told ds No d = tt
-  own-told ds (Yes v) d = d .1
-
-  -- with a yes each parent exists
-  pub parented-parents : (v : ℕ) → ParentedIs f s end (Yes v) → (es : List Entry) (self : Installed) → Imports f s end es self → Parents f s end es self
-  parented-parents v q es self i = record {
-    imported = i;
-    exist = (parents-yes (storeLimits s) (installed (storeLimits s) es) self
-        (of-true ((q es self i) .0))) .exist;
-  }

@@ -1,50 +1,31 @@
--- The table of depths over an operation: at the start, behind a domain's entry, behind a package's; and the depths that are written. Assumes nothing.
-use Prim.Native.Nat.{ℕ, suc, _+_, _/_, _^_, _≤_, _<_}
+-- The table of depths over an operation: at the start, behind a domain's entry, behind a package's. Assumes nothing.
+use Prim.Native.Nat.{ℕ, suc, _+_, _/_, _≤_, _<_}
 use native.Mathlib.Omega.{arith}
-use native.Mathlib.Decide.{decLe}
 use mathlib.Core.Path.{_≡_, sym, _∙_, ap, ap₂, subst}
 use mathlib.Core.List.{List, [], _∷_, _++_}
 use mathlib.Core.Option.{some, Option·some-injective}
-use lib.Dec.{T, leb→le, eqb→eq}
-use lib.ListN.{length, getD, replicate, length-replicate, List·getD-eq-default}
-use borrow.Author.Tests.{le-leb, lt-leb}
+use lib.Dec.{T, eqb→eq}
+use lib.ListN.{length, getD, replicate, length-replicate}
 use Rattle.rules.specs.Bytes.{Bytes, Aid, at}
-use Rattle.rules.specs.Package.{mostClasses, Class, Package, readFile}
+use Rattle.rules.specs.Package.{Class, Package, readFile}
 use Rattle.rules.specs.Store.{DomainKind, Entry, domain, loaded, firstEntry, storeLimits, storeOpening}
-use Rattle.rules.specs.Classes.{Installed, installed, depthUpTo}
-use Rattle.rules.specs.Questions.{own, depthWithin}
+use Rattle.rules.specs.Classes.{Installed, depthUpTo}
+use Rattle.rules.specs.Questions.{own}
 use Rattle.rules.specs.Operations.{accepted, acceptedAll}
-use Rattle.rules.proofs.Tests.{and-l, and-r, of-true, allFrom-zero}
-use Rattle.rules.proofs.Asked.{LoadYes, load-yes, parents-yes}
+use Rattle.rules.proofs.Tests.{and-l, and-r}
+use Rattle.rules.proofs.Asked.{LoadYes, load-yes}
 use Rattle.rules.proofs.Sound.{installed-domain}
-use Rattle.rules.proofs.Limits.{limits-range}
 use Rattle.rules.proofs.Step.{accepted-append}
 use Rattle.store.specs.Entries.{part, EntryAt, Entries, StandFrom}
 use Rattle.store.proofs.Parts.{part-length}
 use Rattle.store.proofs.Stand.{entries-over, entries-one, entries-more}
-use Rattle.homes.specs.Homes.{Parents, ownHome, Stored}
-use Rattle.homes.specs.Homes as homes
+use Rattle.homes.specs.Homes.{Stored}
 use Rattle.homes.specs.declared.Home.{Home}
-use Rattle.named.specs.Named.{Judged, Stands, ClassFrom}
-use Rattle.depths.specs.Depths.{ClassIs, DepthsKept, OwnDepths, DepthsFit, FileKept, ParentedIs, depthOf, widthFor, depthWidth, depthField, depthsLength}
-use Rattle.depths.specs.declared.Parented.the-variants.{Yes}
+use Rattle.named.specs.Named.{Stands}
+use Rattle.depths.specs.Depths.{DepthsKept, OwnDepths, FileKept, depthOf, depthWidth, depthField, depthsLength}
 use Rattle.depths.proofs.Records.{RecordBy}
-use Rattle.depths.proofs.Exist.{judged-reads, own-at}
-use Rattle.depths.proofs.Figures.{parented-parents}
-use Rattle.depths.proofs.Written.{stands-from}
 use Rattle.depths.proofs.Longer.{among-none, StoredOr, before, last, stored-or}
 use Rattle.depths.proofs.Later.{own-is, other-is, class-record}
-
--- so many bits hold every depth up to the limit
-width-holds : (most : ℕ) → most ≤ 16 → most ≤ 2 ^ widthFor most
-width-holds most h = elim (decLe most 8) [
-  | yes l ↦ rw (le-leb most 8 l) l
-  | no l ↦ rw (lt-leb most 8 (omega arith)) h
-]
-
--- and are few
-pub width-few : (most : ℕ) → widthFor most ≤ 4
-width-few most = elim (decLe most 8) [ yes l ↦ rw (le-leb most 8 l) (omega arith) | no l ↦ rw (lt-leb most 8 (omega arith)) (omega arith) ]
 
 -- nothing stands before the first entry
 pub depths-start : (s : Bytes) (n : ℕ) → depthsLength s ≤ n → DepthsKept s (firstEntry s) (replicate n 0)
@@ -54,44 +35,6 @@ depths-start s n r = record {
       absurd (among-none (t .pre) (loaded (x .domain) (part s (h .from) (h .to))) (t .post)
       (sym (entries-over s (firstEntry s) es (firstEntry s) (omega arith) stand) ∙ t .are));
 }
-
--- the depths of an accepted file's classes are within the limit
-pub depths-fit : (f s : Bytes) (end depth : ℕ) (ds : List ℕ) → Judged f s end → ParentedIs f s end (Yes depth) → OwnDepths f s end ds →
-    length ds ≡ mostClasses → DepthsFit (depthWidth s) f ds
-depths-fit f s end depth ds t p o e = record { size = e; fit = fit }
-  where
-    es : List Entry
-    es = t .0
-
-    self : Installed
-    self = t .1
-
-    parents : Parents f s end es self
-    parents = parented-parents f s end depth p es self (t .2)
-
-    fit : (n i : ℕ) → Stands f n i → 0 < getD f (i + 1) 0 → (1 ≤ getD ds n 0) × (getD ds n 0 ≤ 2 ^ depthWidth s)
-    fit n i q h = (omega (arith, told), omega (arith, told, within, width-holds (storeLimits s .depth) ((limits-range s) .0)))
-      where
-        inside : i < length f
-        inside = elim (decLe (length f) i) [
-          | yes l ↦ let z : getD f (i + 1) 0 ≡ 0 = List·getD-eq-default f 0 (omega (arith, l)) in absurd (omega (arith, z, h))
-          | no l ↦ omega arith
-        ]
-
-        from : ClassFrom f n i
-        from = record { inside = inside; rest = stands-from f (judged-reads f s end t) n i q }
-
-        class : (k : Class) × ClassIs f s end (ownHome end) n es self self k
-        class = let y = own-at f s end n i from es self (t .2) in (y .0, record { parents = parents; home = homes.own; is = y .1 })
-
-        told : getD ds n 0 ≡ depthOf s es (own self n)
-        told = o n es self self (class .0) (class .1)
-
-        within : depthOf s es (own self n) ≤ storeLimits s .depth
-        within =
-            let is : List Installed = installed (storeLimits s) es in
-            let y = (parents-yes (storeLimits s) is self (of-true ((p es self (t .2)) .0))) .depths in
-            leb→le _ _ (allFrom-zero (λ i k. depthWithin (storeLimits s) is self i) (self .pack .classes) n (class .0) y (class .1 .is))
 
 -- what the table tells of given entries
 abbrev Tells : Bytes → List Entry → List ℕ → Type 0

@@ -18,7 +18,8 @@ use Rattle.homes.specs.declared.Home.{Home}
 use Rattle.named.specs.Named.{ClassFrom}
 use Rattle.depths.specs.Depths.{OfClass, ParentIs, Kind0Is, Kind0Count, KindsIs, capped, depthOf, DepthIs, DeepestIs, OwnIs}
 use Rattle.depths.proofs.ByNumber.{drop-at, drop-end}
-use Rattle.depths.proofs.ParentKinds.{class-by, kinds-is}
+use Rattle.depths.proofs.ListedParents.{class-by}
+use Rattle.depths.proofs.ParentKinds.{kinds-is}
 
 -- a number, or the limit where it is more
 capped-low : (k d : ℕ) → d ≤ k → capped k d ≡ d

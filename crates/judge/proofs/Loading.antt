@@ -1,30 +1,21 @@
--- A load over sound entries: questions 3, 5 and 10 to 14, and what follows them. Assumes nothing.
+-- A load over sound entries: 3 and 5, and what follows 10 to 14. Assumes nothing.
 use Prim.Native.Nat.{ℕ, _+_, _<_}
 use native.Mathlib.Omega.{arith}
 use mathlib.Core.Path.{_≡_, refl, sym, _∙_, ap, subst}
 use mathlib.Core.Bool.{Bool, true, false, _||_, not}
 use mathlib.Core.List.{List, [], _∷_}
-use mathlib.Core.Option.{Option, none, some}
 use lib.Dec.{T}
 use lib.ListN.{length}
 use Rattle.rules.specs.Bytes.{Bytes, Aid, aidLength, aid}
-use Rattle.rules.specs.Package.{Limits, Package, readFile}
+use Rattle.rules.specs.Package.{Package, readFile}
 use Rattle.rules.specs.Store.{Entry, domain, loaded, storeLimits, storeOpening, firstEntry}
-use Rattle.rules.specs.Classes.{Installed, installed}
+use Rattle.rules.specs.Classes.{installed}
 use Rattle.rules.specs.Questions.{q3-lengths, q5-created, q10-marked, q11-reads, q12-new, q13-imports, q14-parents, allCodes, q26-subset}
-use Rattle.rules.specs.Operations.{firstNo, packageQuestions, loadQuestions, deepest, deepestOf, isDomain}
+use Rattle.rules.specs.Operations.{firstNo, packageQuestions, loadQuestions, deepestOf, isDomain}
 use Rattle.rules.proofs.Tests.{is-true, of-true, same-eq}
-use Rattle.reader.specs.Answers.{PackageRead}
-use Rattle.reader.specs.Answers as said
-use Rattle.reader.specs.declared.Places.{Places}
-use Rattle.reader.specs.declared.Read.{Read}
-use Rattle.reader.specs.declared.Read.the-variants as reads
-use Rattle.imports.specs.Say.{NewIs, ImportsIs}
 use Rattle.places.specs.Reads.{Ends}
-use Rattle.homes.specs.Homes.{Imports, aidAt}
+use Rattle.homes.specs.Homes.{aidAt}
 use Rattle.homes.proofs.Domains.{created-domain}
-use Rattle.depths.specs.Depths.{ParentedIs}
-use Rattle.depths.specs.declared.Parented.the-variants as parented
 use Rattle.store.specs.Entries.{EntryAt}
 use Rattle.store.specs.Answers.{spot, SpotAt, SubsetSays}
 use Rattle.store.specs.Sound.{Over, OverSome}
@@ -33,95 +24,11 @@ use Rattle.store.specs.declared.Spot.the-variants.{At}
 use Rattle.store.proofs.Walk.{FoundAt, found-at}
 use Rattle.store.proofs.Sound.{one-length}
 use Rattle.rules.specs.Subset.{codeWithoutInt}
-use Rattle.judge.specs.Says.{FileRead, Asked14, asks, from, AnswerIs, Asked14Some, NumberFrom, NumberBefore, fileAsks, ParentsSay, ParentsAnswer, InsideAnswer, FileSays, LoadSays, SubsetTold}
+use Rattle.judge.specs.Says.{Asked14, asks, from, AnswerIs, Asked14Some, NumberFrom, NumberBefore, fileAsks, ParentsSay, ParentsAnswer, InsideAnswer, FileSays, LoadSays, SubsetTold}
 use Rattle.judge.specs.declared.LoadAnswer.{LoadAnswer}
 use Rattle.judge.specs.declared.LoadAnswer.the-variants.{Refused, Accepted}
 use Rattle.judge.proofs.Answers.{number-no, number-yes, answer-yes, answer-refused, answer-accepted}
-use Rattle.judge.proofs.Stages.{selfOf, setting}
-
-module _ (s : Bytes) (end : ℕ) (f : Bytes) where
-  -- 10 and 11 answered no
-  pub parents-10 : q10-marked f ≡ false → ParentsAnswer s end f (Refused 10)
-  unfolding loadQuestions
-  parents-10 h d es o = (omega arith, number-no 10 (q10-marked f) (packageQuestions (storeOpening s) (length s) es d f (readFile (storeLimits s) f)) h)
-
-  module _ (ten : q10-marked f ≡ true) where
-    pub parents-11 : readFile (storeLimits s) f ≡ none → ParentsAnswer s end f (Refused 11)
-    unfolding loadQuestions packageQuestions q11-reads
-    parents-11 e d es o = (
-      omega arith,
-      number-yes 10 (q10-marked f) (packageQuestions (storeOpening s) (length s) es d f (readFile (storeLimits s) f)) 11
-          ten (rw e),
-    )
-
-    module _ (p : Package) (eleven : readFile (storeLimits s) f ≡ some p) where
-      -- a number from 12 on is one from 10 on
-      read-number : (d : Aid) (es : List Entry) (n : ℕ) → n ≡ firstNo (from 12 (asks s es d f p)) → n ≡ firstNo (fileAsks s es d f)
-      unfolding loadQuestions packageQuestions q11-reads
-      read-number d es n h = number-yes 10 (q10-marked f) (packageQuestions (storeOpening s) (length s) es d f (readFile (storeLimits s) f)) n ten (rw eleven h)
-
-      -- the file that is read
-      read : (es : List Entry) → Over s end es → FileRead s end f es p
-      read es o = record { over = o; reads = eleven }
-
-      pub parents-12 : NewIs f s end false → ParentsAnswer s end f (Refused 12)
-      unfolding packageQuestions
-      parents-12 n d es o = (
-        omega arith,
-        read-number d es 12 (number-no 12 (q12-new (installed (storeLimits s) es) p) (from 13 (asks s es d f p))
-            (sym (n es (selfOf s end d f p) (setting s end d f es p (read es o))))),
-      )
-
-      module _ (twelve : NewIs f s end true) where
-        -- 12 was answered yes
-        is-new : (d : Aid) (es : List Entry) → Over s end es → q12-new (installed (storeLimits s) es) p ≡ true
-        is-new d es o = sym (twelve es (selfOf s end d f p) (setting s end d f es p (read es o)))
-
-        pub parents-13 : ImportsIs f s end false → ParentsAnswer s end f (Refused 13)
-        unfolding packageQuestions
-        parents-13 n d es o = (
-          omega arith,
-          read-number d es 13 (number-yes 12 (q12-new (installed (storeLimits s) es) p) (from 13 (asks s es d f p)) 13 (is-new d es o)
-              (number-no 13 (q13-imports (installed (storeLimits s) es) p) (from 14 (asks s es d f p))
-              (sym (n es (selfOf s end d f p) (setting s end d f es p (read es o)))))),
-        )
-
-        module _ (thirteen : ImportsIs f s end true) where
-          -- 13 was answered yes
-          has-imports : (d : Aid) (es : List Entry) → Over s end es → q13-imports (installed (storeLimits s) es) p ≡ true
-          has-imports d es o = sym (thirteen es (selfOf s end d f p) (setting s end d f es p (read es o)))
-
-          imported : (d : Aid) (es : List Entry) → Over s end es → Imports f s end es (selfOf s end d f p)
-          imported d es o = record { setting = setting s end d f es p (read es o); imports = of-true (has-imports d es o) }
-
-          -- what question 14 is asked over
-          pub imports-there : (d : Aid) (es : List Entry) → Over s end es → (es : List Entry) × (self : Installed) × Imports f s end es self
-          imports-there d es o = (es, selfOf s end d f p, imported d es o)
-
-          pub parents-14 : ParentedIs f s end parented.No → ParentsAnswer s end f (Refused 14)
-          unfolding packageQuestions
-          parents-14 n d es o =
-              let rest = from 15 (asks s es d f p) in
-              let no = number-no 14 (q14-parents (storeLimits s) (installed (storeLimits s) es) (selfOf s end d f p)) rest
-              (n es (selfOf s end d f p) (imported d es o)) in
-              let from-13 = number-yes 13 (q13-imports (installed (storeLimits s) es) p) (from 14 (asks s es d f p)) 14 (has-imports d es o) no in (
-                omega arith,
-                read-number d es 14 (number-yes 12 (q12-new (installed (storeLimits s) es) p) (from 13 (asks s es d f p)) 14 (is-new d es o)
-                    from-13),
-              )
-
-          pub parents-yes : (depth : ℕ) → ParentedIs f s end (parented.Yes depth) → ParentsAnswer s end f (Accepted depth)
-          unfolding deepest
-          parents-yes depth y d es o =
-              let q = y es (selfOf s end d f p) (imported d es o) in
-              let asked : Asked14 s end d f es p = record {
-                read = read es o;
-                q12 = of-true (is-new d es o);
-                q13 = of-true (has-imports d es o);
-                q14 =
-                    of-true (q .0);
-              } in
-              (p, asked, ten, q .1)
+use Rattle.judge.proofs.Settings.{selfOf}
 
 module _ (s : Bytes) (end : ℕ) (d : Aid) (f : Bytes) (es : List Entry) where
   -- a number from 15 on is one from 10 on, where 10 to 14 were answered yes
@@ -130,7 +37,7 @@ module _ (s : Bytes) (end : ℕ) (d : Aid) (f : Bytes) (es : List Entry) where
   unfolding loadQuestions packageQuestions q11-reads
   behind-14 p a ten n h =
       let is = installed (storeLimits s) es in
-      let from-14 = number-yes 14 (q14-parents (storeLimits s) is (selfOf s end d f p)) (from 15 (asks s es d f p)) n (is-true _ (a .q14)) h in
+      let from-14 = number-yes 14 (q14-parents (storeLimits s) is (selfOf d p)) (from 15 (asks s es d f p)) n (is-true _ (a .q14)) h in
       let from-13 = number-yes 13 (q13-imports is p) (from 14 (asks s es d f p)) n (is-true _ (a .q13)) from-14 in
       let from-12 = number-yes 12 (q12-new is p) (from 13 (asks s es d f p)) n (is-true _ (a .q12)) from-13 in
       number-yes 10 (q10-marked f) (packageQuestions (storeOpening s) (length s) es d f (readFile (storeLimits s) f)) n ten (rw (a .read .reads) from-12)

@@ -1,65 +1,33 @@
--- A load's questions from 12 on: each stage from the answers of its questions. Assumes nothing.
-use Prim.Native.Nat.{ℕ, _≤_, _<_}
+-- A load's questions from 15 on: each stage from the answers of its questions. Assumes nothing.
+use Prim.Native.Nat.{ℕ}
 use native.Mathlib.Omega.{arith}
 use mathlib.Core.Path.{_≡_, refl, sym, _∙_, ap, subst}
 use mathlib.Core.Bool.{Bool, true, false, _||_, not}
 use mathlib.Core.List.{List, [], _∷_}
-use mathlib.Core.Option.{some}
 use lib.Dec.{T, eqb}
 use lib.ListN.{length}
 use borrow.Author.Tests.{eq-eqb, ne-eqb, eqb-true}
 use Rattle.rules.specs.Bytes.{Bytes, Aid, pick, aid}
-use Rattle.rules.specs.Package.{Limits, Package, readFile}
-use Rattle.rules.specs.Store.{Entry, loaded, storeLimits, storeOpening, firstEntry}
-use Rattle.rules.specs.Classes.{Installed, installed}
+use Rattle.rules.specs.Package.{Package}
+use Rattle.rules.specs.Store.{Entry, loaded, storeLimits, storeOpening}
+use Rattle.rules.specs.Classes.{installed}
 use Rattle.rules.specs.Questions.{q15-names, q16-splits, q17-targets, q24-handlers, q26-subset, q18-calls, q19-allowed, q20-running, q21-fits}
 use Rattle.rules.specs.Operations.{Question, firstNo, packageQuestions}
-use Rattle.rules.proofs.Asked.{parents-yes}
 use Rattle.store.specs.Answers.{Fits}
-use Rattle.store.specs.Sound.{OverSome}
-use Rattle.rules.proofs.Limits.{first-entry}
-use Rattle.store.proofs.Stand.{entries-to}
 use Rattle.store.proofs.Sound.{over-used}
-use Rattle.imports.specs.Say.{SettingThere}
-use Rattle.files.specs.Say.{Readable}
 use Rattle.places.specs.Reads.{Ends}
-use Rattle.homes.specs.Homes.{Setting, Imports, Parents, aidAt, DomainAt}
+use Rattle.homes.specs.Homes.{aidAt, DomainAt}
 use Rattle.names.specs.Say.{NamesIs}
 use Rattle.file_codes.specs.Codes.{fileNumber, FileNumberIs}
 use Rattle.file_codes.proofs.Numbers as codes
 use Rattle.calls.specs.Calls.{CodesSplit, CallsNumberIs}
 use Rattle.rules.proofs.Tests.{of-true}
-use Rattle.named.specs.Named.{Judged}
 use Rattle.running.specs.Say.{JudgedThere, RunningIs}
-use Rattle.judge.specs.Says.{usedAt, FileRead, Asked14, ReadSome, Asked14Some, NumberFrom, NumberBefore, SubsetIs, SubsetTold, from, asks}
+use Rattle.judge.specs.Says.{Asked14, Asked14Some, NumberFrom, NumberBefore, SubsetIs, SubsetTold, from, asks}
 use Rattle.judge.proofs.Answers.{number-no, number-yes, joined-no, joined-yes}
+use Rattle.judge.proofs.Settings.{selfOf, imports, parents}
 
 module _ (s : Bytes) (end : ℕ) (d : Aid) (f : Bytes) where
-  -- a package in the domain that loads it
-  abbrev pub selfOf : Package → Installed
-  selfOf p = record { domain = d; pack = p }
-
-  -- the settings that the questions ask for
-  pub setting : (es : List Entry) (p : Package) → FileRead s end f es p → Setting f s end es (selfOf p)
-  setting es p r = record { stand = r .over .stand; size = length s; sound = r .over .sound; reads = r .reads }
-
-  module _ (es : List Entry) (p : Package) (a : Asked14 s end d f es p) where
-    pub imports : Imports f s end es (selfOf p)
-    imports = record { setting = setting es p (a .read); imports = a .q13 }
-
-    pub parents : Parents f s end es (selfOf p)
-    parents = record { imported = imports; exist = (parents-yes (storeLimits s) (installed (storeLimits s) es) (selfOf p) (a .q14)) .exist }
-
-  pub judged : Asked14Some s end d f → Judged f s end
-  judged t = (t .0, selfOf (t .1), imports (t .0) (t .1) (t .2))
-
-  -- the file reads
-  pub read-some : Asked14Some s end d f → ReadSome s f
-  read-some t = (t .1, t .2 .read .reads)
-
-  pub readable : Asked14Some s end d f → Readable f
-  readable t = (storeLimits s, t .1, t .2 .read .reads)
-
   -- 21
   last : (b : Bool) (es : List Entry) → b ≡ q21-fits (storeOpening s) (length s) es (loaded d f) →
       pick b 0 21 ≡ firstNo ((21, q21-fits (storeOpening s) (length s) es (loaded d f)) ∷ [])
@@ -72,36 +40,36 @@ module _ (s : Bytes) (end : ℕ) (d : Aid) (f : Bytes) where
 
   -- from 20 on: the loading domain stands at place i
   module _ (i : ℕ) (e : Ends aid s i) (z : d ≡ aidAt s i) where
-    loads : (p : Package) → DomainAt s i (selfOf p)
+    loads : (p : Package) → DomainAt s i (selfOf d p)
     loads p = record { there = e; is = z }
 
     pub judged-there : Asked14Some s end d f → JudgedThere f s end i
-    judged-there t = (t .0, selfOf (t .1), parents (t .0) (t .1) (t .2), t .2 .q14, loads (t .1))
+    judged-there t = (t .0, selfOf d (t .1), parents (t .0) (t .1) (t .2), t .2 .q14, loads (t .1))
 
     pub number-20 : RunningIs f s end i false → NumberFrom 20 s end d f 20
     unfolding packageQuestions
     number-20 n es p a =
-        number-no 20 (q20-running (storeLimits s) (installed (storeLimits s) es) (selfOf p)) (from 21 (asks s es d f p))
-        (sym (n es (selfOf p) (parents es p a) (a .q14) (loads p)))
+        number-no 20 (q20-running (storeLimits s) (installed (storeLimits s) es) (selfOf d p)) (from 21 (asks s es d f p))
+        (sym (n es (selfOf d p) (parents es p a) (a .q14) (loads p)))
 
     pub number-21 : (b : Bool) → RunningIs f s end i true → Fits s end (loaded d f) b → From20 b
     unfolding packageQuestions
     number-21 b twenty n es p a =
-        number-yes 20 (q20-running (storeLimits s) (installed (storeLimits s) es) (selfOf p)) (from 21 (asks s es d f p)) (pick b 0 21)
-        (sym (twenty es (selfOf p) (parents es p a) (a .q14) (loads p))) (last b es (n es (over-used s end es (a .read .over))))
+        number-yes 20 (q20-running (storeLimits s) (installed (storeLimits s) es) (selfOf d p)) (from 21 (asks s es d f p)) (pick b 0 21)
+        (sym (twenty es (selfOf d p) (parents es p a) (a .q14) (loads p))) (last b es (n es (over-used s end es (a .read .over))))
 
   -- 18 and 19, which are asked together, and what follows them
   abbrev calls : List Entry → Package → List Question
-  calls es p = (18, q18-calls (installed (storeLimits s) es) (selfOf p)) ∷ (19, q19-allowed (installed (storeLimits s) es) (selfOf p)) ∷ []
+  calls es p = (18, q18-calls (installed (storeLimits s) es) (selfOf d p)) ∷ (19, q19-allowed (installed (storeLimits s) es) (selfOf d p)) ∷ []
 
   module _ (c : ℕ) (number : CallsNumberIs f s end d c) where
     number-18 : (c ≡ 0 → ⊥) → NumberFrom 18 s end d f c
     unfolding packageQuestions
-    number-18 z es p a = joined-no (calls es p) (from 20 (asks s es d f p)) c tt (number es (selfOf p) (imports es p a) refl) z
+    number-18 z es p a = joined-no (calls es p) (from 20 (asks s es d f p)) c tt (number es (selfOf d p) (imports es p a) refl) z
 
     behind-19 : c ≡ 0 → (r : ℕ) → NumberFrom 20 s end d f r → NumberFrom 18 s end d f r
     unfolding packageQuestions
-    behind-19 z r n es p a = joined-yes (calls es p) (from 20 (asks s es d f p)) r tt (sym z ∙ number es (selfOf p) (imports es p a) refl) (n es p a)
+    behind-19 z r n es p a = joined-yes (calls es p) (from 20 (asks s es d f p)) r tt (sym z ∙ number es (selfOf d p) (imports es p a) refl) (n es p a)
 
     pub calls-before : NumberBefore 18 20 s end d f c
     calls-before = (number-18, behind-19)
@@ -192,8 +160,8 @@ module _ (s : Bytes) (end : ℕ) (d : Aid) (f : Bytes) where
           without-calls z r n es p a =
               let quiet = codes.number-0 p (sym (of-file es p a) ∙ z) .3 in
               let is = installed (storeLimits s) es in
-              let from-19 = number-yes 19 (q19-allowed is (selfOf p)) (from 20 (asks s es d f p)) r (codes.quiet-19 is (selfOf p) quiet) (n es p a) in
-              number-yes 18 (q18-calls is (selfOf p)) (from 19 (asks s es d f p)) r (codes.quiet-18 is (selfOf p) quiet) from-19
+              let from-19 = number-yes 19 (q19-allowed is (selfOf d p)) (from 20 (asks s es d f p)) r (codes.quiet-19 is (selfOf d p) quiet) (n es p a) in
+              number-yes 18 (q18-calls is (selfOf d p)) (from 19 (asks s es d f p)) r (codes.quiet-18 is (selfOf d p) quiet) from-19
 
           pub quiet-before : c ≡ 0 → NumberBefore 15 20 s end d f 0
           quiet-before z = ((λ y. absurd (y refl)), (λ y r n. behind-26 r (without-calls z r n)))
@@ -205,19 +173,3 @@ module _ (s : Bytes) (end : ℕ) (d : Aid) (f : Bytes) where
     -- every code splits
     pub codes-split : Asked14Some s end d f → c ≡ 18 → CodesSplit f
     codes-split t e l p r = of-true ((codes.number-18 p (sym (number l p r) ∙ e)) .0)
-
--- sets of so many bits have one for each byte of a code within the limits of a store
-pub code-room : (s f : Bytes) (n : ℕ) → ReadSome s f → storeLimits s .code ≤ n → (l : Limits) × (p : Package) × (readFile l f ≡ some p) × ((l .code ≤ n) × (l .code ≤ n))
-code-room s f n t h = (storeLimits s, t .0, t .1, (h, h))
-
--- the used field of a store lies inside it
-pub used-inside : (s : Bytes) → OverSome s (usedAt s) → 6 < length s
-used-inside s o = let t = entries-to s (firstEntry s) (o .0) (usedAt s) (o .1 .stand) in omega (arith, t .0, t .1, (first-entry s) .0)
-
--- what questions 12 and 13 are asked over, whatever domain loads the file
-pub setting-there : (s : Bytes) (end : ℕ) (f : Bytes) → OverSome s end → ReadSome s f → SettingThere f s end
-setting-there s end f o t = (o .0, selfOf s end [] f (t .0), setting s end [] f (o .0) (t .0) (record { over = o .1; reads = t .1 }))
-
--- the greatest depth within the limits that were read
-pub depth-limit : (s : Bytes) (l : Limits) → l ≡ storeLimits s → l .depth ≡ storeLimits s .depth
-depth-limit s l e = ap (λ (x : Limits). x .depth) e

@@ -34,7 +34,7 @@ use Rattle.running.specs.Walk.{seenLength}
 use Rattle.domains.specs.Domains.{domainAccepted, domainsAccepted, AllSay}
 use Rattle.domains.proofs.Split.{all-domains, kept-reads, domains-append}
 use Rattle.homes.specs.Found.{Indexed}
-use Rattle.judge.proofs.Packages.{indexed}
+use Rattle.judge.proofs.Entry.{indexed}
 use Rattle.judge.specs.Says.{usedAt, DomainYes, DomainsYes, PackagesSay, LoadSays, numberOf}
 use Rattle.judge.specs.declared.LoadAnswer.{LoadAnswer}
 use Rattle.judge.specs.declared.LoadAnswer.the-variants as answers

@@ -1,13 +1,14 @@
--- `depths::depths_ok` meets its contract. Assumes nothing.
-use Prim.Native.Nat.{_-_, _≤_}
+-- `depths::depths_ok` meets its contract: a turn for each class, with the kinds and depths of those before it. Assumes nothing.
+use Prim.Native.Nat.{_-_, _≤_, _<_}
 use native.Mathlib.Omega.{arith}
 use mathlib.Core.Path.{_≡_, refl, subst}
-use lib.ListN.{length-set}
-use lib.ListN.{length}
+use lib.ListN.{length, length-set}
 use denote.Ref.{now}
 use borrow.Author.Needs.{needs}
-use Rattle.named.specs.Named.{ClassStands, RowsTrue}
-use Rattle.depths.specs.Depths.{OwnTo}
+use Rattle.files.specs.Say.{Readable}
+use Rattle.homes.specs.Homes.{ownHome}
+use Rattle.named.specs.Named.{ClassStands, ClassFrom, RowsTrue}
+use Rattle.depths.specs.Depths.{DepthIs, OwnTo}
 use Rattle.depths.proofs.Figures as figures
 use Rattle.depths.proofs.Walk as walk
 use Rattle.depths.proofs.Exist as exist
@@ -21,274 +22,162 @@ Inv-loop f s homes rows₀ t depths₀ b imports n₀ figure₀ rows depths n fi
 abbrev μ-loop : tie.MeasureT-loop
 μ-loop f s homes rows₀ t depths₀ b imports n₀ figure₀ rows depths n figure = 32 - n
 
+-- the start, from where a turn begins; the turn, from where its class was looked for; that, from where it was found, or not; the find, from
+-- where its depth was told; that, from where the depth is not 0
+abbrev start : tie.At-loop Inv-loop μ-loop → tie.Start Inv-loop μ-loop
+start k = k .before .before .before .before .before .before .before
+
+abbrev turn : tie.After-stands-at Inv-loop μ-loop → tie.At-loop Inv-loop μ-loop
+turn k = k .before .before
+
+abbrev sought : tie.After-place Inv-loop μ-loop → tie.After-stands-at Inv-loop μ-loop
+sought k = k .before .before .before .before
+
+abbrev ended : tie.After-enum-told Inv-loop μ-loop → tie.After-stands-at Inv-loop μ-loop
+ended k = k .before .before .before .before
+
+abbrev found : tie.After-own-depth Inv-loop μ-loop → tie.After-place Inv-loop μ-loop
+found k = k .before .before .before .before
+
+abbrev untold : tie.Else1 Inv-loop μ-loop → tie.After-own-depth Inv-loop μ-loop
+untold k = k .before .before .before
+
+-- the file reads
+reads : (b : tie.Start Inv-loop μ-loop) → Readable (now (b .args .f))
+reads b = let p = b .pre .0 .0 in exist.judged-reads (now (b .args .f)) (now (b .args .s)) (b .args .b .end) (p .0, p .1, p .2 .imported)
+
+-- the rows are true behind the search
+rows-true : (k : tie.After-stands-at Inv-loop μ-loop) →
+    let a = start (turn k) .args in
+    RowsTrue (now (a .f)) (now (a .s)) (a .b .end) (now (a .homes)) (k .stands-at .last .1 .0)
+rows-true k = exist.own-written _ _ _ _ _ _ (k .stands-at .kept .1 .0) (turn k .loop .inv .3) (k .stands-at .ensures .1)
+
+-- the class of the turn stands at the place found; its number is below 32
+stands : (k : tie.After-place Inv-loop μ-loop) →
+    let t = turn (sought k) in
+    ClassFrom (now (start t .args .f)) (t .loop .n) (k .place .given .0 .0)
+stands k =
+    let t = turn (sought k) in
+    subst (ClassStands (now (start t .args .f)) (t .loop .n)) (k .place .given .1) (sought k .stands-at .ensures .0)
+
+few : (k : tie.After-place Inv-loop μ-loop) → turn (sought k) .loop .n < 32
+few k = exist.own-few _ _ _ (reads (start (turn (sought k)))) (stands k)
+
+-- the rows are as long as at the start
+rows-long : (k : tie.After-own-depth Inv-loop μ-loop) →
+    length (k .own-depth .last .1 .1 .1 .0) ≡ length (now (start (turn (sought (found k))) .args .rows))
+rows-long k =
+    let w = sought (found k) in
+    omega (arith, turn w .loop .inv .4, w .stands-at .kept .1 .0, k .own-depth .kept .1 .1 .1 .0)
+
+-- a depth that is not 0 is the class's
+depth : (e : tie.Else1 Inv-loop μ-loop) →
+    let t = turn (sought (found (untold e))) in
+    let a = start t .args in
+    DepthIs (now (a .f)) (now (a .s)) (a .b .end) (ownHome (a .b .end)) (t .loop .n) (untold e .own-depth .result)
+depth e = untold e .own-depth .ensures .0 .0 .depth (omega (arith, e .if1 .left))
+
 import-count-requires : tie.Need-import-count-requires Inv-loop μ-loop
-import-count-requires c κs =
-    let start = c .before .before .before .before .before in
-    let a = start .args in
-    let pre = start .pre in
-    (exist.judged-reads (now (a .f)) (now (a .s)) (a .b .end) ((pre .0 .0) .0, (pre .0 .0) .1, (pre .0 .0) .2 .imported))
+import-count-requires c κs = reads (c .before .before .before .before .before)
 
 loop-holds : tie.Need-loop-holds Inv-loop μ-loop
 loop-holds c =
-    let start = c .before .before .before .before .before .before in
-    let a = start .args in
-    let pre = start .pre in (
-      figures.kinds-start (now (a .f)) (now (a .s)) (a .b .end),
-      figures.depths-start (now (a .f)) (now (a .s)) (a .b .end),
-      figures.own-start (now (a .f))
-          (now (a .s)) (a .b .end) (now (a .depths)) (pre .1 .1 .1 .1),
-      (pre .1 .0),
-      refl,
-      refl,
-      omega arith,
-    )
+    let pre = c .before .before .before .before .before .before .pre in
+    (figures.kinds-start _ _ _, figures.depths-start _ _ _, figures.own-start _ _ _ _ (pre .1 .1 .1 .1), pre .1 .0, refl, refl, omega arith)
 
 stands-at-requires : tie.Need-stands-at-requires Inv-loop μ-loop
-stands-at-requires c κs =
-    let start = c .before .before .before .before .before .before .before .before in
-    let a = start .args in
-    let pre = start .pre in (
-      (exist.judged-reads (now (a .f)) (now (a .s)) (a .b .end) ((pre .0 .0) .0, (pre .0 .0) .1, (pre .0 .0) .2 .imported)),
-      exist.own-row (now (a .f))
-          (now (a .s)) (a .b .end) (now (a .homes)) (c .before .loop .rows) (c .before .loop .inv .3),
-    )
+stands-at-requires c κs = (reads (start (c .before)), exist.own-row _ _ _ _ _ (c .before .loop .inv .3))
 
 enum-known-place : tie.Need-enum-known-place Inv-loop μ-loop
 enum-known-place c = search needs
 
 own-depth-requires : tie.Need-own-depth-requires Inv-loop μ-loop
 own-depth-requires c κs =
-    let c1 = c .before .before .before in
-    let c2 = c1 .before .before .before .before in
-    let stands-at = c2 .stands-at in
-    let c3 = c2 .before .before in
-    let loop = c3 .loop in
-    let c4 = c3 .before in
-    let start = c4 .before .before .before .before .before .before in
-    let a = start .args in
-    let pre = start .pre in (
-      ((pre .0 .0), (pre .0 .1)),
-      (
-        (c4 .import-count .ensures, (subst (ClassStands (now (a .f)) (loop .n)) (c1 .place .given .1) (stands-at .ensures .0))),
-        (
-          (exist.own-written (now (a .f)) (now (a .s)) (a .b .end) (now (a .homes)) (loop .rows) (stands-at .last .1 .0) (stands-at .kept .1 .0)
-              (loop .inv .3) (stands-at .ensures .1)),
-          (((pre .1 .1 .0 .0), (pre .1 .1 .0 .1), loop .inv .2), (pre .1 .1 .1 .0)),
-        ),
-      ),
-    )
+    let k = c .before .before .before in
+    let t = turn (sought k) in
+    let pre = start t .pre in
+    (pre .0, ((t .before .import-count .ensures, stands k), (rows-true (sought k), ((pre .1 .1 .0 .0, pre .1 .1 .0 .1, t .loop .inv .2), pre .1 .1 .1 .0))))
 
 same-length : tie.Need-same-length Inv-loop μ-loop
-same-length c =
-    let c1 = c .before .before .before in
-    let c2 = c1 .before .before .before .before .before .before .before .before in
-    let loop = c2 .before .before .loop in
-    omega (arith, loop .inv .4, c2 .stands-at .kept .1 .0, c1 .own-depth .kept .1 .1 .1 .0)
+same-length c = rows-long (c .before .before .before)
 
 same-length-2 : tie.Need-same-length-2 Inv-loop μ-loop
-same-length-2 c =
-    let c1 = c .before .before .before .before .before .before .before .before .before .before in
-    let loop = c1 .before .before .before .loop in
-    loop .inv .5
+same-length-2 c = turn (sought (found (c .before .before .before))) .loop .inv .5
 
 returns : tie.Need-returns Inv-loop μ-loop
 returns c =
-    let c1 = c .before .before .before in
-    let own-depth = c1 .own-depth in
-    let c2 = c1 .before .before .before .before in
-    let place = c2 .place in
-    let c3 = c2 .before .before .before .before in
-    let c4 = c3 .before .before in
-    let loop = c4 .loop in
-    let a = c4 .before .before .before .before .before .before .before .args in (
-      figures.kinds-bad (now (a .f)) (now (a .s)) (a .b .end) (loop .n) (place .given .0 .0)
-          (subst (ClassStands (now (a .f)) (loop .n)) (place .given .1) (c3 .stands-at .ensures .0)) (loop .depths) (loop .inv .0)
-          (own-depth .ensures .0 .0 .bad (c .if1 .taken)),
-      own-depth .ensures .1,
-    )
+    let k = c .before .before .before in
+    let loop = turn (sought (found k)) .loop in
+    (figures.kinds-bad _ _ _ _ _ (stands (found k)) (loop .depths) (loop .inv .0) (k .own-depth .ensures .0 .0 .bad (c .if1 .taken)), k .own-depth .ensures .1)
 
 same-length-3 : tie.Need-same-length-3 Inv-loop μ-loop
-same-length-3 c =
-    let c1 = c .before .before .before .before .before in
-    let c2 = c1 .before .before .before .before .before .before .before .before in
-    let loop = c2 .before .before .loop in
-    omega (arith, loop .inv .4, c2 .stands-at .kept .1 .0, c1 .own-depth .kept .1 .1 .1 .0)
+same-length-3 c = rows-long (untold (c .before .before))
 
 same-length-4 : tie.Need-same-length-4 Inv-loop μ-loop
-same-length-4 c =
-    let c1 = c .before .before .before .before .before .before .before .before .before .before in
-    let loop = c1 .before .before .before .before .before .loop in
-    loop .inv .5
+same-length-4 c = turn (sought (found (untold (c .before .before)))) .loop .inv .5
 
 returns-2 : tie.Need-returns-2 Inv-loop μ-loop
 returns-2 c =
-    let c1 = c .before .before in
-    let c2 = c1 .before .before .before in
-    let own-depth = c2 .own-depth in
-    let c3 = c2 .before .before .before .before in
-    let place = c3 .place in
-    let c4 = c3 .before .before .before .before in
-    let c5 = c4 .before .before in
-    let loop = c5 .loop in
-    let start = c5 .before .before .before .before .before .before .before in
-    let a = start .args in (
-      figures.depths-bad (now (a .f)) (now (a .s)) (a .b .end) (loop .n) (place .given .0 .0)
-          (subst (ClassStands (now (a .f)) (loop .n)) (place .given .1) (c4 .stands-at .ensures .0)) (loop .figure) (loop .inv .1) (a .b .most)
-          (start .pre .1 .1 .1 .0) (own-depth .result) (own-depth .ensures .0 .0 .depth (omega (arith, c1 .if1 .left))) (loop .depths) (c .if2 .taken),
-      own-depth .ensures .1,
+    let k = untold (c .before .before) in
+    let t = turn (sought (found k)) in
+    let most = start t .pre .1 .1 .1 .0 in (
+      figures.depths-bad _ _ _ _ _ (stands (found k)) _ (t .loop .inv .1) _ most _ (depth (c .before .before)) (t .loop .depths) (c .if2 .taken),
+      k .own-depth .ensures .1,
     )
 
 cast-depths : tie.Need-cast-depths Inv-loop μ-loop
 cast-depths c =
-    let c1 = c .before .before .before .before .before .before .before .before .before .before in
-    let start = c1 .before .before .before .before .before .before .before .before .before .before .before .before in
-    let a = start .args in
-    omega (arith, c .if2 .left, walk.depth-small (now (a .s)) (a .b .most) (start .pre .1 .1 .1 .0))
+    let b = start (turn (sought (found (untold (c .before .before))))) in
+    omega (arith, c .if2 .left, walk.depth-small (now (b .args .s)) (b .args .b .most) (b .pre .1 .1 .1 .0))
 
 slice-write-depths : tie.Need-slice-write-depths Inv-loop μ-loop
 slice-write-depths c =
-    let c1 = c .before .before .before .before .before .before .before .before .before in
-    let place = c1 .place in
-    let c2 = c1 .before .before .before .before in
-    let c3 = c2 .before .before in
-    let loop = c3 .loop in
-    let start = c3 .before .before .before .before .before .before .before in
-    let a = start .args in
-    let pre = start .pre in
-    omega (
-      arith,
-      (exist.own-few (now (a .f)) (loop .n) (place .given .0 .0)
-          (exist.judged-reads (now (a .f)) (now (a .s)) (a .b .end) ((pre .0 .0) .0, (pre .0 .0) .1, (pre .0 .0) .2 .imported))
-          (subst (ClassStands (now (a .f)) (loop .n)) (place .given .1) (c2 .stands-at .ensures .0))),
-      loop .inv .2 .size,
-    )
+    let k = found (untold (c .before .before)) in
+    omega (arith, few k, turn (sought k) .loop .inv .2 .size)
 
 larger-requires : tie.Need-larger-requires Inv-loop μ-loop
 larger-requires c κs = search needs
 
 add-n : tie.Need-add-n Inv-loop μ-loop
-add-n c =
-    let c1 = c .before .before .before .before .before .before .before .before .before .before in
-    let place = c1 .place in
-    let c2 = c1 .before .before .before .before in
-    let c3 = c2 .before .before in
-    let loop = c3 .loop in
-    let start = c3 .before .before .before .before .before .before .before in
-    let a = start .args in
-    let pre = start .pre in
-    omega (
-      arith,
-      (exist.own-few (now (a .f)) (loop .n) (place .given .0 .0)
-          (exist.judged-reads (now (a .f)) (now (a .s)) (a .b .end) ((pre .0 .0) .0, (pre .0 .0) .1, (pre .0 .0) .2 .imported))
-          (subst (ClassStands (now (a .f)) (loop .n)) (place .given .1) (c2 .stands-at .ensures .0))),
-    )
+add-n c = omega (arith, few (found (untold (c .before .before .before))))
 
 loop-less : tie.Need-loop-less Inv-loop μ-loop
-loop-less c =
-    let c1 = c .before .before .before .before .before .before .before .before .before .before in
-    let place = c1 .place in
-    let c2 = c1 .before .before .before .before in
-    let c3 = c2 .before .before in
-    let loop = c3 .loop in
-    let start = c3 .before .before .before .before .before .before .before in
-    let a = start .args in
-    let pre = start .pre in
-    omega (
-      arith,
-      (exist.own-few (now (a .f)) (loop .n) (place .given .0 .0)
-          (exist.judged-reads (now (a .f)) (now (a .s)) (a .b .end) ((pre .0 .0) .0, (pre .0 .0) .1, (pre .0 .0) .2 .imported))
-          (subst (ClassStands (now (a .f)) (loop .n)) (place .given .1) (c2 .stands-at .ensures .0))),
-    )
+loop-less c = omega (arith, few (found (untold (c .before .before .before))))
 
 loop-again : tie.Need-loop-again Inv-loop μ-loop
 loop-again c =
-    let c1 = c .before .before .before in
-    let if1 = c1 .if1 in
-    let c2 = c1 .before .before .before in
-    let own-depth = c2 .own-depth in
-    let c3 = c2 .before .before .before .before in
-    let place = c3 .place in
-    let c4 = c3 .before .before .before .before in
-    let stands-at = c4 .stands-at in
-    let c5 = c4 .before .before in
-    let loop = c5 .loop in
-    let start = c5 .before .before .before .before .before .before .before in
-    let a = start .args in
-    let pre = start .pre in (
-      figures.kinds-next (now (a .f)) (now (a .s)) (a .b .end) (loop .n) (place .given .0 .0)
-          (subst (ClassStands (now (a .f)) (loop .n)) (place .given .1) (stands-at .ensures .0)) (loop .inv .0)
-          (own-depth .ensures .0 .0 .right (omega (arith, if1 .left))),
-      figures.depths-more (now (a .f)) (now (a .s)) (a .b .end) (loop .n)
-          (place .given .0 .0) (subst (ClassStands (now (a .f)) (loop .n)) (place .given .1) (stands-at .ensures .0)) (loop .figure) (loop .inv .1)
-          (a .b .most) (pre .1 .1 .1 .0) (own-depth .result) (own-depth .ensures .0 .0 .depth (omega (arith, if1 .left))) (c .before .if2 .left)
-          (c .larger .result) (c .larger .ensures),
-      figures.own-more (now (a .f)) (now (a .s)) (a .b .end) (loop .n) (own-depth .result) (loop .depths)
-          (exist.own-few (now (a .f)) (loop .n) (place .given .0 .0) (exist.judged-reads (now (a .f)) (now (a .s)) (a .b .end)
-          ((pre .0 .0) .0, (pre .0 .0) .1, (pre .0 .0) .2 .imported)) (subst (ClassStands (now (a .f)) (loop .n)) (place .given .1)
-          (stands-at .ensures .0))) (loop .inv .2) (own-depth .ensures .0 .0 .depth (omega (arith, if1 .left))),
-      own-depth .ensures .1,
-      omega
-          (arith, loop .inv .4, stands-at .kept .1 .0, own-depth .kept .1 .1 .1 .0),
+    let e = c .before .before .before in
+    let k = untold e in
+    let t = turn (sought (found k)) in
+    let loop = t .loop in (
+      figures.kinds-next _ _ _ _ _ (stands (found k)) (loop .inv .0) (k .own-depth .ensures .0 .0 .right (omega (arith, e .if1 .left))),
+      figures.depths-more _ _ _ _ _ (stands (found k)) _ (loop .inv .1) _ (start t .pre .1 .1 .1 .0) _ (depth e) (c .before .if2 .left) _ (c .larger .ensures),
+      figures.own-more _ _ _ _ _ _ (few (found k)) (loop .inv .2) (depth e),
+      k .own-depth .ensures .1,
+      rows-long k,
       simp length-set (loop .inv .5),
-      omega (
-        arith,
-        (exist.own-few (now (a .f)) (loop .n) (place .given .0 .0)
-            (exist.judged-reads (now (a .f)) (now (a .s)) (a .b .end) ((pre .0 .0) .0, (pre .0 .0) .1, (pre .0 .0) .2 .imported))
-            (subst (ClassStands (now (a .f)) (loop .n)) (place .given .1) (stands-at .ensures .0))),
-      ),
+      omega (arith, few (found k)),
     )
 
 enum-told : tie.Need-enum-told Inv-loop μ-loop
 enum-told c = search needs
 
 same-length-5 : tie.Need-same-length-5 Inv-loop μ-loop
-same-length-5 c =
-    let c1 = c .before .before .before .before in
-    let loop = c1 .before .before .loop in
-    omega (arith, loop .inv .4, c1 .stands-at .kept .1 .0)
+same-length-5 c = let k = ended c in omega (arith, turn k .loop .inv .4, k .stands-at .kept .1 .0)
 
 same-length-6 : tie.Need-same-length-6 Inv-loop μ-loop
-same-length-6 c =
-    let loop = c .before .before .before .before .before .before .loop in
-    loop .inv .5
+same-length-6 c = turn (ended c) .loop .inv .5
 
 returns-3 : tie.Need-returns-3 Inv-loop μ-loop
 returns-3 c =
-    let c1 = c .before .before .before .before in
-    let stands-at = c1 .stands-at in
-    let c2 = c1 .before .before in
-    let loop = c2 .loop in
-    let a = c2 .before .before .before .before .before .before .before .args in (
-      figures.later-done (now (a .f)) (now (a .s)) (a .b .end) (loop .n) (subst (ClassStands (now (a .f)) (loop .n)) (c .enum-told .given .1)
-          (stands-at .ensures .0)) (loop .figure) (loop .depths) (loop .inv .0) (loop .inv .1) (loop .inv .2),
-      (exist.own-written (now (a .f)) (now (a .s)) (a .b .end) (now (a .homes)) (loop .rows) (stands-at .last .1 .0) (stands-at .kept .1 .0)
-          (loop .inv .3) (stands-at .ensures .1)),
-    )
+    let k = ended c in
+    let loop = turn k .loop in
+    let none = subst (ClassStands (now (start (turn k) .args .f)) (loop .n)) (c .enum-told .given .1) (k .stands-at .ensures .0) in
+    (figures.later-done _ _ _ _ none _ _ (loop .inv .0) (loop .inv .1) (loop .inv .2), rows-true k)
 
 pub depths-ok-spec : {M : Type 1} → statement M
 depths-ok-spec =
     tie.close
-    (tie.spec
-    Inv-loop
-    μ-loop
-    import-count-requires
-    loop-holds
-    stands-at-requires
-    enum-known-place
-    own-depth-requires
-    same-length
-    same-length-2
-    returns
-    same-length-3
-    same-length-4
-    returns-2
-    cast-depths
-    slice-write-depths
-    larger-requires
-    add-n
-    loop-less
-    loop-again
-    enum-told
-    same-length-5
-    same-length-6
-    returns-3)
+    (tie.spec Inv-loop μ-loop import-count-requires loop-holds stands-at-requires enum-known-place own-depth-requires same-length same-length-2
+    returns same-length-3 same-length-4 returns-2 cast-depths slice-write-depths larger-requires add-n loop-less loop-again enum-told
+    same-length-5 same-length-6 returns-3)

@@ -19,7 +19,7 @@ use Rattle.homes.specs.Homes.{aidAt}
 use Rattle.homes.proofs.Domains.{aid-inside}
 use Rattle.judge.specs.Says.{usedAt, FileSays}
 use Rattle.judge.proofs.Loading as loading
-use Rattle.judge.proofs.Stages as stages
+use Rattle.judge.proofs.Settings as settings
 use Rattle.judge.proofs.load_answer.Statement.{statement}
 use Rattle.judge.proofs.load_answer.Tie as tie
 
@@ -74,7 +74,7 @@ returns c =
     loading.load-3 (now (a .s)) (usedAt (now (a .s))) (now (a .domain)) (now (a .file)) (sym (k .length-ok .ensures) ∙ not-true (k .length-ok .result) (c .if1 .taken))
 
 u2-at-requires : tie.Need-u2-at-requires
-u2-at-requires c κs = let b = start (c .before) in stages.used-inside (now (b .args .s)) (b .pre .0)
+u2-at-requires c κs = let b = start (c .before) in settings.used-inside (now (b .args .s)) (b .pre .0)
 
 find-domain-requires : tie.Need-find-domain-requires
 find-domain-requires c κs =
@@ -136,17 +136,5 @@ returns-3 c =
 pub load-answer-spec : {M : Type 1} → statement M
 load-answer-spec =
     tie.close
-    (tie.spec
-    length-ok-requires
-    returns
-    u2-at-requires
-    find-domain-requires
-    enum-known-at
-    add-t15
-    keeps-subset-requires
-    file-answer-requires
-    enum-told
-    same-length
-    same-length-2
-    returns-2
-    returns-3)
+    (tie.spec length-ok-requires returns u2-at-requires find-domain-requires enum-known-at add-t15 keeps-subset-requires file-answer-requires
+    enum-told same-length same-length-2 returns-2 returns-3)

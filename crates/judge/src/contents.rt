@@ -1,0 +1,115 @@
+// What a file holds that passed 14, its names, codes and calls: questions 15 to 17, 24, 26, 18 and 19. `codes_long` calls itself where the
+// store has more than 65,535 bytes, which it never has: so the compiler does not make it a part of its caller, and its large sets stand on
+// the stack only where the store's code limit asks for them.
+use super::LoadingDomain;
+use file_codes::subset::file_keeps;
+use store::openings;
+ghost use mathlib.Core.Path.{_≡_};
+ghost use mathlib.Core.Bool.{_||_, not};
+ghost use Prim.Native.Nat.{_≤_};
+ghost use lib.Dec.{eqb};
+ghost use lib.ListN.{length};
+ghost use Rattle.rules.specs.Bytes.{aid};
+ghost use Rattle.file_codes.specs.Codes.{FileNumberIs};
+ghost use Rattle.calls.specs.Calls.{CodesSplit};
+ghost use Rattle.files.specs.Say.{Readable};
+ghost use Rattle.places.specs.Reads.{Ends};
+ghost use Rattle.homes.specs.Homes.{aidAt};
+ghost use Rattle.homes.specs.Found.{ImportHomes};
+ghost use Rattle.judge.specs.Says.{ReadSome, Asked14Some, NumberBefore, DomainTold, SubsetIs};
+
+// 18 and 19 of a file each code of which splits: the number of the first no, or 0.
+fn calls_number<'a>(
+    s: &'a [u8],
+    end: usize,
+    domain: usize,
+    file: &'a [u8],
+    homes: &[usize; 48],
+) -> u32
+    requires { ⌜ Asked14Some (now s) end (aidAt (now s) domain) (now file) × CodesSplit (now file) × Ends aid (now s) domain ⌝ }
+    requires { ⌜ ImportHomes (now file) (now s) end (now homes) ⌝ }
+    ensures { λ r. ⌜ NumberBefore 18 20 (now (s .entry)) end (aidAt (now (s .entry)) domain) (now (file .entry)) r ⌝ }
+{
+    let table = instructions::table();
+    calls::calls_ok(file, s, end, domain, &table, homes) as u32
+}
+
+// 16, 17 and 24 of a file: the number of the first no; 18 where there is none and the file has calls, 0 where it has none. With sets for
+// every code limit, in a frame of its own.
+fn codes_long(s: &[u8], file: &[u8]) -> u8
+    requires { ⌜ ReadSome (now s) (now file) × (length (now s) ≤ 65535) ⌝ }
+    ensures { λ r. ⌜ FileNumberIs (now (file .entry)) r ⌝ }
+{
+    if 65535 < s.len() {
+        return codes_long(s, file);
+    }
+    let table = instructions::table();
+    let mut starts = [0u8; 4096];
+    let mut targets = [0u8; 4096];
+    file_codes::codes_ok(file, &table, &mut starts, &mut targets)
+}
+
+// The same, with smaller sets where the code limit is 4,096 or less.
+fn codes_number(s: &[u8], file: &[u8]) -> u8
+    requires { ⌜ ReadSome (now s) (now file) × (length (now s) ≤ 65535) ⌝ }
+    ensures { λ r. ⌜ FileNumberIs (now (file .entry)) r ⌝ }
+{
+    let limits = openings::limits_of(s);
+    if 4096 < limits.code {
+        return codes_long(s, file);
+    }
+    let table = instructions::table();
+    let mut starts = [0u8; 512];
+    let mut targets = [0u8; 512];
+    file_codes::codes_ok(file, &table, &mut starts, &mut targets)
+}
+
+// Is a number of the codes of a file a refusal: neither 0 nor 18?
+fn is_refusal(n: u8) -> bool
+    ensures { λ r. ⌜ r ≡ not (eqb n 0 || eqb n 18) ⌝ }
+{
+    if n == 0 {
+        return false;
+    }
+    n != 18
+}
+
+// 26 of a file that reads, where it is asked.
+fn subset_ok(file: &[u8], asked: bool) -> bool
+    requires { ⌜ Readable (now file) ⌝ }
+    ensures { λ r. ⌜ SubsetIs (now (file .entry)) asked r ⌝ }
+{
+    if !asked {
+        return true;
+    }
+    let table = instructions::table();
+    file_keeps(file, &table)
+}
+
+// 15 to 17, 24, 26, 18 and 19 of a file that passed 14: the number of the first no, or 0.
+pub fn inside_number<'a>(
+    s: &'a [u8],
+    end: usize,
+    domain: LoadingDomain,
+    file: &'a [u8],
+    homes: &[usize; 48],
+) -> u32
+    requires { ⌜ Asked14Some (now s) end (aidAt (now s) (domain .aid)) (now file) × DomainTold (now s) end (now file) domain ⌝ }
+    requires { ⌜ ImportHomes (now file) (now s) end (now homes) × (length (now s) ≤ 65535) ⌝ }
+    ensures { λ r. ⌜ NumberBefore 15 20 (now (s .entry)) end (aidAt (now (s .entry)) (domain .aid)) (now (file .entry)) r ⌝ }
+{
+    if !names::names_ok(file) {
+        return 15;
+    }
+    let number = codes_number(s, file);
+    if is_refusal(number) {
+        return number as u32;
+    }
+    if !subset_ok(file, domain.subset) {
+        return 26;
+    }
+    if number == 0 {
+        return 0;
+    }
+    calls_number(s, end, domain.aid, file, homes)
+}
