@@ -1,14 +1,16 @@
--- The steps of the walk: from a visit to the same one with its record's place, and to that of a parent. Assumes nothing.
-use Prim.Native.Nat.{ℕ, _+_, _<_}
+-- The steps of the walk: from a visit to the same one with its slot and place, and to that of a parent. Assumes nothing.
+use Prim.Native.Nat.{ℕ, _+_, _/_, _<_}
 use native.Mathlib.Omega.{arith}
 use mathlib.Core.Path.{_≡_, sym, ap, subst}
 use mathlib.Core.Bool.{Bool, true, false}
 use mathlib.Core.List.{List}
+use lib.ListN.{length}
 use Rattle.rules.specs.Bytes.{Bytes}
+use Rattle.bits.specs.Bits.{bitAt, withBit}
 use Rattle.homes.specs.declared.Home.{Home}
 use Rattle.classes.specs.Say.{CountIs, rank}
 use Rattle.running.specs.Say.{MethodsPass, ClassPasses}
-use Rattle.running.specs.Walk.{visitHome, VisitPlaced, at-place, PlacedIs, ParentPlaced, visitOf, ParentVisit, WalkFrom, SeenPass, FirstPass, ParentsPass}
+use Rattle.running.specs.Walk.{visitHome, VisitPlaced, at-place, PlacedIs, ParentPlaced, visitOf, ParentVisit, WalkFrom, key, SeenPass, FirstPass, ParentsPass}
 use Rattle.running.specs.declared.visited.Visit.{Visit}
 use Rattle.running.proofs.Walk as walk
 
@@ -16,11 +18,11 @@ use Rattle.running.proofs.Walk as walk
 abbrev pub Passing : (Bytes → Bytes → ℕ → ℕ → ℕ → Home → ℕ → Bool → Type 0) → Bytes → Bytes → Visit → Bool → Type 0
 Passing q f s v r = q f s (v .end) (v .domain) (v .own) (visitHome v) (v .number) r
 
--- the visit with its record's place
+-- the visit with its slot and place
 module _ (f s : Bytes) (v w : Visit) (p : PlacedIs f s v w) where
   pub placed-from : (index names : List ℕ) → WalkFrom f s index names v → WalkFrom f s index names w
   placed-from index names t =
-      let u : WalkFrom f s index names (at-place v (w .place)) =
+      let u : WalkFrom f s index names (at-place v (w .slot) (w .place)) =
       record { there = t .there; chain = t .chain; indexed = t .indexed; small = t .small } in
       subst (WalkFrom f s index names) (sym (p .0)) u
 
@@ -43,11 +45,9 @@ module _ (f s : Bytes) (v w : Visit) (p : PlacedIs f s v w) where
   pub methods-no : Passing MethodsPass f s w false → Passing ClassPasses f s v false
   methods-no m = walk.class-no f s (v .end) (v .domain) (v .own) (visitHome v) (v .number) (methods-placed false m)
 
-  pub parents-no : Passing ParentsPass f s w false → Passing ClassPasses f s v false
-  parents-no m = walk.class-parent-no f s (v .end) (v .domain) (v .own) (visitHome v) (v .number) (parents-placed false m)
-
-  pub both-yes : Passing MethodsPass f s w true → Passing ParentsPass f s w true → Passing ClassPasses f s v true
-  both-yes m n = walk.class-yes f s (v .end) (v .domain) (v .own) (visitHome v) (v .number) (methods-placed true m) (parents-placed true n)
+  pub methods-yes : (r : Bool) → Passing MethodsPass f s w true → Passing ParentsPass f s w r → Passing ClassPasses f s v r
+  methods-yes false m n = walk.class-parent-no f s (v .end) (v .domain) (v .own) (visitHome v) (v .number) (parents-placed false n)
+  methods-yes true m n = walk.class-yes f s (v .end) (v .domain) (v .own) (visitHome v) (v .number) (methods-placed true m) (parents-placed true n)
 
 -- a parent
 module _ (f s : Bytes) (v : Visit) (count i : ℕ) (q : CountIs f s (visitHome v) (v .number) count) (z : i < count) where
@@ -74,6 +74,19 @@ module _ (f s : Bytes) (v : Visit) (count i : ℕ) (q : CountIs f s (visitHome v
 
     pub seen-parent : (seen : Bytes) → SeenPass f s (w .end) (w .domain) (w .own) seen → SeenPass f s (v .end) (v .domain) (v .own) seen
     seen-parent seen m = subst (λ (u : Visit). SeenPass f s (u .end) (u .domain) (u .own) seen) (p .1) m
+
+    -- its bit is set
+    pub seen-more : (index names : List ℕ) → WalkFrom f s index names v → Passing ClassPasses f s w true → (x y : Bytes) →
+        SeenPass f s (w .end) (w .domain) (w .own) x → length y ≡ length x → (b : ℕ) → b ≡ key (visitHome w) (w .number) →
+        ((j : ℕ) → bitAt y j ≡ withBit (bitAt x) b j) → SeenPass f s (w .end) (w .domain) (w .own) y
+    seen-more index names t m x y a l b e g =
+        walk.seen-more f s (w .end) (w .domain) (w .own) (visitHome w) (w .number) x a (parent-from index names t .there) m y l
+        (subst (λ (n : ℕ). (j : ℕ) → bitAt y j ≡ withBit (bitAt x) n j) e g)
+
+    pub bit-inside : (index names : List ℕ) → WalkFrom f s index names v → (x : Bytes) → SeenPass f s (w .end) (w .domain) (w .own) x →
+        key (visitHome w) (w .number) / 8 < length x
+    bit-inside index names t x a =
+        walk.key-inside f s (w .end) (w .domain) (w .own) (visitHome w) (w .number) (parent-from index names t .there) (length x) (a .room)
 
     pub parent-no : Passing ClassPasses f s w false → Passing ParentsPass f s v false
     parent-no m = walk.parents-no f s (v .end) (v .domain) (v .own) (visitHome v) (v .number) count i q z (p .0) (p .2)

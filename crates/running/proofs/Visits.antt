@@ -61,10 +61,10 @@ module _ (f s : Bytes) (v : Visit) where
       let w = y .2 .2 in
       omega (arith, w .from, g .inside, g .short)
 
-  -- the visit with its place
+  -- the visit with its slot and place
   pub visit-placed : VisitThere f s v → (w : Visit) → PlacedIs f s v w → VisitPlaced f s w
   visit-placed t w p =
-      let u : VisitPlaced f s (at-place v (w .place)) = record { there = t; place = p .1 } in
+      let u : VisitPlaced f s (at-place v (w .slot) (w .place)) = record { there = t; place = p .1; slot = p .2 } in
       subst (VisitPlaced f s) (sym (p .0)) u
 
   module _ (p : VisitPlaced f s v) (g : Bytes) (e : g ≡ fileOf f s (visitHome v)) where

@@ -16,6 +16,7 @@ use Rattle.rules.specs.Running.{runningAllows}
 use Rattle.rules.proofs.Running.{q20-by-class}
 use Rattle.rules.proofs.Tests.{of-true}
 use Rattle.rules.proofs.Limits.{limits-range}
+use Rattle.rules.proofs.Lists.{at-below}
 use Rattle.rules.proofs.Bounds.{ancestors-below, below-ancestors}
 use Rattle.places.proofs.Steady.{steady-u1, steady-class}
 use Rattle.places.proofs.Inverse.{reads-counted, reads-u1}
@@ -29,7 +30,7 @@ use Rattle.homes.proofs.Domains.{aid-inside}
 use Rattle.bits.specs.Bits.{bitAt}
 use Rattle.store.proofs.Stand.{entries-to}
 use Rattle.classes.specs.Say.{Judged, Kind0Is, OwnThere}
-use Rattle.named.proofs.Rows.{file-size}
+use Rattle.named.proofs.Rows.{file-size, classes-few}
 use Rattle.chains.specs.Say.{Running, RunningThere, RunsIs}
 use Rattle.chains.specs.Names.{namesLength, NamesIs, Room}
 use Rattle.chains.specs.declared.Names.{Names}
@@ -137,14 +138,14 @@ module _ (f s : Bytes) (end d b : ℕ) where
       true-false : true ≡ false → ⊥
       true-false e = let y : _≡_ {A = ℕ} 0 1 = cc in omega arith
 
--- the numbers of its names fit two bytes
+-- the numbers of its names fit two bytes, its own number one
 pub names-small : (f s : Bytes) (names : List ℕ) (w : Names) → NamesIs f s names w → length s ≤ 65535 → OwnThere f s (w .end) (w .own) → SmallNames w
 names-small f s names w n l t =
     let depth = (limits-range s) .0 in
-    let i = key-small f s (w .end) (t .0) (t .1) (t .2 .parents .imported .setting) (ownHome (w .end)) (t .1) homes.own (w .own) (t .3) (t .4) in
+    let below = at-below (t .1 .pack .classes) (w .own) (t .3) (t .4) in
     record {
       end = omega (arith, own-end f s (w .end) (w .own) t);
-      own = omega (arith, i, own-end f s (w .end) (w .own) t);
+      own = omega (arith, below, classes-few (storeLimits s) f (t .1 .pack) (t .2 .parents .imported .setting .reads));
       stored = omega (arith, n .own .sorted .low, n .few, depth);
       all = omega (arith, n .few, depth);
     }

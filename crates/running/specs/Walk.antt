@@ -1,9 +1,10 @@
 -- The walk of question 20 over a class and its ancestors, each visited once. Assumes nothing.
 --
 -- visitHome, visitNames v == the home of the class that is visited, the names of the own class; visitFor w d h n == the visit of class n at home h
--- SmallNames w           == the numbers of names fit two bytes
--- VisitThere f s v       == the class that is visited is there, for the own class; VisitPlaced f s v == its record stands at the place told
--- PlacedIs f s v w       == w is the visit v with that place
+-- SmallNames w           == the numbers of names fit two bytes, the own class's one
+-- VisitThere f s v       == the class that is visited is there, for the own class
+-- VisitPlaced f s v      == its record stands at the place told, and a slot is told; PlacedIs f s v w == w is the visit v with these
+-- NumberedThere, NumberedAt == the package that a number stands for in its file is there, and lies at a home
 -- ParentVisit f s v i w  == w is the visit of its parent with number i, which stands before it
 -- WalkFrom f s index names v == what the walk may use: the class, the names of the own class, the index of the earlier entries
 -- key h n                == the number of the bit of class n of the package at home h: c classes, 32 at most, make an entry of 22 + 3 * c bytes or more
@@ -20,13 +21,15 @@ use Rattle.rules.specs.Package.{ClassNumber}
 use Rattle.rules.specs.Store.{storeLimits}
 use Rattle.rules.specs.Classes.{installed, ClassAt, classNamed}
 use Rattle.bits.specs.Bits.{bitAt}
-use Rattle.homes.specs.Homes.{ownHome}
+use Rattle.homes.specs.Homes.{ownHome, NumberedIs}
 use Rattle.homes.specs.Found.{Indexed}
 use Rattle.homes.specs.declared.Home.{Home}
+use Rattle.homes.specs.declared.HomeFound.the-variants.{At, Nothing}
 use Rattle.classes.specs.Say.{ParentIs, RecordAt}
 use Rattle.classes.specs.declared.ClassSpot.{ClassSpot}
 use Rattle.chains.specs.Names.{NamesIs}
 use Rattle.chains.specs.declared.Names.{Names}
+use Rattle.slots.specs.Slots.{slotCount}
 use Rattle.running.specs.Say.{WalkThere, OfWalk, Passes, Fails, Answers}
 use Rattle.running.specs.declared.visited.Visit.{Visit}
 
@@ -39,7 +42,7 @@ visitNames v = record { end = v .end; own = v .own; stored = v .stored; all = v 
 
 pub record SmallNames (w : Names) : Type 0 where
   pub end : w .end ≤ 65535
-  pub own : w .own ≤ 65535
+  pub own : w .own ≤ 255
   pub stored : w .stored ≤ 65535
   pub all : w .all ≤ 65535
 
@@ -54,6 +57,7 @@ visitFor w d h n = record {
   to = h .to;
   before = h .before;
   number = n;
+  slot = 0;
   place = 0;
 }
 
@@ -65,10 +69,11 @@ VisitThere f s v = WalkThere f s (v .end) (v .domain) (v .own) (visitHome v) (v 
 pub record VisitPlaced (f s : Bytes) (v : Visit) : Type 0 where
   pub there : VisitThere f s v
   pub place : RecordAt f s (visitHome v) (v .number) (v .place)
+  pub slot : v .slot < slotCount
 
--- the visit with the record's place
-abbrev pub at-place : Visit → ℕ → Visit
-at-place v i = record {
+-- the visit with a slot and the record's place
+abbrev pub at-place : Visit → ℕ → ℕ → Visit
+at-place v k i = record {
   end = v .end;
   domain = v .domain;
   own = v .own;
@@ -78,11 +83,19 @@ at-place v i = record {
   to = v .to;
   before = v .before;
   number = v .number;
+  slot = k;
   place = i;
 }
 
 abbrev pub PlacedIs : Bytes → Bytes → Visit → Visit → Type 0
-PlacedIs f s v w = (w ≡ at-place v (w .place)) × RecordAt f s (visitHome v) (v .number) (w .place)
+PlacedIs f s v w = (w ≡ at-place v (w .slot) (w .place)) × RecordAt f s (visitHome v) (v .number) (w .place) × (w .slot < slotCount)
+
+-- the package that a number stands for in its file: it is not missing, and lies at a home
+abbrev pub NumberedThere : Bytes → Bytes → Visit → ℕ → Type 0
+NumberedThere f s v p = NumberedIs f s (visitHome v) p Nothing → ⊥
+
+abbrev pub NumberedAt : Bytes → Bytes → Visit → ℕ → Home → Type 0
+NumberedAt f s v p g = NumberedIs f s (visitHome v) p (At g)
 
 -- its parent with number i
 pub record ParentPlaced (f s : Bytes) (v : Visit) (i : ℕ) : Type 0 where

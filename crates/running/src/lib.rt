@@ -97,22 +97,17 @@ fn class_passes<'a>(
     ensures { λ _. ⌜ SeenPass (now (f .entry)) (now (s .entry)) (v .end) (v .domain) (v .own) (now (seen .exit)) ⌝ }
     ensures { λ _. ⌜ SlotsTrue (now (f .entry)) (now (s .entry)) (now (slots .exit)) ⌝ }
 {
-    let bit = v.before as usize * 3 / 11 + v.number as usize;
-    if bits::get(seen, bit) {
+    if bits::get(seen, visited::bit_of(v)) {
         return true;
     }
     let w = visited::placed(f, s, slots, v);
     if !methods_apart(f, s, names, w) {
         return false;
     }
-    if !parents_pass(f, s, index, names, seen, slots, w) {
-        return false;
-    }
-    bits::set(seen, bit);
-    true
+    parents_pass(f, s, index, names, seen, slots, w)
 }
 
-// Do its parents and all their ancestors?
+// Do its parents and all their ancestors? Each that does is seen from then on.
 fn parents_pass<'a>(
     f: &'a [u8],
     s: &'a [u8],
@@ -136,6 +131,7 @@ fn parents_pass<'a>(
         if !class_passes(f, s, index, names, seen, slots, p) {
             return false;
         }
+        bits::set(seen, visited::bit_of(p));
         i += 1;
     }
     true

@@ -1,5 +1,5 @@
-// The classes that the walk of question 20 visits, and the step from one to a parent. The walk keeps a visit at each level: its numbers,
-// which two bytes hold, take no more.
+// The classes that the walk of question 20 visits, and the step from one to a parent. The walk keeps a visit at each level: its numbers
+// take two bytes each, those of classes and slots one.
 use chains::Names;
 use fields::wide;
 use homes::Home;
@@ -12,20 +12,23 @@ ghost use Rattle.homes.specs.Homes.{RecordIs};
 ghost use Rattle.homes.specs.Found.{Indexed};
 ghost use Rattle.classes.specs.Say.{CountIs};
 ghost use Rattle.slots.specs.Slots.{SmallHome, SlotsTrue};
-ghost use Rattle.running.specs.Walk.{visitHome, visitNames, SmallNames, visitFor, VisitThere, VisitPlaced, PlacedIs, ParentPlaced, ParentVisit};
+ghost use Rattle.running.specs.Walk.{visitHome, visitNames, SmallNames, visitFor, VisitThere, VisitPlaced, PlacedIs, key};
+ghost use Rattle.running.specs.Walk.{NumberedThere, NumberedAt, ParentPlaced, ParentVisit};
 
 // A class that is visited for own class `own` over the entries that end at `end`, whose names end at `stored` and at `all`, and whose
-// package's domain stands at place `domain` of the store: its home and number, and the place of its record once that is found.
+// package's domain stands at place `domain` of the store: its home and number, and the slot of its package and the place of its record
+// once these are found.
 pub struct Visit {
     pub end: u16,
     pub domain: u16,
-    pub own: u16,
+    pub own: u8,
     pub stored: u16,
     pub all: u16,
     pub from: u16,
     pub to: u16,
     pub before: u16,
-    pub number: u16,
+    pub number: u8,
+    pub slot: u8,
     pub place: u16,
 }
 
@@ -61,24 +64,32 @@ pub fn names_of(v: Visit) -> Names
 
 // The visit of class n at a home, for the own class of these names; the domain of its package stands at place d.
 pub fn visit_for(w: Names, d: usize, h: Home, n: usize) -> Visit
-    requires { ⌜ SmallNames w × (d ≤ 65535) × SmallHome h × (n ≤ 65535) ⌝ }
+    requires { ⌜ SmallNames w × (d ≤ 65535) × SmallHome h × (n ≤ 255) ⌝ }
     ensures { λ r. ⌜ r ≡ visitFor w d h n ⌝ }
 {
     Visit {
         end: w.end as u16,
         domain: d as u16,
-        own: w.own as u16,
+        own: w.own as u8,
         stored: w.stored as u16,
         all: w.all as u16,
         from: h.from as u16,
         to: h.to as u16,
         before: h.before as u16,
-        number: n as u16,
+        number: n as u8,
+        slot: 0,
         place: 0,
     }
 }
 
-// The visit with the place of the class's record.
+// The number of the class's bit.
+pub fn bit_of(v: Visit) -> usize
+    ensures { λ r. ⌜ r ≡ key (visitHome v) (v .number) ⌝ }
+{
+    v.before as usize * 3 / 11 + v.number as usize
+}
+
+// The visit with the slot of the class's package and the place of its record.
 pub fn placed<'a>(f: &'a [u8], s: &'a [u8], slots: &mut [u16; 640], v: Visit) -> Visit
     requires { ⌜ VisitThere (now f) (now s) v × (length (now s) ≤ 65535) ⌝ }
     requires { ⌜ SlotsTrue (now f) (now s) (now slots) ⌝ }
@@ -99,6 +110,7 @@ pub fn placed<'a>(f: &'a [u8], s: &'a [u8], slots: &mut [u16; 640], v: Visit) ->
         to: v.to,
         before: v.before,
         number: v.number,
+        slot: k as u8,
         place: c as u16,
     }
 }
@@ -122,7 +134,33 @@ pub fn parents_in<'a>(f: &'a [u8], s: &'a [u8], v: Visit) -> usize
     wide(c[1])
 }
 
-// The visit of its parent with number i, whose package the index of the earlier entries finds.
+// The home of the package that number p stands for in the class's file, which the slot or the index of the earlier entries finds.
+fn package_home<'a>(
+    f: &'a [u8],
+    s: &'a [u8],
+    index: &[u16],
+    slots: &mut [u16; 640],
+    v: Visit,
+    p: usize,
+) -> Home
+    requires { ⌜ VisitPlaced (now f) (now s) v × (length (now s) ≤ 65535) ⌝ }
+    requires { ⌜ NumberedThere (now f) (now s) v p × Indexed (now s) (v .end) (now index) ⌝ }
+    requires { ⌜ SlotsTrue (now f) (now s) (now slots) ⌝ }
+    ensures { λ r. ⌜ NumberedAt (now (f .entry)) (now (s .entry)) v p r ⌝ }
+    ensures { λ _. ⌜ SlotsTrue (now (f .entry)) (now (s .entry)) (now (slots .exit)) ⌝ }
+{
+    let h = home_of(v);
+    let x = Site {
+        home: h,
+        slot: v.slot as usize,
+    };
+    match slots::import_in(f, s, v.end as usize, index, slots, x, p) {
+        HomeFound::At(g) => g,
+        HomeFound::Nothing => h,
+    }
+}
+
+// The visit of its parent with number i.
 fn parent_visit<'a>(
     f: &'a [u8],
     s: &'a [u8],
@@ -137,15 +175,10 @@ fn parent_visit<'a>(
     ensures { λ r. ⌜ ParentVisit (now (f .entry)) (now (s .entry)) v i r ⌝ }
     ensures { λ _. ⌜ SlotsTrue (now (f .entry)) (now (s .entry)) (now (slots .exit)) ⌝ }
 {
-    let h = home_of(v);
-    let k = slots::slot_for(slots, h);
-    let x = Site { home: h, slot: k };
     let c = record_of(f, s, v);
     let number = wide(c[3 + 2 * i]);
-    match slots::import_in(f, s, v.end as usize, index, slots, x, wide(c[2 + 2 * i])) {
-        HomeFound::At(g) => visit_for(names_of(v), v.domain as usize, g, number),
-        HomeFound::Nothing => v,
-    }
+    let h = package_home(f, s, index, slots, v, wide(c[2 + 2 * i]));
+    visit_for(names_of(v), v.domain as usize, h, number)
 }
 
 // The same in a frame of its own.

@@ -2,7 +2,7 @@
 -- the class itself; what is seen passes. Assumes nothing.
 use native.Mathlib.Omega.{arith}
 use Prim.Native.Nat.{ℕ, _+_, _-_, _*_, _<_}
-use mathlib.Core.Path.{_≡_, refl, subst, sym, _∙_}
+use mathlib.Core.Path.{_≡_, refl, subst, sym, _∙_, ap}
 use lib.ListN.{length}
 use denote.Ref.{now}
 use borrow.Author.Tests.{not-true, not-false}
@@ -11,6 +11,7 @@ use borrow.Fn.Kinds.{In}
 use borrow.Fn.PlainCycle.{Measures, is, falls, and}
 use Rattle.bits.proofs.get.Reads as get-reads
 use Rattle.bits.proofs.set.Reads as set-reads
+use Rattle.bits.specs.Bits.{bitAt}
 use Rattle.slots.specs.Slots.{SlotsTrue}
 use Rattle.running.specs.Say.{MethodsPass, ClassPasses}
 use Rattle.running.specs.Walk.{visitHome, FirstPass, SeenPass, ParentsPass}
@@ -21,6 +22,7 @@ use Rattle.running.proofs.Steps.{Passing}
 use Rattle.running.proofs.methods_apart.Reads as methods-apart-reads
 use Rattle.running.proofs.visited.parent_apart.Reads as parent-apart-reads
 use Rattle.running.proofs.visited.parents_in.Reads as parents-in-reads
+use Rattle.running.proofs.visited.bit_of.Reads as bit-of-reads
 use Rattle.running.proofs.visited.placed.Reads as placed-reads
 use Rattle.running.proofs.class_passes.Reads as class-passes
 use Rattle.running.proofs.class_passes.Kinds as class-passes-kinds
@@ -52,6 +54,8 @@ parents-pass-below t = and 5 parents-pass-kinds.ps (falls 5 parents-pass-kinds.p
 -- what each callee of `class-passes` asks for and gives
 abbrev class-passes-claims : ℕ → class-passes-lts.Claims
 class-passes-claims t = (
+  bit-of-reads.Asked,
+  bit-of-reads.Learnt,
   get-reads.Asked,
   get-reads.Learnt,
   placed-reads.Asked,
@@ -60,8 +64,6 @@ class-passes-claims t = (
   methods-apart-reads.Learnt,
   parents-pass-below t,
   parents-pass.Post,
-  set-reads.Asked,
-  set-reads.Learnt,
 )
 
 -- what each callee of `parents-pass` asks for and gives
@@ -73,6 +75,10 @@ parents-pass-claims t = (
   parent-apart-reads.Learnt,
   class-passes-below t,
   class-passes.Post,
+  bit-of-reads.Asked,
+  bit-of-reads.Learnt,
+  set-reads.Asked,
+  set-reads.Learnt,
 )
 
 abbrev parents-pass-Inv-loop : parents-pass-lts.InvT-loop
@@ -86,13 +92,13 @@ parents-pass-μ-loop f s index names seen₀ slots₀ v count i₀ seen slots i 
 -- the function's start, where the class's bit is asked; that where its record is at hand
 abbrev class-start : (t : ℕ) → class-passes-lts.After-get (class-passes-claims t) (class-passes-at t) class-passes.Post →
     class-passes-lts.Start (class-passes-claims t) (class-passes-at t) class-passes.Post
-class-start t k = k .before .before .before .before .before .before .before .before .before
+class-start t k = k .before .before .before .before .before .before .before .before
 
 abbrev class-begin : (t : ℕ) → class-passes-lts.After-placed (class-passes-claims t) (class-passes-at t) class-passes.Post →
     class-passes-lts.Start (class-passes-claims t) (class-passes-at t) class-passes.Post
 class-begin t k = class-start t (k .before .before .before)
 
--- the function's start, where the parents are counted; that where a parent is at hand
+-- the function's start, where the parents are counted; that where a parent is at hand, and the turn where it was walked
 abbrev parents-start : (t : ℕ) →
     parents-pass-lts.After-parents-in (parents-pass-claims t) (parents-pass-at t) parents-pass.Post parents-pass-Inv-loop parents-pass-μ-loop →
     parents-pass-lts.Start (parents-pass-claims t) (parents-pass-at t) parents-pass.Post parents-pass-Inv-loop parents-pass-μ-loop
@@ -103,35 +109,29 @@ abbrev counted : (t : ℕ) →
     parents-pass-lts.After-parents-in (parents-pass-claims t) (parents-pass-at t) parents-pass.Post parents-pass-Inv-loop parents-pass-μ-loop
 counted t k = k .before .before
 
-class-passes-cast-bit : (t : ℕ) →
-    class-passes-lts.Need-cast-bit (class-passes-claims t) (class-passes-at t) class-passes.Post
-class-passes-cast-bit t c = search needs
+abbrev told : (t : ℕ) →
+    parents-pass-lts.After-class-passes (parents-pass-claims t) (parents-pass-at t) parents-pass.Post parents-pass-Inv-loop parents-pass-μ-loop →
+    parents-pass-lts.After-parent-apart (parents-pass-claims t) (parents-pass-at t) parents-pass.Post parents-pass-Inv-loop parents-pass-μ-loop
+told t k = k .before .before .before
 
-class-passes-mul-bit : (t : ℕ) →
-    class-passes-lts.Need-mul-bit (class-passes-claims t) (class-passes-at t) class-passes.Post
-class-passes-mul-bit t c = search needs
+abbrev turn : (t : ℕ) →
+    parents-pass-lts.After-parent-apart (parents-pass-claims t) (parents-pass-at t) parents-pass.Post parents-pass-Inv-loop parents-pass-μ-loop →
+    parents-pass-lts.In-loop (parents-pass-claims t) (parents-pass-at t) parents-pass.Post parents-pass-Inv-loop parents-pass-μ-loop
+turn t k = k .before .before
 
-class-passes-cast-bit-2 : (t : ℕ) →
-    class-passes-lts.Need-cast-bit-2 (class-passes-claims t) (class-passes-at t) class-passes.Post
-class-passes-cast-bit-2 t c = search needs
-
-class-passes-add-bit : (t : ℕ) →
-    class-passes-lts.Need-add-bit (class-passes-claims t) (class-passes-at t) class-passes.Post
-class-passes-add-bit t c =
-    let b = c .before .before .before .before .before .before .before in
-    let f = now (b .args .f) in
-    let s = now (b .args .s) in
-    let v = b .args .v in
-    omega (arith, walk.key-few f s (v .end) (v .domain) (v .own) (visitHome v) (v .number) (b .pre .1 .0 .there) (b .pre .1 .0 .small))
+class-passes-bit-of-requires : (t : ℕ) →
+    class-passes-lts.Need-bit-of-requires (class-passes-claims t) (class-passes-at t) class-passes.Post
+class-passes-bit-of-requires t c κs = search needs
 
 class-passes-get-requires : (t : ℕ) →
     class-passes-lts.Need-get-requires (class-passes-claims t) (class-passes-at t) class-passes.Post
 class-passes-get-requires t c κs =
-    let b = c .before .before .before .before .before .before .before .before in
+    let b = c .before .before .before .before .before .before .before in
     let f = now (b .args .f) in
     let s = now (b .args .s) in
     let v = b .args .v in
-    walk.key-inside f s (v .end) (v .domain) (v .own) (visitHome v) (v .number) (b .pre .1 .0 .there) _ (b .pre .1 .1 .0 .room)
+    let inside = walk.key-inside f s (v .end) (v .domain) (v .own) (visitHome v) (v .number) (b .pre .1 .0 .there) _ (b .pre .1 .1 .0 .room) in
+    omega (arith, inside, c .bit-of .ensures)
 
 class-passes-same-length : (t : ℕ) →
     class-passes-lts.Need-same-length (class-passes-claims t) (class-passes-at t) class-passes.Post
@@ -140,14 +140,15 @@ class-passes-same-length t c = search needs
 class-passes-returns : (t : ℕ) →
     class-passes-lts.Need-returns (class-passes-claims t) (class-passes-at t) class-passes.Post
 class-passes-returns t c =
-    let b = class-start t (c .before) in
+    let k = c .before in
+    let b = class-start t k in
     let f = now (b .args .f) in
     let s = now (b .args .s) in
     let v = b .args .v in
-    let m = b .pre .1 .1 .0 in (
-      walk.class-seen f s (v .end) (v .domain) (v .own) (visitHome v) (v .number) (now (b .args .seen)) m (sym (c .before .get .ensures) ∙ c .if1 .taken),
-      (m, b .pre .1 .1 .1),
-    )
+    let seen = now (b .args .seen) in
+    let bit = ap (bitAt seen) (sym (k .before .bit-of .ensures)) ∙ sym (k .get .ensures) ∙ c .if1 .taken in
+    let m = b .pre .1 .1 .0 in
+    (walk.class-seen f s (v .end) (v .domain) (v .own) (visitHome v) (v .number) seen m bit, (m, b .pre .1 .1 .1))
 
 class-passes-placed-requires : (t : ℕ) →
     class-passes-lts.Need-placed-requires (class-passes-claims t) (class-passes-at t) class-passes.Post
@@ -196,8 +197,8 @@ class-passes-parents-pass-requires t c κs =
     let w = k .placed .result in
     let p = k .placed .ensures .0 in
     let from = steps.placed-from f s v w p (now (b .args .index)) (now (b .args .names)) (b .pre .1 .0) in
-    let seen = steps.placed-seen f s v w p (now (b .args .seen)) (b .pre .1 .1 .0) in
     let placed = visits.visit-placed f s v (b .pre .1 .0 .there) w p in
+    let seen = steps.placed-seen f s v w p _ (b .pre .1 .1 .0) in
     (omega (arith, b .pre .0, steps.placed-rank f s v w p), ((from, placed), (seen, k .placed .ensures .1)))
 
 class-passes-same-length-3 : (t : ℕ) →
@@ -207,38 +208,7 @@ class-passes-same-length-3 t c = search needs
 class-passes-returns-3 : (t : ℕ) →
     class-passes-lts.Need-returns-3 (class-passes-claims t) (class-passes-at t) class-passes.Post
 class-passes-returns-3 t c =
-    let called = c .before .before .before in
-    let k = called .before .before .before .before .before in
-    let b = class-begin t k in
-    let f = now (b .args .f) in
-    let s = now (b .args .s) in
-    let v = b .args .v in
-    let w = k .placed .result in
-    let p = k .placed .ensures .0 in
-    let n = called .parents-pass in
-    let fails = subst (Passing ParentsPass f s w) (not-true (n .result) (c .if3 .taken)) (n .ensures .0) in
-    (steps.parents-no f s v w p fails, (steps.seen-placed f s v w p _ (n .ensures .1 .0), n .ensures .1 .1))
-
-class-passes-set-requires : (t : ℕ) →
-    class-passes-lts.Need-set-requires (class-passes-claims t) (class-passes-at t) class-passes.Post
-class-passes-set-requires t c κs =
-    let called = c .before .before .before .before in
-    let b = class-begin t (called .before .before .before .before .before) in
-    let f = now (b .args .f) in
-    let s = now (b .args .s) in
-    let v = b .args .v in
-    walk.key-inside f s (v .end) (v .domain) (v .own) (visitHome v) (v .number) (b .pre .1 .0 .there) _
-    (called .parents-pass .ensures .1 .0 .room)
-
-class-passes-same-length-4 : (t : ℕ) →
-    class-passes-lts.Need-same-length-4 (class-passes-claims t) (class-passes-at t) class-passes.Post
-class-passes-same-length-4 t c = search needs
-
-class-passes-returns-4 : (t : ℕ) →
-    class-passes-lts.Need-returns-4 (class-passes-claims t) (class-passes-at t) class-passes.Post
-class-passes-returns-4 t c =
-    let passed = c .before .before .before .before in
-    let called = passed .before .before .before in
+    let called = c .before .before in
     let asked = called .before .before .before in
     let k = asked .before .before in
     let b = class-begin t k in
@@ -250,16 +220,7 @@ class-passes-returns-4 t c =
     let m = asked .before .methods-apart in
     let n = called .parents-pass in
     let methods = subst (Passing MethodsPass f s w) (not-false (m .result) (asked .if2 .left)) (m .ensures) in
-    let parents = subst (Passing ParentsPass f s w) (not-false (n .result) (passed .if3 .left)) (n .ensures .0) in
-    let passes = steps.both-yes f s v w p methods parents in
-    let seen = steps.seen-placed f s v w p _ (n .ensures .1 .0) in (
-      passes,
-      (
-        walk.seen-more f s (v .end) (v .domain) (v .own) (visitHome v) (v .number) _ seen (b .pre .1 .0 .there) passes _ (omega arith) (c .before .before .set
-            .ensures),
-        n .ensures .1 .1,
-      ),
-    )
+    (steps.methods-yes f s v w p (n .result) methods (n .ensures .0), (steps.seen-placed f s v w p _ (n .ensures .1 .0), n .ensures .1 .1))
 
 parents-pass-parents-in-requires : (t : ℕ) →
     parents-pass-lts.Need-parents-in-requires (parents-pass-claims t) (parents-pass-at t) parents-pass.Post parents-pass-Inv-loop parents-pass-μ-loop
@@ -289,8 +250,8 @@ parents-pass-parent-apart-requires t c κs =
 parents-pass-class-passes-requires : (t : ℕ) →
     parents-pass-lts.Need-class-passes-requires (parents-pass-claims t) (parents-pass-at t) parents-pass.Post parents-pass-Inv-loop parents-pass-μ-loop
 parents-pass-class-passes-requires t c κs =
-    let found = c .before .before in
-    let k = found .before .before in
+    let a = c .before .before in
+    let k = turn t a in
     let b = parents-start t (counted t k) in
     let f = now (b .args .f) in
     let s = now (b .args .s) in
@@ -298,25 +259,25 @@ parents-pass-class-passes-requires t c κs =
     let n = counted t k .parents-in in
     let i = k .before .loop .i in
     let z = k .loop-test .taken in
-    let w = found .parent-apart .result in
-    let p = found .parent-apart .ensures .0 in
+    let w = a .parent-apart .result in
+    let p = a .parent-apart .ensures .0 in
     let index = now (b .args .index) in
     let names = now (b .args .names) in
     let less = steps.parent-less f s v (n .result) i (n .ensures .0) z w p index names (b .pre .1 .0 .0) in
     let from = steps.parent-from f s v (n .result) i (n .ensures .0) z w p index names (b .pre .1 .0 .0) in
     let seen = steps.parent-seen f s v (n .result) i (n .ensures .0) z w p _ (k .before .loop .inv .1) in
-    (omega (arith, b .pre .0, less), (from, (seen, found .parent-apart .ensures .1)))
+    (omega (arith, b .pre .0, less), (from, (seen, a .parent-apart .ensures .1)))
 
 parents-pass-same-length : (t : ℕ) →
     parents-pass-lts.Need-same-length (parents-pass-claims t) (parents-pass-at t) parents-pass.Post parents-pass-Inv-loop parents-pass-μ-loop
-parents-pass-same-length t c = omega (arith, c .before .before .before .before .before .before .before .before .before .loop .inv .3)
+parents-pass-same-length t c = omega (arith, turn t (told t (c .before .before .before)) .before .loop .inv .3)
 
 parents-pass-returns : (t : ℕ) →
     parents-pass-lts.Need-returns (parents-pass-claims t) (parents-pass-at t) parents-pass.Post parents-pass-Inv-loop parents-pass-μ-loop
 parents-pass-returns t c =
     let called = c .before .before .before in
-    let found = called .before .before .before in
-    let k = found .before .before in
+    let a = told t called in
+    let k = turn t a in
     let b = parents-start t (counted t k) in
     let f = now (b .args .f) in
     let s = now (b .args .s) in
@@ -324,29 +285,23 @@ parents-pass-returns t c =
     let n = counted t k .parents-in in
     let i = k .before .loop .i in
     let z = k .loop-test .taken in
-    let w = found .parent-apart .result in
-    let p = found .parent-apart .ensures .0 in
+    let w = a .parent-apart .result in
+    let p = a .parent-apart .ensures .0 in
     let r = called .class-passes in
     let fails = subst (Passing ClassPasses f s w) (not-true (r .result) (c .if1 .taken)) (r .ensures .0) in
     let seen = steps.seen-parent f s v (n .result) i (n .ensures .0) z w p _ (r .ensures .1 .0) in
     (steps.parent-no f s v (n .result) i (n .ensures .0) z w p fails, (seen, r .ensures .1 .1))
 
-parents-pass-add-i : (t : ℕ) →
-    parents-pass-lts.Need-add-i (parents-pass-claims t) (parents-pass-at t) parents-pass.Post parents-pass-Inv-loop parents-pass-μ-loop
-parents-pass-add-i t c =
-    let k = c .before .before .before .before .before .before .before .before in
-    omega (arith, k .loop-test .taken, counted t k .parents-in .ensures .1)
+parents-pass-bit-of-requires : (t : ℕ) →
+    parents-pass-lts.Need-bit-of-requires (parents-pass-claims t) (parents-pass-at t) parents-pass.Post parents-pass-Inv-loop parents-pass-μ-loop
+parents-pass-bit-of-requires t c κs = search needs
 
-parents-pass-loop-less : (t : ℕ) →
-    parents-pass-lts.Need-loop-less (parents-pass-claims t) (parents-pass-at t) parents-pass.Post parents-pass-Inv-loop parents-pass-μ-loop
-parents-pass-loop-less t c = omega (arith, c .before .before .before .before .before .before .before .before .loop-test .taken)
-
-parents-pass-loop-again : (t : ℕ) →
-    parents-pass-lts.Need-loop-again (parents-pass-claims t) (parents-pass-at t) parents-pass.Post parents-pass-Inv-loop parents-pass-μ-loop
-parents-pass-loop-again t c =
-    let called = c .before .before .before in
-    let found = called .before .before .before in
-    let k = found .before .before in
+parents-pass-set-requires : (t : ℕ) →
+    parents-pass-lts.Need-set-requires (parents-pass-claims t) (parents-pass-at t) parents-pass.Post parents-pass-Inv-loop parents-pass-μ-loop
+parents-pass-set-requires t c κs =
+    let called = c .before .before .before .before .before in
+    let a = told t called in
+    let k = turn t a in
     let b = parents-start t (counted t k) in
     let f = now (b .args .f) in
     let s = now (b .args .s) in
@@ -354,12 +309,49 @@ parents-pass-loop-again t c =
     let n = counted t k .parents-in in
     let i = k .before .loop .i in
     let z = k .loop-test .taken in
-    let w = found .parent-apart .result in
-    let p = found .parent-apart .ensures .0 in
+    let w = a .parent-apart .result in
+    let p = a .parent-apart .ensures .0 in
+    let index = now (b .args .index) in
+    let names = now (b .args .names) in
+    let inside = steps.bit-inside f s v (n .result) i (n .ensures .0) z w p index names (b .pre .1 .0 .0) _ (called .class-passes .ensures .1 .0) in
+    omega (arith, inside, c .bit-of .ensures)
+
+parents-pass-add-i : (t : ℕ) →
+    parents-pass-lts.Need-add-i (parents-pass-claims t) (parents-pass-at t) parents-pass.Post parents-pass-Inv-loop parents-pass-μ-loop
+parents-pass-add-i t c =
+    let k = turn t (told t (c .before .before .before .before .before .before .before .before)) in
+    omega (arith, k .loop-test .taken, counted t k .parents-in .ensures .1)
+
+parents-pass-loop-less : (t : ℕ) →
+    parents-pass-lts.Need-loop-less (parents-pass-claims t) (parents-pass-at t) parents-pass.Post parents-pass-Inv-loop parents-pass-μ-loop
+parents-pass-loop-less t c = omega (arith, turn t (told t (c .before .before .before .before .before .before .before .before)) .loop-test .taken)
+
+parents-pass-loop-again : (t : ℕ) →
+    parents-pass-lts.Need-loop-again (parents-pass-claims t) (parents-pass-at t) parents-pass.Post parents-pass-Inv-loop parents-pass-μ-loop
+parents-pass-loop-again t c =
+    let done = c .before .before in
+    let bit = done .before .bit-of in
+    let left = done .before .before .before in
+    let called = left .before .before .before in
+    let a = told t called in
+    let k = turn t a in
+    let b = parents-start t (counted t k) in
+    let f = now (b .args .f) in
+    let s = now (b .args .s) in
+    let v = b .args .v in
+    let n = counted t k .parents-in in
+    let i = k .before .loop .i in
+    let z = k .loop-test .taken in
+    let w = a .parent-apart .result in
+    let p = a .parent-apart .ensures .0 in
+    let index = now (b .args .index) in
+    let names = now (b .args .names) in
     let r = called .class-passes in
-    let passes = subst (Passing ClassPasses f s w) (not-false (r .result) (c .if1 .left)) (r .ensures .0) in
+    let passes = subst (Passing ClassPasses f s w) (not-false (r .result) (left .if1 .left)) (r .ensures .0) in
     let more = steps.parent-yes f s v (n .result) i (n .ensures .0) z w p passes (k .before .loop .inv .0) in
-    let seen = steps.seen-parent f s v (n .result) i (n .ensures .0) z w p _ (r .ensures .1 .0) in
+    let set = steps.seen-more f s v (n .result) i (n .ensures .0) z w p index names (b .pre .1 .0 .0) passes _ _ (r .ensures .1 .0) (omega arith) _
+    (bit .ensures) (done .set .ensures) in
+    let seen = steps.seen-parent f s v (n .result) i (n .ensures .0) z w p _ set in
     (more, seen, r .ensures .1 .1, omega (arith, k .before .loop .inv .3))
 
 parents-pass-same-length-2 : (t : ℕ) →
@@ -382,10 +374,7 @@ parents-pass-returns-2 t c =
 pub +class-passes+parents-pass-spec : {M : Type 1} → statement M
 +class-passes+parents-pass-spec = close μ-class-passes μ-parents-pass
     (λ t. class-passes-lts.spec (class-passes-claims t) (class-passes-at t) class-passes.Post
-    (class-passes-cast-bit t)
-    (class-passes-mul-bit t)
-    (class-passes-cast-bit-2 t)
-    (class-passes-add-bit t)
+    (class-passes-bit-of-requires t)
     (class-passes-get-requires t)
     (class-passes-same-length t)
     (class-passes-returns t)
@@ -395,10 +384,7 @@ pub +class-passes+parents-pass-spec : {M : Type 1} → statement M
     (class-passes-returns-2 t)
     (class-passes-parents-pass-requires t)
     (class-passes-same-length-3 t)
-    (class-passes-returns-3 t)
-    (class-passes-set-requires t)
-    (class-passes-same-length-4 t)
-    (class-passes-returns-4 t))
+    (class-passes-returns-3 t))
     (λ t. parents-pass-lts.spec (parents-pass-claims t) (parents-pass-at t) parents-pass.Post parents-pass-Inv-loop parents-pass-μ-loop
     (parents-pass-parents-in-requires t)
     (parents-pass-loop-holds t)
@@ -406,6 +392,8 @@ pub +class-passes+parents-pass-spec : {M : Type 1} → statement M
     (parents-pass-class-passes-requires t)
     (parents-pass-same-length t)
     (parents-pass-returns t)
+    (parents-pass-bit-of-requires t)
+    (parents-pass-set-requires t)
     (parents-pass-add-i t)
     (parents-pass-loop-less t)
     (parents-pass-loop-again t)

@@ -1,4 +1,4 @@
--- `running::visited::placed` meets its contract: the record is found, by the slot of its package. Assumes nothing.
+-- `running::visited::placed` meets its contract: the record is found, by the slot that is looked up for its package. Assumes nothing.
 use native.Mathlib.Omega.{arith}
 use mathlib.Core.Path.{refl, sym, subst}
 use denote.Ref.{now}
@@ -37,7 +37,10 @@ record-in-requires c κs =
     ((r .0, c1 .slot-for .ensures), (r .1, b .pre .1))
 
 cast-t14 : tie.Need-cast-t14
-cast-t14 c =
+cast-t14 c = omega (arith, c .before .before .before .slot-for .ensures)
+
+cast-t15 : tie.Need-cast-t15
+cast-t15 c =
     let c1 = c .before .before .before .before .before .before in
     let c2 = c1 .before .before in
     let b = c2 .before in
@@ -61,6 +64,7 @@ returns c =
         refl,
         subst (λ (h : Home). RecordAt f s h (v .number) (c .record-in .result)) (c1 .home-of .ensures) (r
             .0),
+        c .before .before .before .slot-for .ensures,
       ),
       r .1,
     )
@@ -74,4 +78,5 @@ placed-spec =
     cast-record-in
     record-in-requires
     cast-t14
+    cast-t15
     returns)
