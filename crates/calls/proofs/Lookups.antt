@@ -1,35 +1,31 @@
 -- What a reference names, step by step: its numbers and name, the package's home, the class record, the method. Assumes nothing.
-use Prim.Native.Nat.{ℕ, zero, suc, _-_, _<_, _≤_}
+use Prim.Native.Nat.{ℕ, zero, suc, _<_, _≤_}
 use native.Mathlib.Omega.{arith}
 use mathlib.Core.Path.{_≡_, refl, sym, _∙_, ap, subst}
-use mathlib.Core.Bool.{Bool, true, false, _&&_, _||_, not}
+use mathlib.Core.Bool.{Bool, not}
 use mathlib.Core.List.{List}
 use mathlib.Core.Option.{Option, some}
 use lib.Dec.{eqb}
 use lib.ListN.{length, getD}
-use Rattle.rules.specs.Bytes.{Bytes, at, someAnd, u1, aid, _andThen_}
+use Rattle.rules.specs.Bytes.{Bytes, at, u1, aid, _andThen_}
 use Rattle.rules.specs.Package.{mostImports, Reference, Method, Class, method, class}
 use Rattle.rules.specs.Classes.{Installed, installed, ClassAt, packageNumbered, recordOf, declared}
-use Rattle.rules.specs.Questions.{Named, referenceNames, callForm}
+use Rattle.rules.specs.Questions.{Named, referenceNames}
 use Rattle.places.proofs.Steady.{steady-u1, steady-aid}
 use Rattle.places.proofs.Inverse.{reads-counted, reads-u1}
 use Rattle.places.proofs.Track.{placed-at, placed-none, counted-inside, many-length}
-use Rattle.files.specs.Say.{referenced, Readable, ImportsAt, ReferencesAt, ReferenceNth, ClassThere, MethodThere, DeclaredPlaced, VisibleIs, StaticIs}
-use Rattle.files.specs.Say.{ImplementedIs, InterfaceIs}
+use Rattle.files.specs.Say.{referenced, Readable, ImportsAt, ReferencesAt, ReferenceNth, ClassThere, DeclaredPlaced}
 use Rattle.files.specs.declared.Spot.the-variants.{At, Nothing}
 use Rattle.files.specs.declared.Referenced.{Referenced}
 use Rattle.files.specs.declared.Referenced.the-variants as referenced′
 use Rattle.files.proofs.Walks.{imports-read, references-read}
-use Rattle.codes.specs.Calls.{kindOf}
-use Rattle.codes.specs.declared.Calling.{Calling}
-use Rattle.codes.specs.declared.Calling.the-variants as kinds
 use Rattle.rules.specs.Store.{Entry, storeLimits}
 use Rattle.homes.specs.Homes.{Imports, fileOf, HomeIs, own, HomeThere, ClassPlaced}
 use Rattle.homes.specs.Found.{ImportHomes}
 use Rattle.named.specs.Named.{Judged, OfJudged, homeOf, PackageThere}
 use Rattle.named.proofs.Numbers.{imports-few}
 use Rattle.named.proofs.Rows.{at-none}
-use Rattle.calls.specs.Named.{ImportCount, NamedIs, NumbersName, ReferenceIs, OfNamed, SeenIs, FormIs, WellIs, CallNamedIs}
+use Rattle.calls.specs.Named.{ImportCount, NamedIs, NumbersName, ReferenceIs}
 use Rattle.calls.specs.declared.Naming.{Naming}
 use Rattle.calls.specs.declared.NamedFound.{NamedFound}
 use Rattle.calls.specs.declared.NamedFound.the-variants as found
@@ -141,72 +137,3 @@ pub named-few : {f s : Bytes} {end : ℕ} (t : List ℕ) (k p c m : ℕ) → Jud
 named-few {f} {s} t k p c m g q =
     let z = q (g .0) (g .1) (g .2) in
     omega (arith, z .2 .number, imports-few (storeLimits s) f (g .1 .pack) (g .2 .setting .reads))
-
--- visible if imported
-module _ {g : Bytes} {m : ℕ} {b : Bool} where
-  pub seen-imported : {i : Bool} → i ≡ true → VisibleIs g m b → SeenIs g m i b
-  seen-imported e h l ds x j p = rw e (h l ds x j p)
-
-pub seen-own : {g : Bytes} {m : ℕ} {i : Bool} → i ≡ false → SeenIs g m i true
-seen-own e l ds x j p = rw e
-
--- the form that each kind of call asks
-module _ {g : Bytes} {c m : ℕ} where
-  pub virtual-static : StaticIs g m true → FormIs g c m kinds.Virtual false
-  virtual-static h x l ds j e a p = rw (← h l ds (x .method) e p)
-
-  pub virtual-is : {b : Bool} → StaticIs g m false → InterfaceIs g c b → FormIs g c m kinds.Virtual (not b)
-  virtual-is h k x l ds j e a p = rw (← h l ds (x .method) e p, ← k l ds (x .declaring) j a)
-
-  pub special-is : {b : Bool} → ImplementedIs g m b → FormIs g c m kinds.Special b
-  special-is h x l ds j e a p = h l ds (x .method) e p
-
-  pub static-is : {b : Bool} → StaticIs g m b → FormIs g c m kinds.Static b
-  static-is h x l ds j e a p = h l ds (x .method) e p
-
-  pub interface-static : StaticIs g m true → FormIs g c m kinds.Interface false
-  interface-static h x l ds j e a p = rw (← h l ds (x .method) e p)
-
-  pub interface-is : {b : Bool} → StaticIs g m false → InterfaceIs g c b → FormIs g c m kinds.Interface b
-  interface-is h k x l ds j e a p = rw (← h l ds (x .method) e p) (k l ds (x .declaring) j a)
-
--- both
-module _ {g : Bytes} {c m : ℕ} where
-  seen-is : (i b : Bool) → SeenIs g m i b → OfNamed g c m λ x. x .imported ≡ i → (not (x .imported) || x .method .visible) ≡ b
-  seen-is i b h x l ds j e a p q = ap (λ (v : Bool). not v || x .method .visible) q ∙ sym (h l ds (x .method) e p)
-
-  pub well-unseen : (i : Bool) (k : Calling) → SeenIs g m i false → WellIs g c m i k false
-  well-unseen i k h x l ds j e a p q = sym (ap (λ (v : Bool). v && callForm (kindOf k) x) (seen-is i false h x l ds j e a p q))
-
-  pub well-seen : (i : Bool) (k : Calling) (r : Bool) → SeenIs g m i true → FormIs g c m k r → WellIs g c m i k r
-  well-seen i k r h d x l ds j e a p q = d x l ds j e a p ∙ sym (ap (λ (v : Bool). v && callForm (kindOf k) x) (seen-is i true h x l ds j e a p q))
-
--- question 18 of a call
-module _ {f s : Bytes} {end index : ℕ} (t : List ℕ) (kind : Calling) where
-  pub call-unnamed : ReferenceIs f s end t index found.Nothing → CallNamedIs f s end kind index false
-  call-unnamed q es self m = rw (q es self m)
-
-  module _ (p c m : ℕ) (q : ReferenceIs f s end t index (found.Method p c m)) where
-    pub named-home : Judged f s end → HomeThere f s (homeOf end t p)
-    named-home g = let z = q (g .0) (g .1) (g .2) in (end, g .0, g .1, g .2, z .0 .class .home, z .2 .lies)
-
-    module _ (b : Bytes) (e : b ≡ fileOf f s (homeOf end t p)) where
-      pub named-class : Judged f s end → ClassThere b c
-      named-class g =
-          let z = q (g .0) (g .1) (g .2) in
-          rw e (storeLimits s, z .0 .class .home .pack .domains, (z .0 .declaring, z .2 .classEnd, z .2 .declaring))
-
-      pub named-method : Judged f s end → MethodThere b m
-      named-method g =
-          let z = q (g .0) (g .1) (g .2) in
-          rw e (storeLimits s, z .0 .class .home .pack .domains, (z .0 .method, z .2 .methodEnd, z .2 .method))
-
-      pub call-named-is : (r : Bool) → WellIs b c m (not (eqb p 0)) kind r → CallNamedIs f s end kind index r
-      call-named-is r w es self u =
-          let z = q es self u in
-          let x = z .0 in
-          let y =
-          subst (λ (v : Bytes). WellIs v c m (not (eqb p 0)) kind r) e w x (storeLimits s) (x .class .home .pack .domains) (z .2 .classEnd)
-          (z .2 .methodEnd) (z .2 .declaring) (z .2 .method) (z .2 .imported)
-          in
-          subst (λ (o : Option Named). r ≡ someAnd o (λ v. (not (v .imported) || v .method .visible) && callForm (kindOf kind) v)) (sym (z .1)) y

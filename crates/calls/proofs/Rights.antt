@@ -2,7 +2,7 @@
 use Prim.Native.Nat.{ℕ}
 use mathlib.Core.Path.{_≡_, refl, _∙_, subst}
 use mathlib.Core.List.{List}
-use Rattle.rules.specs.Bytes.{Bytes, aid}
+use Rattle.rules.specs.Bytes.{Bytes, Aid, aid}
 use Rattle.rules.specs.Store.{Entry, storeLimits}
 use Rattle.rules.specs.Classes.{Installed}
 use Rattle.rules.specs.Questions.{methodNamed, ownMethod}
@@ -19,6 +19,8 @@ use Rattle.named.specs.Named.{Judged, homeOf}
 use Rattle.calls.specs.Named.{ReferenceIs}
 use Rattle.calls.specs.Rights.{StandsThere, RightsAt}
 use Rattle.calls.specs.Calls.{OwnMethod}
+use Rattle.calls.specs.Maps.{askerAt, AskerTrue, TablesTrue}
+use Rattle.calls.specs.declared.Asker.{Asker}
 use Rattle.calls.specs.declared.NamedFound.the-variants as found
 
 module _ {f s : Bytes} {h : Home} {m : ℕ} where
@@ -76,3 +78,14 @@ pub callee-stands : {f s : Bytes} {end : ℕ} (t : List ℕ) (index p c m : ℕ)
 callee-stands {end = end} t index p c m q g =
     let z = q (g .0) (g .1) (g .2) in
     (end, g .0, g .1, g .2, methodNamed (z .0), record { lies = z .2 .lies; to = z .2 .methodEnd; reads = z .2 .method })
+
+-- what a walk carries, at another place
+pub asker-moved : {f s : Bytes} {a : Asker} {i : ℕ} → AskerTrue f s a → AskerTrue f s (askerAt a i)
+asker-moved t = record { file = t .file; domain = t .domain; loading = t .loading }
+
+-- what is told of the place that a walk was moved to, and the tables with it
+pub told-at : {f s : Bytes} {x : Asker} {i : ℕ} {h u v : List ℕ} (a : Asker) (P : ℕ → Aid → ℕ → Type 0) → x ≡ askerAt a i →
+    P (x .end) (aidAt s (x .domain)) (x .at) × TablesTrue f s (x .end) (x .domain) h u v →
+    P (a .end) (aidAt s (a .domain)) i × TablesTrue f s (a .end) (a .domain) h u v
+told-at {f} {s} {h = h} {u} {v} a P e p =
+    subst (λ (y : Asker). P (y .end) (aidAt s (y .domain)) (y .at) × TablesTrue f s (y .end) (y .domain) h u v) e p

@@ -5,9 +5,10 @@ use mathlib.Core.Path.{_≡_, refl, sym, ap, _∙_, subst}
 use mathlib.Core.Bool.{Bool, true, false, _&&_, _||_, and-true, or-false}
 use mathlib.Core.List.{List, [], _∷_, _++_}
 use lib.Dec.{eqb, ltb}
-use lib.IntN.{ℤ, pos, negsuc}
+use lib.IntN.{ℤ, pos, negsuc, _+ℤ_}
 use borrow.Author.Tests.{lt-ltb, le-ltb, ltb-true}
 use Rattle.rules.specs.Bytes.{Bytes, any, all}
+use Rattle.rules.specs.Code.{signed}
 use Rattle.bits.specs.Bits.{bitAt, withBit}
 use Rattle.codes.specs.Marks.{goesTo, inCode, LandsAt, Adds}
 
@@ -81,6 +82,11 @@ module _ (n : ℕ) where
 -- the same of another writing of the answer and of the list
 pub adds-is : {n : ℕ} {old : ℕ → Bool} {new : Bytes} {r q : Bool} {xs ys : List ℤ} → r ≡ q → xs ≡ ys → Adds n old new r xs → Adds n old new q ys
 adds-is {n} {old} {new} {r} {q} {xs} {ys} e f a = subst (λ (b : Bool). Adds n old new b ys) e (subst (Adds n old new r) f a)
+
+-- one target, by another writing of the field that it is read from
+pub adds-field : {n : ℕ} {old : ℕ → Bool} {new : Bytes} {r : Bool} (at half : ℕ) {x y : ℕ} → x ≡ y → Adds n old new r ((pos at +ℤ signed half x) ∷ []) →
+    Adds n old new r ((pos at +ℤ signed half y) ∷ [])
+adds-field at half e = adds-is refl (ap (λ (x : ℕ). (pos at +ℤ signed half x) ∷ []) e)
 
 -- behind a yes, the others; behind a no, none
 pub adds-yes : {n : ℕ} {old : ℕ → Bool} {mid new : Bytes} {r q : Bool} {z : ℤ} {zs : List ℤ} → r ≡ true → Adds n old mid r (z ∷ []) → Adds n (bitAt mid)

@@ -134,10 +134,12 @@ module _ (f s : Bytes) (end : ℕ) (t : List ℕ) (u : ImportHomes f s end t) wh
           count = zv ∙ (parent-by es self x k d) .count
 
           told : r ≡ pick (eqb v 0) 1 (depthField (depthWidth s) tab ((h .from + i) / 5) + 1)
-          told = zr ∙ ap (λ (m : Bool). pick m (getD ds c 0) (pick (eqb v 0) 1 (depthField (depthWidth s) tab ((h .from + i) / 5) + 1))) (ne-eqb (h .from) 0 from)
+          told = zr ∙ ap (λ (m : Bool). pick m (getD ds c 0) (pick (eqb v 0) 1 (depthField (depthWidth s) tab ((h .from + i) / 5) + 1)))
+              (ne-eqb (h .from) 0 from)
 
           none : v ≡ 0 → r ≡ depthOf s es (own x c)
-          none z = told ∙ ap (λ (m : Bool). pick m 1 (depthField (depthWidth s) tab ((h .from + i) / 5) + 1)) (eq-eqb v 0 z) ∙ depth-one s es x c k (d .is) (sym count ∙ z)
+          none z = told ∙ ap (λ (m : Bool). pick m 1 (depthField (depthWidth s) tab ((h .from + i) / 5) + 1)) (eq-eqb v 0 z)
+              ∙ depth-one s es x c k (d .is) (sym count ∙ z)
 
           some′ : 0 < v → r ≡ depthOf s es (own x c)
           some′ z =

@@ -82,7 +82,8 @@ depths-domain s end next {kind} a t kept one st = kept-by s es end (domain kind 
 -- a package more: the earlier depths stay, since the records before it have fields before its own
 pub depths-next : (s : Bytes) (at from next : ℕ) (d : Aid) (t t′ ds : List ℕ) → DepthsKept s at t → EntryAt s at (loaded d (part s from next)) next →
     at < from → from ≤ next → OwnDepths (part s from next) s at ds → FileKept (depthWidth s) (part s from next) from ds t′ →
-    ((j : ℕ) → j < from / 5 → depthField (depthWidth s) t′ j ≡ depthField (depthWidth s) t j) → length t′ ≡ length t → StandFrom s (firstEntry s) at → DepthsKept s next t′
+    ((j : ℕ) → j < from / 5 → depthField (depthWidth s) t′ j ≡ depthField (depthWidth s) t j) → length t′ ≡ length t →
+    StandFrom s (firstEntry s) at → DepthsKept s next t′
 depths-next s end from next d t t′ ds kept one l₁ l₂ o w same len st = kept-by s es end e next (st .1) one t′ (omega (arith, kept .room, len)) told
   where
     es : List Entry

@@ -113,7 +113,8 @@ module _ (w : ℕ) (g : Bytes) (from : ℕ) (ds : List ℕ) where
     pub kept-more : FileKeptTo w g from ds old n → FileKeptTo w g from ds new (n + 1)
     kept-more k m a h q z = elim (decLe n m) [
       | yes o ↦ let e : n ≡ m = omega (arith, h) in let j : i ≡ a = stands-one g r m i a (subst (λ (v : ℕ). Stands g v i) e s) q in subst
-          (λ (v : ℕ). depthField w new ((from + v) / 5) + 1 ≡ getD ds m 0) j (subst (λ (v : ℕ). depthField w new ((from + i) / 5) + 1 ≡ getD ds v 0) e (here (rw j z)))
+          (λ (v : ℕ). depthField w new ((from + v) / 5) + 1 ≡ getD ds m 0) j
+          (subst (λ (v : ℕ). depthField w new ((from + i) / 5) + 1 ≡ getD ds v 0) e (here (rw j z)))
       | no o ↦
           let p = stands-apart g r m a n i q s (omega arith) in
           ap (λ (v : ℕ). v + 1) (same ((from + a) / 5) (λ e. omega (arith, e, p, z))) ∙ k m a (omega arith) q z

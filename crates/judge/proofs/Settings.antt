@@ -46,7 +46,8 @@ module _ (s : Bytes) (end : ℕ) (d : Aid) (f : Bytes) where
   readable t = (storeLimits s, t .1, t .2 .read .reads)
 
 -- sets of so many bits have one for each byte of a code within the limits of a store
-pub code-room : (s f : Bytes) (n : ℕ) → ReadSome s f → storeLimits s .code ≤ n → (l : Limits) × (p : Package) × (readFile l f ≡ some p) × ((l .code ≤ n) × (l .code ≤ n))
+pub code-room : (s f : Bytes) (n : ℕ) → ReadSome s f → storeLimits s .code ≤ n →
+    (l : Limits) × (p : Package) × (readFile l f ≡ some p) × ((l .code ≤ n) × (l .code ≤ n))
 code-room s f n t h = (storeLimits s, t .0, t .1, (h, h))
 
 -- the used field of a store lies inside it

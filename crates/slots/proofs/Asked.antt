@@ -14,7 +14,8 @@ use Rattle.homes.specs.declared.HomeFound.the-variants.{At}
 use Rattle.homes.proofs.Homes.{home-bounds}
 use Rattle.named.specs.Named.{RowTrue, Beside}
 use Rattle.slots.specs.Slots.{slotCount, slotLength, slotsLength, withHome, slotHome, importHome, SmallHome, SlotsTrue, Emptied}
-use Rattle.slots.proofs.Slots.{slots-filled, import-kept}
+use Rattle.slots.proofs.Slots.{slots-filled}
+use Rattle.slots.proofs.Imports.{import-kept}
 
 -- the first i numbers of slot k are 0, and all others as they were
 pub record Emptying (t u : List ℕ) (k i : ℕ) : Type 0 where

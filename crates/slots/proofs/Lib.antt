@@ -1,4 +1,5 @@
 -- Laws of slots.
 pub mod Slots
+pub mod Imports
 pub mod Asked
 pub mod Standing

@@ -79,18 +79,25 @@ part-end s i k e es r = (entries-over s i es k (omega arith) r, e)
 abbrev pub Walks : (Entry → Bool) → Bytes → ℕ → ℕ → Type 0
 Walks q s k i = (es : List Entry) → Entries s (firstEntry s) es k → Walk q s es k i
 
+-- the entry at place i of the first k bytes: a domain, its AID from a to j; a package, its domain's AID from a to m, its file from there to j
+abbrev pub DomainIn : Bytes → ℕ → ℕ → ℕ → ℕ → Type 0
+DomainIn s k i a j = (a ≤ j) × (j ≤ length s) × (i < j) × (j ≤ k)
+
+abbrev pub PackageIn : Bytes → ℕ → ℕ → ℕ → ℕ → ℕ → Type 0
+PackageIn s k i a m j = (a ≤ m) × (m ≤ j) × (j ≤ length s) × (i < j) × (j ≤ k)
+
 module _ {q : Entry → Bool} {s : Bytes} {k i : ℕ} (w : Walks q s k i) where
   pub walks-from : StandFrom s (firstEntry s) k → StandFrom s i k
   walks-from f = let v = w (f .0) (f .1) in (v .rest, v .from)
 
-  pub domain-in : {a j : ℕ} → StandFrom s (firstEntry s) k → PartAt s i k (Domain a j) → (a ≤ j) × (j ≤ length s) × (i < j) × (j ≤ k)
+  pub domain-in : {a j : ℕ} → StandFrom s (firstEntry s) k → PartAt s i k (Domain a j) → DomainIn s k i a j
   domain-in {a} {j} f p =
       let v = w (f .0) (f .1) in
       let x = p (v .rest) (v .from) in
       let l = first-later (x .1) in
       (x .0, omega arith, l .0, l .1)
 
-  pub package-in : {a m j : ℕ} → StandFrom s (firstEntry s) k → PartAt s i k (Package a m j) → (a ≤ m) × (m ≤ j) × (j ≤ length s) × (i < j) × (j ≤ k)
+  pub package-in : {a m j : ℕ} → StandFrom s (firstEntry s) k → PartAt s i k (Package a m j) → PackageIn s k i a m j
   package-in {a} {m} {j} f p =
       let v = w (f .0) (f .1) in
       let x = p (v .rest) (v .from) in

@@ -8,7 +8,7 @@ use Rattle.calls.proofs.Walked as walked
 use Rattle.calls.proofs.calls_ok.Statement.{statement}
 use Rattle.calls.proofs.calls_ok.Tie as tie
 
--- the function's start, where the file is told of
+-- the start, from where the file is told of
 abbrev start : tie.After-told-of → tie.Start
 start k = k .before .before .before
 
@@ -36,11 +36,4 @@ returns c =
     walked.calls-number (aidAt (now (a .s)) (a .domain)) (f .result) (rw (k .told-of .ensures .0, k .told-of .ensures .1) at (f .ensures))
 
 pub calls-ok-spec : {M : Type 1} → statement M
-calls-ok-spec =
-    tie.close
-    (tie.spec
-    told-of-requires
-    slice-aggregate-file-calls
-    slice-aggregate-file-calls-2
-    file-calls-requires
-    returns)
+calls-ok-spec = tie.close (tie.spec told-of-requires slice-aggregate-file-calls slice-aggregate-file-calls-2 file-calls-requires returns)

@@ -8,8 +8,9 @@ use Rattle.files.specs.Say.{Methods}
 use Rattle.files.proofs.Steps as steps
 use Rattle.homes.specs.Homes.{aidAt}
 use Rattle.calls.specs.Maps.{TablesTrue}
-use Rattle.calls.specs.Calls.{OwnMethod}
-use Rattle.calls.proofs.Asked as asked
+use Rattle.calls.specs.Calls.{OwnMethod, MethodCallsAre}
+use Rattle.calls.proofs.Rights.{asker-moved, told-at}
+use Rattle.calls.proofs.Asked.{method-there, class-there}
 use Rattle.calls.proofs.Walked as walked
 use Rattle.calls.proofs.class_calls.Statement.{statement}
 use Rattle.calls.proofs.class_calls.Tie as tie
@@ -22,29 +23,32 @@ Inv-loop f s table a homes rows₀ map₀ start left₀ c₀ number₀ rows map 
 abbrev μ-loop : tie.MeasureT-loop
 μ-loop f s table a homes rows₀ map₀ start left₀ c₀ number₀ rows map left c number = left
 
--- the function's start, where the list is found, and where the loop stands
-abbrev begin : tie.After-methods-of Inv-loop μ-loop → tie.Start Inv-loop μ-loop
-begin k = k .before .before .before .before .before
+-- the start, from where the list is found; that, from where a turn begins; the turn, from where its method is asked; that, from where the
+-- first no is known
+abbrev start : tie.After-methods-of Inv-loop μ-loop → tie.Start Inv-loop μ-loop
+start k = k .before .before .before .before .before
 
-abbrev start : tie.At-loop Inv-loop μ-loop → tie.Start Inv-loop μ-loop
-start k = begin (k .before .before .before)
+abbrev listed : tie.At-loop Inv-loop μ-loop → tie.After-methods-of Inv-loop μ-loop
+listed k = k .before .before .before
+
+abbrev turn : tie.After-method-calls Inv-loop μ-loop → tie.In-loop Inv-loop μ-loop
+turn k = k .before .before .before .before
+
+abbrev asked : tie.After-first-no Inv-loop μ-loop → tie.After-method-calls Inv-loop μ-loop
+asked k = k .before .before .before .before .before
 
 -- the list of methods
-methods : (k : tie.After-methods-of Inv-loop μ-loop) → Methods (now (begin k .args .f)) (k .methods-of .result)
-methods k = steps.methods-there (k .methods-of .ensures) (asked.class-there (begin k .pre .0 .0))
+methods : (k : tie.After-methods-of Inv-loop μ-loop) → Methods (now (start k .args .f)) (k .methods-of .result)
+methods k = steps.methods-there (k .methods-of .ensures) (class-there (start k .pre .0 .0))
 
 -- the method at hand
 method : (k : tie.In-loop Inv-loop μ-loop) →
-    let a = start (k .before) .args in
+    let a = start (listed (k .before)) .args in
     OwnMethod (now (a .f)) (now (a .s)) (a .a .end) (k .before .loop .c)
-method k =
-    let o = k .before .loop in
-    walked.methods-one (k .before .before .before .before .methods-of .result) (o .number) (o .inv .3) (k .loop-test .taken)
+method k = walked.methods-one _ _ (k .before .loop .inv .3) (k .loop-test .taken)
 
 methods-of-requires : tie.Need-methods-of-requires Inv-loop μ-loop
-methods-of-requires c κs =
-    let pre = c .before .before .before .before .pre in
-    asked.class-there (pre .0 .0)
+methods-of-requires c κs = class-there (c .before .before .before .before .pre .0 .0)
 
 shared-slice-read-wide : tie.Need-shared-slice-read-wide Inv-loop μ-loop
 shared-slice-read-wide c = steps.methods-in (methods (c .before))
@@ -57,28 +61,25 @@ add-c c = omega (arith, steps.methods-in (methods (c .before .before)))
 
 loop-holds : tie.Need-loop-holds Inv-loop μ-loop
 loop-holds c =
-    let c1 = c .before .before in
-    let b = begin c1 in
-    (refl, refl, b .pre .1 .1, walked.methods-begin (b .pre .0 .0) (c1 .methods-of .ensures) (c .wide .ensures .0))
+    let k = c .before .before in
+    let pre = start k .pre in
+    (refl, refl, pre .1 .1, walked.methods-begin (pre .0 .0) (k .methods-of .ensures) (c .wide .ensures .0))
 
 asker-at-requires : tie.Need-asker-at-requires Inv-loop μ-loop
 asker-at-requires c κs = search needs
 
 method-calls-requires : tie.Need-method-calls-requires Inv-loop μ-loop
 method-calls-requires c κs =
-    let c1 = c .before .before in
-    let k = c1 .before in
-    let b = start (k .before) in
-    let t = b .pre .1 .0 in
-    rw (c1 .asker-at .ensures) ((method k, b .pre .0 .1), (record { file = t .file; domain = t .domain; loading = t .loading }, k .before .loop .inv .2))
+    let x = c .before .before in
+    let t = x .before in
+    let pre = start (listed (t .before)) .pre in
+    rw (x .asker-at .ensures) ((method t, pre .0 .1), (asker-moved (pre .1 .0), t .before .loop .inv .2))
 
 first-no-requires : tie.Need-first-no-requires Inv-loop μ-loop
 first-no-requires c κs = search needs
 
 after-method-requires : tie.Need-after-method-requires Inv-loop μ-loop
-after-method-requires c κs =
-    let earlier = c .before .before .before .before .before .before .before .before .before in
-    asked.method-there (method earlier)
+after-method-requires c κs = method-there (method (turn (asked c)))
 
 sub-left : tie.Need-sub-left Inv-loop μ-loop
 sub-left c = omega arith
@@ -88,18 +89,17 @@ loop-less c = omega arith
 
 loop-again : tie.Need-loop-again Inv-loop μ-loop
 loop-again c =
-    let c1 = c .before .before .before .before .before .before in
-    let m = c1 .method-calls in
-    let c2 = c1 .before .before .before in
-    let k = c2 .before in
-    let o = k .before .loop in
-    let n = c .before .first-no in
-    let e = rw (c2 .asker-at .ensures) at (m .ensures) in (
-      omega (arith, m .kept, o .inv .0),
-      omega (arith, m .kept, o .inv .1),
+    let k = asked (c .before) in
+    let t = turn k in
+    let inv = t .before .loop .inv in
+    let a = start (listed (t .before)) .args in
+    let calls = k .method-calls in
+    let placed = k .before .before .before .asker-at .ensures in
+    let e = told-at (a .a) (λ end d i. MethodCallsAre (now (a .f)) (now (a .s)) end d i (calls .result)) placed (calls .ensures) in (
+      omega (arith, calls .kept, inv .0),
+      omega (arith, calls .kept, inv .1),
       e .1,
-      walked.methods-on (k .before .before .before .before .methods-of .result) (o .number) (o .inv .3) (m .result) (n .result) (c .after-method .result)
-          (k .loop-test .taken) (e .0) (n .ensures) (c .after-method .ensures),
+      walked.methods-on _ _ (inv .3) _ _ _ (t .loop-test .taken) (e .0) (c .before .first-no .ensures) (c .after-method .ensures),
     )
 
 same-length : tie.Need-same-length Inv-loop μ-loop
@@ -110,28 +110,11 @@ same-length-2 c = c .before .loop .inv .1
 
 returns : tie.Need-returns Inv-loop μ-loop
 returns c =
-    let m = c .before .before .before .before .methods-of in
-    let o = c .before .loop in
-    (walked.methods-end (m .result) (o .number) (o .inv .3) (c .loop-test .left) (m .ensures), o .inv .2)
+    let inv = c .before .loop .inv in
+    (walked.methods-end _ _ (inv .3) (c .loop-test .left) (listed (c .before) .methods-of .ensures), inv .2)
 
 pub class-calls-spec : {M : Type 1} → statement M
 class-calls-spec =
     tie.close
-    (tie.spec
-    Inv-loop
-    μ-loop
-    methods-of-requires
-    shared-slice-read-wide
-    wide-requires
-    add-c
-    loop-holds
-    asker-at-requires
-    method-calls-requires
-    first-no-requires
-    after-method-requires
-    sub-left
-    loop-less
-    loop-again
-    same-length
-    same-length-2
-    returns)
+    (tie.spec Inv-loop μ-loop methods-of-requires shared-slice-read-wide wide-requires add-c loop-holds asker-at-requires method-calls-requires
+    first-no-requires after-method-requires sub-left loop-less loop-again same-length same-length-2 returns)

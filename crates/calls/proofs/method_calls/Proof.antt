@@ -5,7 +5,7 @@ use mathlib.Core.Path.{_≡_, refl, subst}
 use lib.ListN.{length}
 use denote.Ref.{now}
 use borrow.Author.Needs.{needs}
-use Rattle.rules.specs.Bytes.{Bytes}
+use Rattle.codes.specs.declared.NextCall.{NextCall}
 use Rattle.codes.specs.Calls.{Follows}
 use Rattle.codes.specs.declared.NextCall.the-variants as next′
 use Rattle.homes.specs.Homes.{aidAt}
@@ -23,31 +23,38 @@ Inv-loop f s table a homes rows₀ map₀ code from₀ number₀ rows map from n
 abbrev μ-loop : tie.MeasureT-loop
 μ-loop f s table a homes rows₀ map₀ code from₀ number₀ rows map from number = length code - from
 
--- the function's start, where the loop stands
+-- the start, from where a turn begins; the turn, from where a call follows; that, from where what it calls is known; that, from where its number
+-- is; that, from where the first no is
 abbrev start : tie.At-loop Inv-loop μ-loop → tie.Start Inv-loop μ-loop
 start k = k .before .before .before .before .before .before
 
--- the code
-abbrev code : tie.At-loop Inv-loop μ-loop → Bytes
-code k = now (k .before .code-of .result)
+abbrev turn : tie.After-kind Inv-loop μ-loop → tie.At-loop Inv-loop μ-loop
+turn k = k .before .before .before
 
--- what follows, told by `next_call`: a call
-follows : (k : tie.After-kind Inv-loop μ-loop) →
-    let x = k .kind .given .0 in
-    Follows (code (k .before .before .before)) (k .before .before .before .loop .from) (next′.Call (x .0) (x .1 .0) (x .1 .1 .0))
-follows k =
-    let o = k .before .before .before in
-    subst (Follows (code o) (o .loop .from)) (k .kind .given .1) (k .before .before .next-call .ensures)
+abbrev call : tie.After-called Inv-loop μ-loop → tie.After-kind Inv-loop μ-loop
+call k = k .before .before .before
+
+abbrev called : tie.After-call-number Inv-loop μ-loop → tie.After-called Inv-loop μ-loop
+called k = k .before .before .before .before
+
+abbrev told : tie.After-first-no Inv-loop μ-loop → tie.After-call-number Inv-loop μ-loop
+told k = k .before .before .before
+
+-- r is what follows in the code
+abbrev Next : tie.At-loop Inv-loop μ-loop → NextCall → Type 0
+Next k r = Follows (now (k .before .code-of .result)) (k .loop .from) r
+
+-- a call follows
+follows : (k : tie.After-kind Inv-loop μ-loop) → let x = k .kind .given .0 in Next (turn k) (next′.Call (x .0) (x .1 .0) (x .1 .1 .0))
+follows k = subst (Next (turn k)) (k .kind .given .1) (k .before .before .next-call .ensures)
 
 code-of-requires : tie.Need-code-of-requires Inv-loop μ-loop
-code-of-requires c κs =
-    let pre = c .before .before .before .before .pre in
-    asked.method-there (pre .0 .0)
+code-of-requires c κs = asked.method-there (c .before .before .before .before .pre .0 .0)
 
 loop-holds : tie.Need-loop-holds Inv-loop μ-loop
 loop-holds c =
-    let b = c .before .before .before .before .before in
-    (refl, refl, b .pre .1 .1, asked.calls-begin (now (c .code-of .result)) (c .code-of .ensures) (b .pre .0 .0))
+    let pre = c .before .before .before .before .before .pre in
+    (refl, refl, pre .1 .1, asked.calls-begin (now (c .code-of .result)) (c .code-of .ensures) (pre .0 .0))
 
 next-call-requires : tie.Need-next-call-requires Inv-loop μ-loop
 next-call-requires c κs = (start c .pre .0 .1, c .loop .inv .3 .splits)
@@ -57,85 +64,57 @@ enum-known-kind c = search needs
 
 called-requires : tie.Need-called-requires Inv-loop μ-loop
 called-requires c κs =
-    let k = c .before .before .before .before .before in
-    let b = start k in
-    let t = k .loop .inv .2 in
-    ((rights.caller-judged (b .pre .0 .0), b .pre .1 .0 .file), (t .homes, t .rows))
+    let t = turn (c .before .before) in
+    let pre = start t .pre in
+    let tables = t .loop .inv .2 in
+    ((rights.caller-judged (pre .0 .0), pre .1 .0 .file), (tables .homes, tables .rows))
 
 call-number-requires : tie.Need-call-number-requires Inv-loop μ-loop
 call-number-requires c κs =
-    let c1 = c .before .before .before in
-    let c2 = c1 .before .before .before in
-    let k = c2 .before .before .before in
-    let b = start k in
-    let t = k .loop .inv .2 in
-    let x = c2 .kind .given .0 in
-    ((b .pre .0 .0, (x .0, x .1 .0, c1 .called .ensures .0)), ((b .pre .1 .0, t .homes), t .map))
+    let k = c .before .before .before in
+    let x = call k .kind .given .0 in
+    let t = turn (call k) in
+    let pre = start t .pre in
+    let tables = t .loop .inv .2 in
+    ((pre .0 .0, (x .0, x .1 .0, k .called .ensures .0)), ((pre .1 .0, tables .homes), tables .map))
 
 first-no-requires : tie.Need-first-no-requires Inv-loop μ-loop
 first-no-requires c κs = search needs
 
 loop-less : tie.Need-loop-less Inv-loop μ-loop
-loop-less c =
-    let earlier = c .before .before .before .before .before .before .before .before .before .before in
-    let w = follows earlier in
-    omega (arith, w .2, w .3)
+loop-less c = let w = follows (call (called (told c))) in omega (arith, w .2, w .3)
 
 loop-again : tie.Need-loop-again Inv-loop μ-loop
 loop-again c =
-    let c1 = c .before .before .before in
-    let c2 = c1 .before .before .before .before in
-    let q = c2 .called in
-    let earlier = c2 .before .before .before in
-    let k = earlier .before .before .before in
-    let o = k .loop in
-    let x = earlier .kind .given .0 in
-    let w = follows earlier in
-    let n = c1 .call-number in (
-      omega (arith, q .kept, o .inv .0),
-      omega (arith, n .kept, o .inv .1),
-      record { homes = o .inv .2 .homes; rows = q .ensures .1; map = n .ensures .1 },
-      asked.calls-on (code k) (o .from) (o .number) (o .inv .3) (x .0) (x .1 .0) (x .1 .1 .0 .0) (w .0)
-          (n .result) (n .ensures .0 (x .0) (x .1 .0) (q .ensures .0)) (w .1) (c .first-no .result) (c .first-no .ensures),
+    let n = told c .call-number in
+    let q = called (told c) .called in
+    let k = call (called (told c)) in
+    let x = k .kind .given .0 in
+    let w = follows k in
+    let inv = turn k .loop .inv in (
+      omega (arith, q .kept, inv .0),
+      omega (arith, n .kept, inv .1),
+      record { homes = inv .2 .homes; rows = q .ensures .1; map = n .ensures .1 },
+      asked.calls-on _ _ _ (inv .3) (x .0) _ _ (w .0) _ (n .ensures .0 (x .0) (x .1 .0) (q .ensures .0)) (w .1) _ (c .first-no .ensures),
     )
 
 enum-told : tie.Need-enum-told Inv-loop μ-loop
 enum-told c = search needs
 
 same-length : tie.Need-same-length Inv-loop μ-loop
-same-length c =
-    let loop = c .before .before .before .loop in
-    loop .inv .0
+same-length c = c .before .before .before .loop .inv .0
 
 same-length-2 : tie.Need-same-length-2 Inv-loop μ-loop
-same-length-2 c =
-    let loop = c .before .before .before .loop in
-    loop .inv .1
+same-length-2 c = c .before .before .before .loop .inv .1
 
 returns : tie.Need-returns Inv-loop μ-loop
 returns c =
-    let c1 = c .before .before in
-    let k = c1 .before in
-    let o = k .loop in
-    let w = subst (Follows (code k) (o .from)) (c .enum-told .given .1) (c1 .next-call .ensures) in
-    (asked.calls-end (code k) (o .from) (o .number) (o .inv .3) w, o .inv .2)
+    let t = c .before .before .before in
+    let none = subst (Next t) (c .enum-told .given .1) (c .before .before .next-call .ensures) in
+    (asked.calls-end _ _ _ (t .loop .inv .3) none, t .loop .inv .2)
 
 pub method-calls-spec : {M : Type 1} → statement M
 method-calls-spec =
     tie.close
-    (tie.spec
-    Inv-loop
-    μ-loop
-    code-of-requires
-    loop-holds
-    next-call-requires
-    enum-known-kind
-    called-requires
-    call-number-requires
-    first-no-requires
-    loop-less
-    loop-again
-    enum-told
-    same-length
-    same-length-2
-    returns)
+    (tie.spec Inv-loop μ-loop code-of-requires loop-holds next-call-requires enum-known-kind called-requires call-number-requires first-no-requires
+    loop-less loop-again enum-told same-length same-length-2 returns)

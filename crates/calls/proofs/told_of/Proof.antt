@@ -70,12 +70,5 @@ returns c =
 pub told-of-spec : {M : Type 1} → statement M
 told-of-spec =
     tie.close
-    (tie.spec
-    imports-at-requires
-    aid-bytes-requires
-    shared-slice-read-wide
-    wide-requires
-    after-aids-requires
-    domains-at-requires
-    number-of-requires
+    (tie.spec imports-at-requires aid-bytes-requires shared-slice-read-wide wide-requires after-aids-requires domains-at-requires number-of-requires
     returns)

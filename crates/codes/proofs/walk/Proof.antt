@@ -1,12 +1,14 @@
 -- `codes::walk` meets its contract. The invariant is `Walking`: the instructions before this offset are passed. Assumes nothing.
-use Prim.Native.Nat.{_-_, _/_, _%_}
+use Prim.Native.Nat.{_+_, _-_}
 use native.Mathlib.Omega.{arith}
 use mathlib.Core.Path.{_≡_, refl}
-use mathlib.Core.Bool.{_&&_, _||_}
-use lib.Dec.{eqb}
-use lib.ListN.{length, set}
+use mathlib.Core.Bool.{Bool}
+use mathlib.Core.List.{[], _∷_, _++_}
+use lib.ListN.{length}
 use borrow.Author.Needs.{needs}
 use denote.Ref.{now}
+use Rattle.rules.specs.Bytes.{Bytes}
+use Rattle.codes.specs.Marks.{Passed}
 use Rattle.instructions.proofs.Sizes.{whole-is}
 use Rattle.codes.proofs.Walking.{Walking, passed-straight, passed-branch, walking-start, walking-on, walking-bad, walking-done}
 use Rattle.codes.proofs.walk.Statement.{statement}
@@ -19,10 +21,37 @@ Inv-loop table code starts₀ targets₀ at₀ last₀ inside₀ calls₀ starts
 abbrev μ-loop : tie.MeasureT-loop
 μ-loop table code starts₀ targets₀ at₀ last₀ inside₀ calls₀ starts targets at last inside calls = length code - at
 
+-- the start, from where a turn begins; the turn, from where its opcode's entry is told; that, from where its length is, and is not 0; that, from
+-- where its bit is set; that, from where the set is whole again
+abbrev start : tie.In-loop Inv-loop μ-loop → tie.Start Inv-loop μ-loop
+start k = k .before .before .before .before .before
+
+abbrev turn : tie.After-entry-at Inv-loop μ-loop → tie.In-loop Inv-loop μ-loop
+turn k = k .before .before
+
+abbrev entry : tie.Else1 Inv-loop μ-loop → tie.After-entry-at Inv-loop μ-loop
+entry k = k .before .before
+
+abbrev sized : tie.After-set Inv-loop μ-loop → tie.Else1 Inv-loop μ-loop
+sized k = k .before .before
+
+abbrev set : tie.After-slice-known3 Inv-loop μ-loop → tie.After-set Inv-loop μ-loop
+set k = k .before .before
+
+-- the walk goes on behind an instruction, where that is passed
+on : (k : tie.Else1 Inv-loop μ-loop) (starts targets : Bytes) (inside calls : Bool) →
+    let t = turn (entry k) in
+    let code = now (start t .args .code) in
+    let at = t .before .loop .at in
+    Passed code inside calls starts targets (t .before .loop .inv .0 .before ++ at ∷ []) →
+    Walking code (at + k .before .instruction-length .result) (at + 1) inside calls starts targets
+on k =
+    let t = turn (entry k) in
+    let n = k .before .instruction-length in
+    walking-on _ _ _ _ _ _ _ (t .before .loop .inv .0) (n .result) (t .loop-test .taken) (n .ensures .0) (k .if1 .left) (n .ensures .1)
+
 loop-holds : tie.Need-loop-holds Inv-loop μ-loop
-loop-holds c =
-    let start = c .before .before .before in
-    let p = start .pre in (walking-start _ _ _ (p .1 .0) (p .1 .1), refl, refl)
+loop-holds c = (walking-start _ _ _ (c .before .before .before .pre .1 .0) (c .before .before .before .pre .1 .1), refl, refl)
 
 shared-slice-read-entry-at : tie.Need-shared-slice-read-entry-at Inv-loop μ-loop
 shared-slice-read-entry-at c = search needs
@@ -41,18 +70,14 @@ same-length-2 c = search needs
 
 returns : tie.Need-returns Inv-loop μ-loop
 returns c =
-    let at-loop-test = c .before .before .before .before in
-    let at-loop = at-loop-test .before in
-    let turn = at-loop .loop in
-    let got = c .before .instruction-length in
-    walking-bad _ _ _ _ _ _ _ (turn .inv .0) (got .result) (at-loop-test .loop-test .taken) (got .ensures .0) (c .if1 .taken)
+    let t = turn (c .before .before) in
+    let n = c .before .instruction-length in
+    walking-bad _ _ _ _ _ _ _ (t .before .loop .inv .0) (n .result) (t .loop-test .taken) (n .ensures .0) (c .if1 .taken)
 
 set-requires : tie.Need-set-requires Inv-loop μ-loop
 set-requires c κs =
-    let at-loop-test = c .before .before .before .before .before in
-    let at-loop = at-loop-test .before in
-    let start = at-loop .before .before .before .before in
-    let p = start .pre .0 in omega (arith, at-loop .loop .inv .1, p .1, at-loop-test .loop-test .taken)
+    let t = turn (entry (c .before)) in
+    omega (arith, t .before .loop .inv .1, start t .pre .0 .1, t .loop-test .taken)
 
 add-last : tie.Need-add-last Inv-loop μ-loop
 add-last c = search needs
@@ -65,43 +90,20 @@ loop-less c = search needs
 
 loop-again : tie.Need-loop-again Inv-loop μ-loop
 loop-again c =
-    let at-set = c .before .before .before in
-    let at-if1 = at-set .before .before in
-    let at-instruction-length = at-if1 .before in
-    let at-entry-at = at-instruction-length .before in
-    let at-loop-test = at-entry-at .before .before in
-    let at-loop = at-loop-test .before in
-    let start = at-loop .before .before .before .before in
-    let turn = at-loop .loop in
-    let code = now (start .args .code) in
-    let got = at-instruction-length .instruction-length in
-    let step = walking-on code (turn .at) (turn .last) (turn .inside) (turn .calls) (turn .starts) (turn .targets) (turn .inv .0) (got .result)
-    (at-loop-test .loop-test .taken) (got .ensures .0) (at-if1 .if1 .left) (got .ensures .1) in
-    let form = at-entry-at .entry-at .result / 16 in
-    let size = at-entry-at .entry-at .result % 16 in (
-      step _ (turn .targets) (turn .inside) (turn .calls || eqb form 1) (passed-straight code (turn .inside) (turn .calls) (turn .starts) (turn .targets)
-          (turn .inv .0 .before) (turn .inv .0 .passed) (turn .at) form size _ (at-entry-at .entry-at .ensures .0) (at-loop-test .loop-test .taken)
-          (at-set .set .ensures) (omega (arith, c .if2 .taken))),
-      omega (arith, turn .inv .1, at-set .set .kept),
-      turn .inv .2,
-    )
+    let s = set (c .before) in
+    let e = entry (sized s) in
+    let t = turn e in
+    let known = t .before .loop .inv in
+    let one = passed-straight _ _ _ _ _ _ (known .0 .passed) _ _ _ _ (e .entry-at .ensures .0) (t .loop-test .taken) (s .set .ensures) in
+    (on (sized s) _ _ _ _ (one (omega (arith, c .if2 .taken))), omega (arith, known .1, s .set .kept), known .2)
 
 mark-targets-requires : tie.Need-mark-targets-requires Inv-loop μ-loop
 mark-targets-requires c κs =
-    let at-if1 = c .before .before .before .before .before .before in
-    let at-instruction-length = at-if1 .before in
-    let at-entry-at = at-instruction-length .before in
-    let at-loop-test = at-entry-at .before .before in
-    let at-loop = at-loop-test .before in
-    let start = at-loop .before .before .before .before in
-    let p = start .pre .0 in
-    let got = at-instruction-length .instruction-length in (
-      (omega (arith, at-loop .loop .inv .2, p .2), at-loop-test .loop-test .taken, omega arith),
-      (
-        at-entry-at .entry-at .ensures .0,
-        whole-is _
-            (got .result) (got .ensures .0) (at-if1 .if1 .left),
-      ),
+    let k = sized (set (c .before .before)) in
+    let t = turn (entry k) in
+    let n = k .before .instruction-length in (
+      (omega (arith, t .before .loop .inv .2, start t .pre .0 .2), t .loop-test .taken, omega arith),
+      (entry k .entry-at .ensures .0, whole-is _ (n .result) (n .ensures .0) (k .if1 .left)),
     )
 
 add-at-2 : tie.Need-add-at-2 Inv-loop μ-loop
@@ -112,28 +114,15 @@ loop-less-2 c = search needs
 
 loop-again-2 : tie.Need-loop-again-2 Inv-loop μ-loop
 loop-again-2 c =
-    let c1 = c .before .before in
-    let at-set = c1 .before .before .before .before .before in
-    let at-if1 = at-set .before .before in
-    let at-instruction-length = at-if1 .before in
-    let at-entry-at = at-instruction-length .before in
-    let at-loop-test = at-entry-at .before .before in
-    let at-loop = at-loop-test .before in
-    let start = at-loop .before .before .before .before in
-    let turn = at-loop .loop in
-    let code = now (start .args .code) in
-    let got = at-instruction-length .instruction-length in
-    let step = walking-on code (turn .at) (turn .last) (turn .inside) (turn .calls) (turn .starts) (turn .targets) (turn .inv .0) (got .result)
-    (at-loop-test .loop-test .taken) (got .ensures .0) (at-if1 .if1 .left) (got .ensures .1) in
-    let form = at-entry-at .entry-at .result / 16 in
-    let size = at-entry-at .entry-at .result % 16 in
-    let marked = c1 .mark-targets in (
-      step _ _ (turn .inside && marked .result) (turn .calls || eqb form 1) (passed-branch code (turn .inside) (turn .calls) (turn .starts) (turn .targets)
-          (turn .inv .0 .before) (turn .inv .0 .passed) (turn .at) form size _ (at-entry-at .entry-at .ensures .0) (at-loop-test .loop-test .taken)
-          (at-set .set .ensures) _ (marked .result) (marked .ensures)),
-      omega
-          (arith, turn .inv .1, at-set .set .kept),
-      omega (arith, turn .inv .2, marked .kept),
+    let m = c .before .before in
+    let s = set (m .before .before .before) in
+    let e = entry (sized s) in
+    let t = turn e in
+    let known = t .before .loop .inv in
+    let one = passed-branch _ _ _ _ _ _ (known .0 .passed) _ _ _ _ (e .entry-at .ensures .0) (t .loop-test .taken) (s .set .ensures) in (
+      on (sized s) _ _ _ _ (one _ _ (m .mark-targets .ensures)),
+      omega (arith, known .1, s .set .kept),
+      omega (arith, known .2, m .mark-targets .kept),
     )
 
 same-length-3 : tie.Need-same-length-3 Inv-loop μ-loop
@@ -148,25 +137,6 @@ returns-2 c = walking-done _ _ _ _ _ _ _ (c .before .loop .inv .0) (c .loop-test
 pub walk-spec : {M : Type 1} → statement M
 walk-spec =
     tie.close
-    (tie.spec
-    Inv-loop
-    μ-loop
-    loop-holds
-    shared-slice-read-entry-at
-    entry-at-requires
-    instruction-length-requires
-    same-length
-    same-length-2
-    returns
-    set-requires
-    add-last
-    add-at
-    loop-less
-    loop-again
-    mark-targets-requires
-    add-at-2
-    loop-less-2
-    loop-again-2
-    same-length-3
-    same-length-4
-    returns-2)
+    (tie.spec Inv-loop μ-loop loop-holds shared-slice-read-entry-at entry-at-requires instruction-length-requires same-length same-length-2
+    returns set-requires add-last add-at loop-less loop-again mark-targets-requires add-at-2 loop-less-2 loop-again-2 same-length-3
+    same-length-4 returns-2)

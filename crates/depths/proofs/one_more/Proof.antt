@@ -1,4 +1,4 @@
--- `depths::one_more` meets its contract. Assumes nothing.
+-- `depths::one_more` meets its contract: counted up to the limit. Assumes nothing.
 use native.Mathlib.Omega.{arith}
 use borrow.Author.Needs.{needs}
 use Rattle.depths.proofs.Walk as walk

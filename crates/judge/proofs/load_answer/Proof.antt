@@ -61,8 +61,9 @@ told c =
     let k = c .before .before in
     let x = k .before .before in
     let s = now (begin x .args .s) in
-    let read = subst (λ (i : ℕ). SubsetSays s i (now (begin x .args .domain)) (c .keeps-subset .result)) (x .before .u2-at .ensures .0) (c .keeps-subset .ensures) in
-    subst (λ (d : Aid). SubsetSays s (usedAt s) d (c .keeps-subset .result)) ((stands k) .1) read
+    let kept = c .keeps-subset in
+    let read = subst (λ (i : ℕ). SubsetSays s i (now (begin x .args .domain)) (kept .result)) (x .before .u2-at .ensures .0) (kept .ensures) in
+    subst (λ (d : Aid). SubsetSays s (usedAt s) d (kept .result)) (stands k .1) read
 
 length-ok-requires : tie.Need-length-ok-requires
 length-ok-requires c κs = search needs
@@ -71,7 +72,8 @@ returns : tie.Need-returns
 returns c =
     let k = c .before in
     let a = start k .args in
-    loading.load-3 (now (a .s)) (usedAt (now (a .s))) (now (a .domain)) (now (a .file)) (sym (k .length-ok .ensures) ∙ not-true (k .length-ok .result) (c .if1 .taken))
+    let no = sym (k .length-ok .ensures) ∙ not-true (k .length-ok .result) (c .if1 .taken) in
+    loading.load-3 (now (a .s)) (usedAt (now (a .s))) (now (a .domain)) (now (a .file)) no
 
 u2-at-requires : tie.Need-u2-at-requires
 u2-at-requires c κs = let b = start (c .before) in settings.used-inside (now (b .args .s)) (b .pre .0)

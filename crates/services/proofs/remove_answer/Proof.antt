@@ -3,93 +3,85 @@ use Rattle.services.specs.Answers.{ImportedSays}
 use Rattle.services.proofs.Cuts as cuts
 use borrow.Author.Tests.{not-true, not-false}
 use denote.Ref.{now}
-use mathlib.Core.Path.{sym, _∙_, subst}
+use lib.ListN.{length}
+use mathlib.Core.Path.{_≡_, sym, _∙_, subst}
+use mathlib.Core.Bool.{Bool, true, false}
+use Rattle.rules.specs.Bytes.{aidLength}
 use borrow.Author.Needs.{needs}
 use Rattle.services.proofs.remove_answer.Statement.{statement}
 use Rattle.services.proofs.remove_answer.Tie as tie
+
+-- the start, from where the length was asked; that it is right, from where the package was found; that, from where its use was asked
+abbrev start : tie.After-length-ok → tie.Start
+start k = k .before .before .before
+
+abbrev right : tie.After-at → tie.Else1
+right k = k .before .before .before
+
+abbrev found : tie.After-imported → tie.After-at
+found k = k .before .before
+
+-- question 3 was answered yes
+three : (k : tie.Else1) → aidLength (length (now (start (k .before) .args .«package»))) ≡ true
+three k = sym (k .before .length-ok .ensures) ∙ not-false _ (k .if1 .left)
+
+-- the answer on its use
+said : (k : tie.After-imported) (b : Bool) → k .imported .result ≡ b →
+    let a = start (right (found k) .before) .args in
+    ImportedSays (now (a .s)) (a .used) (now (a .«package»)) b
+said k b e =
+    let a = start (right (found k) .before) .args in
+    subst (ImportedSays (now (a .s)) (a .used) (now (a .«package»))) e (k .imported .ensures)
 
 length-ok-requires : tie.Need-length-ok-requires
 length-ok-requires c κs = search needs
 
 returns : tie.Need-returns
 returns c =
-    let start = c .before .before .before .before in
-    let lengths = c .before .length-ok in
-    cuts.remove-3 (now (start .args .s)) (start .args .used) (now (start .args .«package»))
-    (sym (lengths .ensures) ∙ not-true (lengths .result) (c .if1 .taken))
+    let k = c .before in
+    let a = start k .args in
+    cuts.remove-3 (now (a .s)) (a .used) (now (a .«package»)) (sym (k .length-ok .ensures) ∙ not-true _ (c .if1 .taken))
 
 find-package-requires : tie.Need-find-package-requires
 find-package-requires c κs =
-    let start = c .before .before .before .before in
-    cuts.sound-files (now (start .args .s)) (start .args .used) (start .pre)
+    let b = start (c .before) in
+    cuts.sound-files (now (b .args .s)) (b .args .used) (b .pre)
 
 enum-known-at : tie.Need-enum-known-at
 enum-known-at c = search needs
 
 imported-requires : tie.Need-imported-requires
 imported-requires c κs =
-    let start = c .before .before .before .before .before .before .before .before in
-    cuts.sound-files (now (start .args .s)) (start .args .used) (start .pre)
+    let b = start (right (c .before) .before) in
+    cuts.sound-files (now (b .args .s)) (b .args .used) (b .pre)
 
 returns-2 : tie.Need-returns-2
 returns-2 c =
-    let c1 = c .before .before .before in
-    let known = c1 .at in
-    let c2 = c1 .before .before in
-    let sought = c2 .find-package in
-    let c3 = c2 .before in
-    let test = c3 .if1 in
-    let c4 = c3 .before in
-    let lengths = c4 .length-ok in
-    let start = c4 .before .before .before in
-    let s = now (start .args .s) in
-    let aid = now (start .args .«package») in
-    let three = sym (lengths .ensures) ∙ not-false (lengths .result) (test .left) in
-    cuts.remove-8 s (start .args .used) aid (sought .result) (sought .ensures) (known .given .0 .0) (known .given .0 .1 .0) (known .given .0 .1 .1 .0)
-    three (known .given .1) (subst (ImportedSays s (start .args .used) aid) (c .if2 .taken) (c .before .imported .ensures))
+    let k = found (c .before) in
+    let a = start (right k .before) .args in
+    let f = k .before .before .find-package in
+    cuts.remove-8 (now (a .s)) (a .used) (now (a .«package»)) (f .result) (f .ensures) _ _ _ (three (right k)) (k .at .given .1)
+    (said (c .before) true (c .if2 .taken))
 
 enum-told : tie.Need-enum-told
 enum-told c = search needs
 
 returns-3 : tie.Need-returns-3
 returns-3 c =
-    let c1 = c .before .before .before in
-    let known = c1 .at in
-    let c2 = c1 .before .before in
-    let sought = c2 .find-package in
-    let c3 = c2 .before in
-    let test = c3 .if1 in
-    let c4 = c3 .before in
-    let lengths = c4 .length-ok in
-    let start = c4 .before .before .before in
-    let s = now (start .args .s) in
-    let aid = now (start .args .«package») in
-    let three = sym (lengths .ensures) ∙ not-false (lengths .result) (test .left) in
-    cuts.remove-0 s (start .args .used) aid (sought .result) (sought .ensures) (known .given .0 .0) (known .given .0 .1 .0) (known .given .0 .1 .1 .0)
-    three (known .given .1) (subst (ImportedSays s (start .args .used) aid) (c .if2 .left) (c .before .imported .ensures))
+    let k = found (c .before) in
+    let a = start (right k .before) .args in
+    let f = k .before .before .find-package in
+    cuts.remove-0 (now (a .s)) (a .used) (now (a .«package»)) (f .result) (f .ensures) _ _ _ (three (right k)) (k .at .given .1)
+    (said (c .before) false (c .if2 .left))
 
 returns-4 : tie.Need-returns-4
 returns-4 c =
-    let c1 = c .before .before in
-    let sought = c1 .find-package in
-    let c2 = c1 .before in
-    let test = c2 .if1 in
-    let c3 = c2 .before in
-    let lengths = c3 .length-ok in
-    let start = c3 .before .before .before in
-    let three = sym (lengths .ensures) ∙ not-false (lengths .result) (test .left) in
-    cuts.remove-7 (now (start .args .s)) (start .args .used) (now (start .args .«package»)) (sought .result) (sought .ensures) three (c .enum-told .given .1)
+    let k = c .before .before in
+    let a = start (k .before .before) .args in
+    let f = k .find-package in
+    cuts.remove-7 (now (a .s)) (a .used) (now (a .«package»)) (f .result) (f .ensures) (three (k .before)) (c .enum-told .given .1)
 
 pub remove-answer-spec : {M : Type 1} → statement M
 remove-answer-spec =
     tie.close
-    (tie.spec
-    length-ok-requires
-    returns
-    find-package-requires
-    enum-known-at
-    imported-requires
-    returns-2
-    enum-told
-    returns-3
-    returns-4)
+    (tie.spec length-ok-requires returns find-package-requires enum-known-at imported-requires returns-2 enum-told returns-3 returns-4)

@@ -1,8 +1,8 @@
 -- `slots::empty_slot` meets its contract: the loop writes a 0 for each number of the slot. Assumes nothing.
-use native.Mathlib.Omega.{arith}
 use Prim.Native.Nat.{_-_}
-use Rattle.slots.proofs.Asked as asked
+use native.Mathlib.Omega.{arith}
 use denote.Ref.{now}
+use Rattle.slots.proofs.Asked as asked
 use Rattle.slots.proofs.empty_slot.Statement.{statement}
 use Rattle.slots.proofs.empty_slot.Tie as tie
 
@@ -46,16 +46,4 @@ returns c = asked.empty-done _ _ (c .before .before .args .k) (c .before .loop .
 pub empty-slot-spec : {M : Type 1} → statement M
 empty-slot-spec =
     tie.close
-    (tie.spec
-    Inv-loop
-    μ-loop
-    mul-base
-    loop-holds
-    add-slots
-    mul-slots
-    slice-write-slots
-    add-i
-    loop-less
-    loop-again
-    same-length
-    returns)
+    (tie.spec Inv-loop μ-loop mul-base loop-holds add-slots mul-slots slice-write-slots add-i loop-less loop-again same-length returns)

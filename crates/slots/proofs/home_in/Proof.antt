@@ -1,6 +1,6 @@
 -- `slots::home_in` meets its contract: three numbers. Assumes nothing.
-use Rattle.slots.proofs.Slots as laws
 use borrow.Author.Needs.{needs}
+use Rattle.slots.proofs.Slots as laws
 use Rattle.slots.proofs.home_in.Statement.{statement}
 use Rattle.slots.proofs.home_in.Tie as tie
 
@@ -39,23 +39,12 @@ number-requires-3 c κs = search needs
 
 returns : tie.Need-returns
 returns c =
-    let c1 = c .before .before in
-    let number = c1 .before .before .number in
-    laws.home-is _ _ (number .ensures .0) (c1 .number2 .ensures .0) (c .number3 .ensures .0)
+    let to = c .before .before in
+    let from = to .before .before in
+    laws.home-is _ _ (from .number .ensures .0) (to .number2 .ensures .0) (c .number3 .ensures .0)
 
 pub home-in-spec : {M : Type 1} → statement M
 home-in-spec =
     tie.close
-    (tie.spec
-    mul-number
-    shared-slice-read-number
-    number-requires
-    add-number
-    mul-number-2
-    shared-slice-read-number-2
-    number-requires-2
-    add-number-2
-    mul-number-3
-    shared-slice-read-number-3
-    number-requires-3
-    returns)
+    (tie.spec mul-number shared-slice-read-number number-requires add-number mul-number-2 shared-slice-read-number-2 number-requires-2 add-number-2
+    mul-number-3 shared-slice-read-number-3 number-requires-3 returns)

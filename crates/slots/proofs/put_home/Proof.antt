@@ -47,17 +47,5 @@ returns c = search needs
 pub put-home-spec : {M : Type 1} → statement M
 put-home-spec =
     tie.close
-    (tie.spec
-    cast-slots
-    mul-slots
-    slice-write-slots
-    cast-slots-2
-    add-slots
-    mul-slots-2
-    slice-write-slots-2
-    cast-slots-3
-    add-slots-2
-    mul-slots-3
-    slice-write-slots-3
-    same-length
-    returns)
+    (tie.spec cast-slots mul-slots slice-write-slots cast-slots-2 add-slots mul-slots-2 slice-write-slots-2 cast-slots-3 add-slots-2 mul-slots-3
+    slice-write-slots-3 same-length returns)

@@ -1,6 +1,6 @@
 -- `slots::slot_for` meets its contract: each answer is below the count. Assumes nothing.
-use native.Mathlib.Omega.{arith}
 use Prim.Native.Nat.{_-_, _≤_}
+use native.Mathlib.Omega.{arith}
 use borrow.Author.Needs.{needs}
 use Rattle.slots.proofs.slot_for.Statement.{statement}
 use Rattle.slots.proofs.slot_for.Tie as tie
@@ -10,6 +10,10 @@ Inv-loop slots h k₀ k = k ≤ 8
 
 abbrev μ-loop : tie.MeasureT-loop
 μ-loop slots h k₀ k = 8 - k
+
+-- the turn, from where the number read is compared
+abbrev turn : tie.After-struct-known2 Inv-loop μ-loop → tie.In-loop Inv-loop μ-loop
+turn k = k .before .before .before
 
 returns : tie.Need-returns Inv-loop μ-loop
 returns c = omega arith
@@ -27,37 +31,25 @@ mul-number-2 : tie.Need-mul-number-2 Inv-loop μ-loop
 mul-number-2 c = omega (arith, c .loop-test .taken)
 
 shared-slice-read-number : tie.Need-shared-slice-read-number Inv-loop μ-loop
-shared-slice-read-number c =
-    let pre = c .before .before .before .before .before .before .pre in
-    omega (arith, c .before .loop-test .taken, pre)
+shared-slice-read-number c = omega (arith, c .before .loop-test .taken, c .before .before .before .before .before .before .pre)
 
 number-requires : tie.Need-number-requires Inv-loop μ-loop
 number-requires c κs = search needs
 
 returns-2 : tie.Need-returns-2 Inv-loop μ-loop
-returns-2 c =
-    let loop-test = c .before .before .before .before .loop-test in
-    loop-test .taken
+returns-2 c = turn (c .before) .loop-test .taken
 
 returns-3 : tie.Need-returns-3 Inv-loop μ-loop
-returns-3 c =
-    let loop-test = c .before .before .before .before .before .loop-test in
-    loop-test .taken
+returns-3 c = turn (c .before .before) .loop-test .taken
 
 add-k : tie.Need-add-k Inv-loop μ-loop
-add-k c =
-    let loop-test = c .before .before .before .before .before .loop-test in
-    omega (arith, loop-test .taken)
+add-k c = omega (arith, turn (c .before .before) .loop-test .taken)
 
 loop-less : tie.Need-loop-less Inv-loop μ-loop
-loop-less c =
-    let loop-test = c .before .before .before .before .before .loop-test in
-    omega (arith, loop-test .taken)
+loop-less c = omega (arith, turn (c .before .before) .loop-test .taken)
 
 loop-again : tie.Need-loop-again Inv-loop μ-loop
-loop-again c =
-    let loop-test = c .before .before .before .before .before .loop-test in
-    omega (arith, loop-test .taken)
+loop-again c = omega (arith, turn (c .before .before) .loop-test .taken)
 
 add-result : tie.Need-add-result Inv-loop μ-loop
 add-result c = omega arith
@@ -68,20 +60,5 @@ returns-4 c = omega arith
 pub slot-for-spec : {M : Type 1} → statement M
 slot-for-spec =
     tie.close
-    (tie.spec
-    Inv-loop
-    μ-loop
-    returns
-    loop-holds
-    mul-number
-    add-number
-    mul-number-2
-    shared-slice-read-number
-    number-requires
-    returns-2
-    returns-3
-    add-k
-    loop-less
-    loop-again
-    add-result
-    returns-4)
+    (tie.spec Inv-loop μ-loop returns loop-holds mul-number add-number mul-number-2 shared-slice-read-number number-requires returns-2 returns-3 add-k
+    loop-less loop-again add-result returns-4)

@@ -94,14 +94,4 @@ returns-3 c =
     (subst (Told b 18) (sym (c .enum-told .given .1)) g, b .pre .1 .1)
 
 pub call-number-spec : {M : Type 1} → statement M
-call-number-spec =
-    tie.close
-    (tie.spec
-    enum-known-found
-    may-call-requires
-    same-length
-    returns
-    enum-told
-    same-length-2
-    returns-2
-    returns-3)
+call-number-spec = tie.close (tie.spec enum-known-found may-call-requires same-length returns enum-told same-length-2 returns-2 returns-3)

@@ -17,7 +17,8 @@ use Rattle.calls.proofs.Covers as covers
 use Rattle.calls.proofs.allowed.may_call.Statement.{statement}
 use Rattle.calls.proofs.allowed.may_call.Tie as tie
 
--- the function's start: where the home of what is called is known, the caller's, the rights of both, all that is compared
+-- the start, from where the home of what is called is known, from where the caller's is, and from where the rights of both are; these, from where
+-- all that is compared is known
 abbrev start : tie.After-home-at → tie.Start
 start k = k .before .before .before .before
 
@@ -102,18 +103,15 @@ mul-t17 c = omega (arith, few (both c))
 
 file-of-requires : tie.Need-file-of-requires
 file-of-requires c κs =
-    let h = c .before .before .before in
-    let a = start h .args in
-    there-bounds (now (a .f)) (now (a .s)) (h .home-at .result) (rights.stands-home (stands h))
+    there-bounds _ _ _ (rights.stands-home (stands (c .before .before .before)))
 
 aid-bytes-requires : tie.Need-aid-bytes-requires
 aid-bytes-requires c κs = both (c .before) .pre .1 .0 .0 .domain
 
 domain-of-requires : tie.Need-domain-of-requires
 domain-of-requires c κs =
-    let h = c .before .before .before .before .before in
-    let b = start h in
-    rights.stands-domain (b .args .a .domain) (stands h) (b .pre .1 .0 .0 .domain)
+    let r = c .before .before in
+    rights.stands-domain _ (stands (r .before .before .before)) (both r .pre .1 .0 .0 .domain)
 
 covers-requires : tie.Need-covers-requires
 covers-requires c κs =
@@ -125,11 +123,10 @@ covers-requires c κs =
     let a = b .args in
     let here = ap (fileOf (now (a .f)) (now (a .s))) (sym (own .before .home-at2 .ensures)) in
     let n =
-    covers.loading-number (now (a .f)) (now (a .s)) (a .a .end) (judged b) (own .rights-of .result .domains) ((caller-rights own) .0) (a .a)
-    (b .pre .1 .0 .0 .loading) in (
-      rights.rights-over (now (a .f)) here (own .rights-of .result) (own .rights-of .ensures) (caller (own .before)),
+    covers.loading-number _ _ _ (judged b) _ (caller-rights own .0) (a .a) (b .pre .1 .0 .0 .loading) in (
+      rights.rights-over _ here _ (own .rights-of .ensures) (caller (own .before)),
       (
-        rights.rights-over (now (file .result)) (file .ensures) (r .rights-of2 .result) (r .rights-of2 .ensures) (stands (own .before .before)),
+        rights.rights-over _ (file .ensures) _ (r .rights-of2 .ensures) (stands (own .before .before)),
         (
           (omega (arith, few b, b .pre .1 .1 .size), omega (arith, b .pre .1 .1 .size)),
           subst (λ (x : Aid). NumberIs (now (a .f)) (own .rights-of .result .domains) x x (a .a .loading)) (sym (loading bytes)) n,
@@ -149,26 +146,14 @@ returns c =
     let b = both r in
     let a = b .args in
     let n = b .pre .0 .1 in (
-      covers.call-allowed (a .a .domain) (now (a .homes)) (a .a) (a .p) (a .m) (own .rights-of .result) (r .rights-of2 .result) (caller-rights own)
-          (callee-rights r) _ _ _ (held (d .before .before)) (loading (d .before)) (lies d) (b .pre .1 .1) (k .covers .result) (k .covers .ensures)
-          (b .pre .1 .0 .0 .domain),
-      covers.map-kept (a .a .domain) (now (a .homes)) (a .a) (a .p) (a .m) (own .rights-of .result) (r .rights-of2 .result) (caller-rights own)
-          (callee-rights r) _ _ _ (held (d .before .before)) (loading (d .before)) (lies d) (b .pre .1 .1) (k .covers .result) (k .covers .ensures)
-          (judged b) (n .0) (n .1) (n .2) (omega (arith, k .covers .kept)),
+      covers.call-allowed _ _ (a .a) (a .p) _ _ _ (caller-rights own) (callee-rights r) _ _ _ (held (d .before .before)) (loading (d .before)) (lies d)
+          (b .pre .1 .1) _ (k .covers .ensures) (b .pre .1 .0 .0 .domain),
+      covers.map-kept _ _ (a .a) (a .p) _ _ _ (caller-rights own) (callee-rights r) _ _ _ (held (d .before .before)) (loading (d .before)) (lies d)
+          (b .pre .1 .1) _ (k .covers .ensures) (judged b) (n .0) (n .1) (n .2) (omega (arith, k .covers .kept)),
     )
 
 pub may-call-spec : {M : Type 1} → statement M
 may-call-spec =
     tie.close
-    (tie.spec
-    home-at-requires
-    home-at-requires-2
-    rights-of-requires
-    rights-of-requires-2
-    mul-t17
-    file-of-requires
-    aid-bytes-requires
-    domain-of-requires
-    covers-requires
-    same-length
-    returns)
+    (tie.spec home-at-requires home-at-requires-2 rights-of-requires rights-of-requires-2 mul-t17 file-of-requires aid-bytes-requires domain-of-requires
+    covers-requires same-length returns)

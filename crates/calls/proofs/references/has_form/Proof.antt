@@ -1,15 +1,25 @@
 -- `calls::references::has_form` meets its contract, for each kind of call. Assumes nothing.
-use Rattle.calls.specs.Named.{FormIs}
-use Rattle.codes.specs.declared.Calling.{Calling}
-use mathlib.Core.Bool.{not}
-use Rattle.files.specs.Say.{StaticIs}
-use Rattle.calls.proofs.Lookups as look
+use mathlib.Core.Bool.{Bool}
+use mathlib.Core.Path.{_≡_, sym, subst}
 use denote.Ref.{now}
-use mathlib.Core.Path.{sym, subst}
-use mathlib.Core.Bool.{false}
 use borrow.Author.Needs.{needs}
+use Rattle.codes.specs.declared.Calling.{Calling}
+use Rattle.files.specs.Say.{StaticIs}
+use Rattle.calls.specs.Named.{FormIs}
+use Rattle.calls.proofs.Forms as forms
 use Rattle.calls.proofs.references.has_form.Statement.{statement}
 use Rattle.calls.proofs.references.has_form.Tie as tie
+
+-- the answer r, by kind k; whether the method is static is r
+abbrev Form : tie.Start → Calling → Bool → Type 0
+Form b k r = FormIs (now (b .args .g)) (b .args .c) (b .args .m) k r
+
+abbrev Static : tie.Start → Bool → Type 0
+Static b r = StaticIs (now (b .args .g)) (b .args .m) r
+
+-- an answer by the kind that was told is one by the kind asked
+by-kind : (b : tie.Start) (k : Calling) (r : Bool) → b .args .kind ≡ k → Form b k r → Form b (b .args .kind) r
+by-kind b k r e h = subst (λ (x : Calling). Form b x r) (sym e) h
 
 enum-told : tie.Need-enum-told
 enum-told c = search needs
@@ -19,10 +29,9 @@ is-static-requires c κs = search needs
 
 returns : tie.Need-returns
 returns c =
-    let c1 = c .before .before in
-    let a = c1 .before .before .before .args in
-    subst (λ (k : Calling). FormIs (now (a .g)) (a .c) (a .m) k (false)) (sym (c1 .enum-told .given .1))
-    (look.virtual-static (subst (StaticIs (now (a .g)) (a .m)) (c .if1 .taken) (c .before .is-static .ensures)))
+    let t = c .before .before in
+    let b = t .before .before .before in
+    by-kind b _ _ (t .enum-told .given .1) (forms.virtual-static (subst (Static b) (c .if1 .taken) (c .before .is-static .ensures)))
 
 is-interface-requires : tie.Need-is-interface-requires
 is-interface-requires c κs = search needs
@@ -47,59 +56,39 @@ is-static-requires-3 c κs = search needs
 
 returns-2 : tie.Need-returns-2
 returns-2 c =
-    let c1 = c .before .before in
-    let a = c1 .before .before .before .args in
-    subst (λ (k : Calling). FormIs (now (a .g)) (a .c) (a .m) k (false)) (sym (c1 .enum-told4 .given .1))
-    (look.interface-static (subst (StaticIs (now (a .g)) (a .m)) (c .if2 .taken) (c .before .is-static3 .ensures)))
+    let t = c .before .before in
+    let b = t .before .before .before in
+    by-kind b _ _ (t .enum-told4 .given .1) (forms.interface-static (subst (Static b) (c .if2 .taken) (c .before .is-static3 .ensures)))
 
 is-interface-requires-2 : tie.Need-is-interface-requires-2
 is-interface-requires-2 c κs = search needs
 
 returns-3 : tie.Need-returns-3
 returns-3 c =
-    let c1 = c .before .before in
-    let c2 = c1 .before in
-    let a = c2 .before .before .before .args in
-    subst (λ (k : Calling). FormIs (now (a .g)) (a .c) (a .m) k (not (c .is-interface .result))) (sym (c2 .enum-told .given .1))
-    (look.virtual-is (subst (StaticIs (now (a .g)) (a .m)) (c .before .if1 .left) (c1 .is-static .ensures)) (c .is-interface .ensures))
+    let s = c .before .before in
+    let b = s .before .before .before .before in
+    let non-static = subst (Static b) (c .before .if1 .left) (s .is-static .ensures) in
+    by-kind b _ _ (s .before .enum-told .given .1) (forms.virtual-is non-static (c .is-interface .ensures))
 
 returns-4 : tie.Need-returns-4
 returns-4 c =
-    let a = c .before .before .before .before .args in
-    subst (λ (k : Calling). FormIs (now (a .g)) (a .c) (a .m) k (c .is-implemented .result)) (sym (c .before .enum-told2 .given .1))
-    (look.special-is (c .is-implemented .ensures))
+    let t = c .before in
+    by-kind (t .before .before .before) _ _ (t .enum-told2 .given .1) (forms.special-is (c .is-implemented .ensures))
 
 returns-5 : tie.Need-returns-5
 returns-5 c =
-    let a = c .before .before .before .before .args in
-    subst (λ (k : Calling). FormIs (now (a .g)) (a .c) (a .m) k (c .is-static2 .result)) (sym (c .before .enum-told3 .given .1))
-    (look.static-is (c .is-static2 .ensures))
+    let t = c .before in
+    by-kind (t .before .before .before) _ _ (t .enum-told3 .given .1) (forms.static-is (c .is-static2 .ensures))
 
 returns-6 : tie.Need-returns-6
 returns-6 c =
-    let c1 = c .before .before in
-    let c2 = c1 .before in
-    let a = c2 .before .before .before .args in
-    subst (λ (k : Calling). FormIs (now (a .g)) (a .c) (a .m) k (c .is-interface2 .result)) (sym (c2 .enum-told4 .given .1))
-    (look.interface-is (subst (StaticIs (now (a .g)) (a .m)) (c .before .if2 .left) (c1 .is-static3 .ensures)) (c .is-interface2 .ensures))
+    let s = c .before .before in
+    let b = s .before .before .before .before in
+    let non-static = subst (Static b) (c .before .if2 .left) (s .is-static3 .ensures) in
+    by-kind b _ _ (s .before .enum-told4 .given .1) (forms.interface-is non-static (c .is-interface2 .ensures))
 
 pub has-form-spec : {M : Type 1} → statement M
 has-form-spec =
     tie.close
-    (tie.spec
-    enum-told
-    is-static-requires
-    returns
-    is-interface-requires
-    enum-told-2
-    is-implemented-requires
-    enum-told-3
-    is-static-requires-2
-    enum-told-4
-    is-static-requires-3
-    returns-2
-    is-interface-requires-2
-    returns-3
-    returns-4
-    returns-5
-    returns-6)
+    (tie.spec enum-told is-static-requires returns is-interface-requires enum-told-2 is-implemented-requires enum-told-3 is-static-requires-2 enum-told-4
+    is-static-requires-3 returns-2 is-interface-requires-2 returns-3 returns-4 returns-5 returns-6)

@@ -1,9 +1,9 @@
 -- `calls::references::named_well` meets its contract. Assumes nothing.
-use Rattle.calls.specs.Named.{SeenIs}
-use Rattle.calls.proofs.Numbers.{was-no, was-yes}
-use Rattle.calls.proofs.Lookups as look
 use denote.Ref.{now}
 use borrow.Author.Needs.{needs}
+use Rattle.calls.specs.Named.{SeenIs}
+use Rattle.calls.proofs.Numbers.{was-no, was-yes}
+use Rattle.calls.proofs.Forms as forms
 use Rattle.calls.proofs.references.named_well.Statement.{statement}
 use Rattle.calls.proofs.references.named_well.Tie as tie
 
@@ -13,7 +13,7 @@ is-seen-requires c κs = search needs
 returns : tie.Need-returns
 returns c =
     let a = c .before .before .before .args in
-    look.well-unseen (a .imported) (a .kind) (was-no (SeenIs (now (a .g)) (a .m) (a .imported)) (c .if1 .taken) (c .before .is-seen .ensures))
+    forms.well-unseen (a .imported) (a .kind) (was-no (SeenIs (now (a .g)) (a .m) (a .imported)) (c .if1 .taken) (c .before .is-seen .ensures))
 
 has-form-requires : tie.Need-has-form-requires
 has-form-requires c κs = search needs
@@ -22,7 +22,7 @@ returns-2 : tie.Need-returns-2
 returns-2 c =
     let c1 = c .before .before in
     let a = c1 .before .before .args in
-    look.well-seen (a .imported) (a .kind) (c .has-form .result)
+    forms.well-seen (a .imported) (a .kind) (c .has-form .result)
     (was-yes (SeenIs (now (a .g)) (a .m) (a .imported)) (c .before .if1 .left) (c1 .is-seen .ensures)) (c .has-form .ensures)
 
 pub named-well-spec : {M : Type 1} → statement M

@@ -5,7 +5,6 @@ use mathlib.Core.Path.{_≡_, refl, subst}
 use mathlib.Core.Bool.{Bool}
 use lib.ListN.{length}
 use denote.Ref.{now}
-use borrow.Author.Needs.{needs}
 use Rattle.named.specs.Named.{RowsTrue}
 use Rattle.depths.specs.Depths.{ExistsIs}
 use Rattle.depths.proofs.ByNumber.{not-true, not-false}

@@ -1,4 +1,4 @@
--- `depths::parents::import_count` meets its contract. Assumes nothing.
+-- `depths::parents::import_count` meets its contract: the byte before the imports. Assumes nothing.
 use denote.Ref.{now}
 use borrow.Author.Needs.{needs}
 use Rattle.depths.proofs.Exist as exist

@@ -1,4 +1,4 @@
--- `depths::parents::parent_at` meets its contract. Assumes nothing.
+-- `depths::parents::parent_at` meets its contract: two bytes, as numbers. Assumes nothing.
 use borrow.Author.Needs.{needs}
 use Rattle.depths.proofs.parents.parent_at.Statement.{statement}
 use Rattle.depths.proofs.parents.parent_at.Tie as tie

@@ -1,4 +1,4 @@
--- `depths::parents::parent_count` meets its contract. Assumes nothing.
+-- `depths::parents::parent_count` meets its contract: a byte, as a number. Assumes nothing.
 use native.Mathlib.Omega.{arith}
 use borrow.Author.Needs.{needs}
 use Rattle.depths.proofs.parents.parent_count.Statement.{statement}

@@ -1,4 +1,4 @@
--- `depths::table::keep` meets its contract. Assumes nothing.
+-- `depths::table::keep` meets its contract: nothing without parents, else the class's field. Assumes nothing.
 use native.Mathlib.Omega.{arith}
 use mathlib.Core.Path.{_∙_}
 use denote.Ref.{now}
@@ -7,8 +7,7 @@ use Rattle.depths.proofs.table.keep.Statement.{statement}
 use Rattle.depths.proofs.table.keep.Tie as tie
 
 returns : tie.Need-returns
-returns c = λ j. written.keep-none (c .before .before .args .width) (now (c .before .before .args .t)) (c .before .before .args .place) (c .before .before .args .parents)
-    (c .before .before .args .depth) j (c .if1 .taken)
+returns c = let a = c .before .before .args in λ j. written.keep-none (a .width) (now (a .t)) (a .place) (a .parents) (a .depth) j (c .if1 .taken)
 
 sub-field-put : tie.Need-sub-field-put
 sub-field-put c =

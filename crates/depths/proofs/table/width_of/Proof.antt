@@ -1,4 +1,4 @@
--- `depths::table::width_of` meets its contract. Assumes nothing.
+-- `depths::table::width_of` meets its contract: by the limit. Assumes nothing.
 use native.Mathlib.Omega.{arith}
 use mathlib.Core.Path.{sym}
 use borrow.Author.Tests.{le-leb, lt-leb}

@@ -1,4 +1,4 @@
--- `judge::contents::calls_number` meets its contract. Assumes nothing.
+-- `judge::contents::calls_number` meets its contract: 18 and 19 as one number. Assumes nothing.
 use denote.Ref.{now}
 use Rattle.homes.specs.Homes.{aidAt}
 use Rattle.judge.proofs.Settings as settings
@@ -6,10 +6,6 @@ use Rattle.judge.proofs.Stages as stages
 use borrow.Author.Needs.{needs}
 use Rattle.judge.proofs.contents.calls_number.Statement.{statement}
 use Rattle.judge.proofs.contents.calls_number.Tie as tie
-use Rattle.judge.proofs.contents.calls_number.Reads as reads
-use Rattle.judge.proofs.contents.calls_number.Lts as lts
-use Rattle.calls.proofs.calls_ok.Reads as calls-ok-reads
-use Rattle.instructions.proofs.table.Reads as table-reads
 
 table-requires : tie.Need-table-requires
 table-requires c κs = search needs

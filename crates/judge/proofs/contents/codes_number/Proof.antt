@@ -1,4 +1,4 @@
--- `judge::contents::codes_number` meets its contract. Assumes nothing.
+-- `judge::contents::codes_number` meets its contract: the sets have room for the code limit. Assumes nothing.
 use native.Mathlib.Omega.{arith}
 use mathlib.Core.Path.{ap}
 use denote.Ref.{now}

@@ -1,5 +1,5 @@
--- `judge::contents::is_refusal` meets its contract. Assumes nothing.
-use mathlib.Core.Path.{sym, ap, _∙_}
+-- `judge::contents::is_refusal` meets its contract: neither 0 nor 18. Assumes nothing.
+use mathlib.Core.Path.{sym, ap}
 use mathlib.Core.Bool.{Bool, _||_, not}
 use lib.Dec.{eqb}
 use borrow.Author.Tests.{eq-eqb, ne-eqb}

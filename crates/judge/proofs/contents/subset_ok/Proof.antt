@@ -1,5 +1,4 @@
--- `judge::contents::subset_ok` meets its contract. Assumes nothing.
-use denote.Ref.{now}
+-- `judge::contents::subset_ok` meets its contract: yes where 26 is not asked. Assumes nothing.
 use mathlib.Core.Path.{sym, ap, _∙_}
 use mathlib.Core.Bool.{Bool, _||_, not}
 use borrow.Author.Tests.{not-true, not-false}
