@@ -17,7 +17,7 @@ use Rattle.classes.specs.declared.ClassSpot.{ClassSpot}
 use Rattle.classes.proofs.Places.{own-depth}
 use Rattle.chains.specs.Say.{RunningThere}
 use Rattle.chains.specs.Chain.{mostLinks, namesStart, Part, Same, PartRoom, PartIs}
-use Rattle.chains.specs.Names.{firstLink, Gathered, GatheredAll, namesLength, namesOf, NamesIs, KeptFor, Kept, Room, PartThere}
+use Rattle.chains.specs.Names.{firstLink, Gathered, GatheredAll, namesLength, namesOf, NamesIs, KeptFor, Kept, AsStored, Room, PartThere}
 use Rattle.chains.specs.declared.Names.{Names}
 use Rattle.chains.proofs.Methods.{own-there, own-class}
 use Rattle.chains.proofs.Links.{part-inside, part-same}
@@ -39,10 +39,11 @@ module _ (f s : Bytes) where
 
   -- names that are told by their numbers
   pub names-told : (l : List ℕ) (end b to all : ℕ) (c : ClassSpot) (v : Names) → v ≡ namesOf end b to all c →
-      NamesIs f s l (namesOf end b to all c) → Kept f s l (namesOf end b to all c) → ((v .end ≡ end) × (v .own ≡ b) × NamesIs f s l v) × Kept f s l v
-  names-told l end b to all c v e q k = (
+      NamesIs f s l (namesOf end b to all c) → Kept f s l (namesOf end b to all c) → AsStored f s (namesOf end b to all c) →
+      ((v .end ≡ end) × (v .own ≡ b) × NamesIs f s l v) × (Kept f s l v × AsStored f s v)
+  names-told l end b to all c v e q k a = (
     (ap (λ (w : Names). w .end) e, ap (λ (w : Names). w .own) e, subst (NamesIs f s l) (sym e) q),
-    subst (Kept f s l) (sym e) k,
+    (subst (Kept f s l) (sym e) k, subst (AsStored f s) (sym e) a),
   )
 
   module _ (end b : ℕ) (there : RunningThere f s end b) (h : Home) (eh : h ≡ ownHome end) where
@@ -113,18 +114,24 @@ module _ (f s : Bytes) where
             kept-end = kept-same l′ l″ (d .home) (d .number) to (next-stored d e) (λ x u v. g .below x u (omega (arith, k .names .sorted .low)))
                 (λ x u v. g .below x (omega arith) v) (g .size) k
 
+            own-gathered : Gathered f s l″ (ownHome end) b (classes.At d) to all
+            own-gathered = subst (λ (v : Home). Gathered f s l″ v b (classes.At d) to all) eh
+                (g .is (classes.At d) (subst (λ (o : ClassFound). Part f s l′ h b (firstLink h) j o) e own-part))
+
             pub names-stored : NamesIs f s l″ (record { end = end; own = b; stored = to; all = all; home = d .home; number = d .number })
             names-stored = record {
               stop = classes.At d;
               leaves = part-leaves f s l′ h b (firstLink h) j (classes.At d) end (subst (λ (o : ClassFound). Part f s l′ h b (firstLink h) j o) e own-part);
-              own = subst (λ (v : Home). Gathered f s l″ v b (classes.At d) to all) eh
-                  (g .is (classes.At d) (subst (λ (o : ClassFound). Part f s l′ h b (firstLink h) j o) e own-part));
+              own = own-gathered;
               stored = kept-end .names;
               few = omega (arith, own-link, g .end, few-stored);
             }
 
             pub names-kept : Kept f s l″ (record { end = end; own = b; stored = to; all = all; home = d .home; number = d .number })
             names-kept z = kept-end
+
+            pub names-first : AsStored f s (record { end = end; own = b; stored = to; all = all; home = d .home; number = d .number })
+            names-first z y x r w = own-gathered .rest x (λ q has n. omega (arith, has .1, has .2, y)) r w
 
         -- none does
         module _ (e : stop ≡ classes.Nothing) (z : to ≡ namesStart) where
@@ -147,3 +154,6 @@ module _ (f s : Bytes) where
 
           pub alone-kept : (l″ : List ℕ) (all : ℕ) → Kept f s l″ (record { end = end; own = b; stored = to; all = all; home = h; number = b })
           alone-kept l″ all y = let w = ap (λ (v : Home). v .from) eh in absurd (omega (arith, w, y))
+
+          pub alone-first : (all : ℕ) → AsStored f s (record { end = end; own = b; stored = to; all = all; home = h; number = b })
+          alone-first all y n x r u = let w = ap (λ (v : Home). v .from) eh in absurd (omega (arith, w, y))

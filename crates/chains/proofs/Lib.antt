@@ -8,3 +8,4 @@ pub mod Collected
 pub mod Running
 pub mod Keeping
 pub mod Finding
+pub mod Alike

@@ -92,7 +92,7 @@ module _ (f s : Bytes) (end b : ℕ) where
 
   -- what runs, by the first of the name
   module _ (es : List Entry) (self : Installed) (r : Running f s end b es self) (name : ℕ) where
-    runs-first : (o : MethodAt) → First (installed (storeLimits s) es) (own self b) name o → runsUpTo (installed (storeLimits s) es)
+    pub runs-first : (o : MethodAt) → First (installed (storeLimits s) es) (own self b) name o → runsUpTo (installed (storeLimits s) es)
         (storeLimits s .depth) (own self b) name ≡ ifImplemented o
     runs-first o q =
         let y = own-class es self r in
@@ -109,7 +109,7 @@ module _ (f s : Bytes) (end b : ℕ) where
         go (some m) e = absurd (q m (first-is (installed (storeLimits s) es) (storeLimits s .depth) (own self b) name m e))
 
   module _ (name : ℕ) where
-    first-own : (r : RunsFound) → FirstIs f s (ownHome end) b name r → (es : List Entry) (self : Installed) → Running f s end b es self → FirstFound f s
+    pub first-own : (r : RunsFound) → FirstIs f s (ownHome end) b name r → (es : List Entry) (self : Installed) → Running f s end b es self → FirstFound f s
         end es self (own self b) name r
     first-own r p es self q = let y = own-class es self q in p end es self (q .judged) self homes.own (y .0) (y .1)
 

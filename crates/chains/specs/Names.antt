@@ -9,7 +9,10 @@
 -- namesLength s        == how many numbers a table holds with all names of any chain: 64 for each class that the depth limit allows
 -- namesOf              == names by their numbers, and the class whose chain the stored ones are of
 -- NamesIs f s l v      == the names of own class v.own over the entries that end at v.end
--- Kept f s l v         == what of them stays right for the next own class
+-- Kept f s l v         == what of them stays right for the next own class; NoneKept v == nothing does
+-- AsStored f s v       == what is first for own class v.own is what is first for the stored class at which its chain goes on, where no own
+--                         class of the chain has a name
+-- RunAlike v w         == no own class of either chain has a name, and both chains go on at the same stored class
 use Prim.Native.Nat.{ℕ, suc, _+_, _-_, _*_, _<_, _≤_}
 use mathlib.Core.Path.{_≡_}
 use mathlib.Core.Bool.{Bool, true, false}
@@ -139,7 +142,20 @@ abbrev pub Kept : Bytes → Bytes → List ℕ → Names → Type 0
 Kept f s l v = 0 < v .home .from → KeptFor f s l (v .home) (v .number) (v .stored)
 
 abbrev pub NoneKept : Names → Type 0
-NoneKept v = (f s : Bytes) (l : List ℕ) → Kept f s l v
+NoneKept v = v .home .from ≡ 0
+
+-- the first method of each name is that of the stored class at which the chain goes on
+abbrev pub AsStored : Bytes → Bytes → Names → Type 0
+AsStored f s v = 0 < v .home .from → v .all ≡ v .stored → (x : ℕ) (r : RunsFound) → FirstIs f s (v .home) (v .number) x r →
+    FirstIs f s (ownHome (v .end)) (v .own) x r
+
+-- so it is for both, and the class is the same
+pub record RunAlike (v w : Names) : Type 0 where
+  pub behind : 0 < v .home .from
+  pub nameless : v .all ≡ v .stored
+  pub also : w .all ≡ w .stored
+  pub home : v .home ≡ w .home
+  pub number : v .number ≡ w .number
 
 -- there is room for all names of a chain
 pub record Room (f s : Bytes) (l : List ℕ) : Type 0 where

@@ -17,7 +17,7 @@ ghost use lib.ListN.{length};
 ghost use Rattle.homes.specs.Found.{Indexed};
 ghost use Rattle.slots.specs.Slots.{SlotsTrue};
 ghost use Rattle.chains.specs.Chain.{mostLinks, namesStart, PartRoom, Same};
-ghost use Rattle.chains.specs.Names.{namesOf, HitThere, HitRuns, NamesIs, Kept, NoneKept, KeptFor, Room, NoneRuns};
+ghost use Rattle.chains.specs.Names.{namesOf, HitThere, HitRuns, NamesIs, Kept, NoneKept, AsStored, RunAlike, KeptFor, Room, NoneRuns};
 ghost use Rattle.chains.specs.Say.{MethodHere, IfImplemented, RunningThere, RunsIs};
 ghost use Rattle.rules.specs.Store.{storeLimits};
 
@@ -127,6 +127,23 @@ fn same_class(g: Home, m: usize, h: Home, n: usize) -> bool
     m == n
 }
 
+// Do the same methods run for the own classes of both names? They do where no own class of either chain has a non-static method, and both
+// chains go on at the same stored class.
+pub fn run_alike(v: Names, w: Names) -> bool
+    ensures { λ r. ⌜ (r ≡ true → RunAlike v w) ⌝ }
+{
+    if v.home.from == 0 {
+        return false;
+    }
+    if v.all != v.stored {
+        return false;
+    }
+    if w.all != w.stored {
+        return false;
+    }
+    same_class(v.home, v.number, w.home, w.number)
+}
+
 // The names of the chain from stored class d on, from number 128 of the table up to the number told: those kept, if they are of this class.
 fn stored_names<'a>(
     f: &'a [u8],
@@ -183,7 +200,7 @@ pub fn find_names<'a>(
     requires { ⌜ Kept (now f) (now s) (now names) kept × Room (now f) (now s) (now names) ⌝ }
     requires { ⌜ Indexed (now s) (kept .end) (now index) × SlotsTrue (now f) (now s) (now slots) ⌝ }
     ensures { λ r. ⌜ (r .end ≡ kept .end) × (r .own ≡ b) × NamesIs (now (f .entry)) (now (s .entry)) (now (names .exit)) r ⌝ }
-    ensures { λ r. ⌜ Kept (now (f .entry)) (now (s .entry)) (now (names .exit)) r ⌝ }
+    ensures { λ r. ⌜ Kept (now (f .entry)) (now (s .entry)) (now (names .exit)) r × AsStored (now (f .entry)) (now (s .entry)) r ⌝ }
     ensures { λ _. ⌜ SlotsTrue (now (f .entry)) (now (s .entry)) (now (slots .exit)) ⌝ }
 {
     let h = homes::own_home(kept.end);

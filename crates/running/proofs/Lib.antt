@@ -7,3 +7,4 @@ pub mod Keys
 pub mod Walk
 pub mod Steps
 pub mod Whole
+pub mod Seen

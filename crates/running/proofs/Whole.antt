@@ -58,7 +58,7 @@ all-false p _ x (List·Memᴰ·tail {x = y} {xs = ys} m) h = rest (p y) (all-fal
     rest false e = refl
 
 -- where nothing runs nothing is asked
-nothing-runs : (l : Limits) (is : List Installed) (b a : ClassAt) → ((n : ℕ) → runsUpTo is (l .depth) b n ≡ none) → runningAllows l is b a ≡ true
+pub nothing-runs : (l : Limits) (is : List Installed) (b a : ClassAt) → ((n : ℕ) → runsUpTo is (l .depth) b n ≡ none) → runningAllows l is b a ≡ true
 nothing-runs l is b a z = go (recordOf a) refl
   where
     or-true : (x : Bool) → (x || true) ≡ true
@@ -125,19 +125,6 @@ module _ (f s : Bytes) (end d b : ℕ) where
         go false w = sym (all-false _ (ancestorsUpTo (installed (storeLimits s) es) (storeLimits s .depth) (own self b)) (w .0)
             (below-ancestors (installed (storeLimits s) es) (storeLimits s .depth) (own self b) (w .0) (own-depth f s end b es self j k e) (w .1)) (w .2))
 
-  -- no class was seen
-  pub seen-none : (seen : Bytes) → seenLength s ≤ length seen → ((j : ℕ) → j / 8 < end * 3 / 88 + 5 → bitAt seen j ≡ false) →
-      SeenPass f s end d b seen
-  seen-none seen z w = record {
-    room = z;
-    hold = λ h n e es self r x o k q.
-        let i = key-small f s end es self (r .running .judged .parents .imported .setting) h x o n k q in
-        absurd (true-false (sym e ∙ w (key h n) (omega (arith, i))));
-  }
-    where
-      true-false : true ≡ false → ⊥
-      true-false e = let y : _≡_ {A = ℕ} 0 1 = cc in omega arith
-
 -- the numbers of its names fit two bytes, its own number one
 pub names-small : (f s : Bytes) (names : List ℕ) (w : Names) → NamesIs f s names w → length s ≤ 65535 → OwnThere f s (w .end) (w .own) → SmallNames w
 names-small f s names w n l t =
@@ -170,10 +157,6 @@ own-from f s index names o q t n i l = record {
   indexed = i;
   small = l;
 }
-
-pub own-seen : (f s : Bytes) (o : OwnClass) (v : Visit) (seen : Bytes) → v ≡ ownVisit o → SeenPass f s (o .names .end) (o .domain) (o .names .own) seen →
-    SeenPass f s (v .end) (v .domain) (v .own) seen
-own-seen f s o v seen e m = subst (λ (u : Visit). SeenPass f s (u .end) (u .domain) (u .own) seen) (sym e) m
 
 -- a fact of an own class by its numbers
 pub at-own : (q : ℕ → ℕ → Type 0) (x y end b : ℕ) → x ≡ end → y ≡ b → q end b → q x y
@@ -244,8 +227,14 @@ module _ (f s : Bytes) (end d : ℕ) where
       pub own-there′ : JudgedThere f s end d → OwnThere f s end b
       own-there′ t = (own-loads t) .0
 
+      -- it is of kind 0 in every setting
+      pub own-every : Kind0Is f s (ownHome end) b true → (es : List Entry) (self : Installed) → Judged f s end es self → Running f s end b es self
+      own-every q es self j =
+          let m = at-split (self .pack .classes) b (omega (arith, own-count es self j)) in
+          own-running f s end d b q es self j (m .0) (m .1)
+
       -- for the names found
-      pub own-class : (w : Names) → w .end ≡ end → w .own ≡ b → JudgedThere f s end d → OwnClassThere f s (record { names = w; domain = d })
+      pub own-class : (w : Names) → w .end ≡ end → w .own ≡ b → JudgedThere f s end d → OwnClassThere f s (record { names = w; domain = d; alike = false })
       own-class w e o t = at-own (λ (x y : ℕ). (u : OwnThere f s x y) × DomainAt s d (u .1)) (w .end) (w .own) end b e o (own-loads t)
 
       own-next : (es : List Entry) (self : Installed) (j : Judged f s end es self) → DomainAt s d self → (r : Bool) → OwnPasses f s end d b r →

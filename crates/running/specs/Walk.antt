@@ -9,10 +9,12 @@
 -- WalkFrom f s index names v == what the walk may use: the class, the names of the own class, the index of the earlier entries
 -- key h n                == the number of the bit of class n of the package at home h: c classes, 32 at most, make an entry of 22 + 3 * c bytes or more
 -- SeenPass f s end d b seen == there is a bit for each class, and where it is set the class and all its ancestors pass for own class b
+-- SeenIf f s end d b seen alike == there is room for the bits, and they hold for own class b where the answer is yes
+-- BitsFor x y end alike  == the bits y are x where the answer is yes, else none is set
 -- ParentsPass f s end d b h n r == so do all parents of class n, and their ancestors, or not
 use Prim.Native.Nat.{ℕ, _+_, _*_, _/_, _≤_, _<_}
 use mathlib.Core.Path.{_≡_}
-use mathlib.Core.Bool.{Bool, true}
+use mathlib.Core.Bool.{Bool, true, false}
 use mathlib.Core.List.{List}
 use mathlib.Core.Option.{some}
 use lib.ListN.{length}
@@ -129,6 +131,14 @@ pub record SeenPass (f s : Bytes) (end d b : ℕ) (seen : Bytes) : Type 0 where
   pub room : seenLength s ≤ length seen
   pub hold : (h : Home) (n : ℕ) → bitAt seen (key h n) ≡ true → OfWalk f s end d b h n λ es self x k. Passes (storeLimits s) (installed (storeLimits s) es)
       self b (record { home = x; number = n })
+
+pub record SeenIf (f s : Bytes) (end d b : ℕ) (seen : Bytes) (alike : Bool) : Type 0 where
+  pub room : seenLength s ≤ length seen
+  pub hold : alike ≡ true → SeenPass f s end d b seen
+
+abbrev pub BitsFor : Bytes → Bytes → ℕ → Bool → Type 0
+BitsFor x y end true = y ≡ x
+BitsFor x y end false = (j : ℕ) → j / 8 < end * 3 / 88 + 5 → bitAt y j ≡ false
 
 -- the first i parents of class n and their ancestors pass
 abbrev pub FirstPass : Bytes → Bytes → ℕ → ℕ → ℕ → Home → ℕ → ℕ → Type 0

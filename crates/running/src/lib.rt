@@ -15,21 +15,23 @@ use visited::home_of;
 use visited::names_of;
 ghost use mathlib.Core.Path.{_≡_};
 ghost use mathlib.Core.Bool.{true};
-ghost use Prim.Native.Nat.{_≤_};
+ghost use Prim.Native.Nat.{_+_, _*_, _/_, _≤_};
 ghost use lib.ListN.{length};
 ghost use Rattle.homes.specs.Homes.{ownHome};
 ghost use Rattle.homes.specs.Found.{Indexed};
 ghost use Rattle.classes.specs.Say.{Kind0Is};
-ghost use Rattle.chains.specs.Names.{namesLength, NamesIs, Kept, Room};
+ghost use Rattle.chains.specs.Names.{namesLength, NamesIs, Kept, AsStored, Room};
 ghost use Rattle.chains.specs.Say.{RunningThere};
 ghost use Rattle.slots.specs.Slots.{SlotsTrue};
 ghost use Rattle.running.specs.Say.{MethodsPass, ClassPasses, OwnClassThere, OwnPasses, JudgedThere, RunningIs};
-ghost use Rattle.running.specs.Walk.{visitHome, visitNames, VisitPlaced, WalkFrom, seenLength, SeenPass, ParentsPass};
+ghost use Rattle.running.specs.Walk.{visitHome, visitNames, VisitPlaced, WalkFrom, seenLength, SeenPass, SeenIf, BitsFor, ParentsPass};
 
-// An own class of kind 0: its names, and where the domain of its package stands in the store.
+// An own class of kind 0: its names, where the domain of its package stands in the store, and whether the bits of classes seen, which
+// were set for the own class before, hold for it too.
 pub struct OwnClass {
     pub names: Names,
     pub domain: usize,
+    pub alike: bool,
 }
 
 // Do all methods of the class pass for the own class?
@@ -137,6 +139,17 @@ fn parents_pass<'a>(
     true
 }
 
+// The bits of classes seen for an own class, over the entries that end at a place: those that were set, where they hold for it, else none.
+fn bits_for(seen: &mut [u8], end: usize, alike: bool)
+    requires { ⌜ (end * 3 / 88 + 5 ≤ length (now seen)) × (end ≤ 65535) ⌝ }
+    ensures { λ _. ⌜ BitsFor (now (seen .entry)) (now (seen .exit)) end alike ⌝ }
+{
+    if alike {
+        return;
+    }
+    bits::clear_to(seen, end * 3 / 88 + 5);
+}
+
 // Question 20 of an own class, whose names are at hand. Where no method can run nothing is asked.
 fn own_class_passes<'a>(
     f: &'a [u8],
@@ -150,9 +163,10 @@ fn own_class_passes<'a>(
     requires { ⌜ OwnClassThere (now f) (now s) o × Kind0Is (now f) (now s) (ownHome (o .names .end)) (o .names .own) true ⌝ }
     requires { ⌜ NamesIs (now f) (now s) (now names) (o .names) ⌝ }
     requires { ⌜ Indexed (now s) (o .names .end) (now index) × (length (now s) ≤ 65535) ⌝ }
-    requires { ⌜ seenLength (now s) ≤ length (now seen) ⌝ }
+    requires { ⌜ SeenIf (now f) (now s) (o .names .end) (o .domain) (o .names .own) (now seen) (o .alike) ⌝ }
     requires { ⌜ SlotsTrue (now f) (now s) (now slots) ⌝ }
     ensures { λ r. ⌜ OwnPasses (now (f .entry)) (now (s .entry)) (o .names .end) (o .domain) (o .names .own) r ⌝ }
+    ensures { λ _. ⌜ SeenPass (now (f .entry)) (now (s .entry)) (o .names .end) (o .domain) (o .names .own) (now (seen .exit)) ⌝ }
     ensures { λ _. ⌜ SlotsTrue (now (f .entry)) (now (s .entry)) (now (slots .exit)) ⌝ }
 {
     let w = o.names;
@@ -160,7 +174,7 @@ fn own_class_passes<'a>(
         return true;
     }
     let end = w.end;
-    bits::clear_to(seen, end * 3 / 88 + 5);
+    bits_for(seen, end, o.alike);
     let v = visited::visit_for(w, o.domain, homes::own_home(end), w.own);
     class_passes(f, s, index, names, seen, slots, v)
 }
@@ -179,7 +193,7 @@ fn names_apart<'a>(
     requires { ⌜ Kept (now f) (now s) (now names) kept × Room (now f) (now s) (now names) ⌝ }
     requires { ⌜ Indexed (now s) (kept .end) (now index) × SlotsTrue (now f) (now s) (now slots) ⌝ }
     ensures { λ r. ⌜ (r .end ≡ kept .end) × (r .own ≡ b) × NamesIs (now (f .entry)) (now (s .entry)) (now (names .exit)) r ⌝ }
-    ensures { λ r. ⌜ Kept (now (f .entry)) (now (s .entry)) (now (names .exit)) r ⌝ }
+    ensures { λ r. ⌜ Kept (now (f .entry)) (now (s .entry)) (now (names .exit)) r × AsStored (now (f .entry)) (now (s .entry)) r ⌝ }
     ensures { λ _. ⌜ SlotsTrue (now (f .entry)) (now (s .entry)) (now (slots .exit)) ⌝ }
 {
     if 65535 < s.len() {
@@ -213,11 +227,13 @@ pub fn running_ok<'a>(
     while b < count {
         let x = ClassSpot { home: h, number: b };
         if parents::is_kind0(f, s, &mut slots, x) {
-            kept = names_apart(f, s, index, &mut *names, &mut slots, kept, b);
+            let w = names_apart(f, s, index, &mut *names, &mut slots, kept, b);
             let o = OwnClass {
-                names: kept,
+                names: w,
                 domain: domain,
+                alike: chains::run_alike(kept, w),
             };
+            kept = w;
             if !own_class_passes(f, s, index, names, seen, &mut slots, o) {
                 return false;
             }

@@ -197,7 +197,8 @@ pub fn parent_apart<'a>(
     ensures { λ _. ⌜ SlotsTrue (now (f .entry)) (now (s .entry)) (now (slots .exit)) ⌝ }
 {
     if 65535 < s.len() {
-        return parent_apart(f, s, index, slots, v, i);
+        let p = parent_apart(f, s, index, slots, v, i);
+        return p;
     }
     parent_visit(f, s, index, slots, v, i)
 }

@@ -134,8 +134,11 @@ returns c =
     let keep = finding.names-kept f s (kept .end) (b .args .b) (b .pre .0) (home .result) (home .ensures) (now (b .args .names)) m (found .result .link)
     (found .result .next) (found .ensures .0) m2 (stored .result) (stored .ensures .0 .2) (stored .ensures .0 .1) d (next .1)
     (stored .ensures .0 .0) m3 (all .result) (all .ensures) in
+    let first = finding.names-first f s (kept .end) (b .args .b) (b .pre .0) (home .result) (home .ensures) (now (b .args .names)) m (found .result .link)
+    (found .result .next) (found .ensures .0) m2 (stored .result) (stored .ensures .0 .2) (stored .ensures .0 .1) d (next .1)
+    (stored .ensures .0 .0) m3 (all .result) (all .ensures) in
     let named = c .names-of in
-    let told = finding.names-told f s m3 (kept .end) (b .args .b) (stored .result) (all .result) d (named .result) (named .ensures) is keep in
+    let told = finding.names-told f s m3 (kept .end) (b .args .b) (stored .result) (all .result) d (named .result) (named .ensures) is keep first in
     (told .0, (told .1, stored .ensures .1))
 
 same-length-3 : tie.Need-same-length-3
@@ -167,9 +170,11 @@ returns-2 c =
     (found .result .next) (found .ensures .0) m 128 refl (λ k u v. refl) none refl m2 (all .result) (all .ensures) in
     let keep = finding.alone-kept f s (kept .end) (b .args .b) (b .pre .0) (home .result) (home .ensures) (now (b .args .names)) m (found .result .link)
     (found .result .next) (found .ensures .0) m 128 refl (λ k u v. refl) none refl m2 (all .result) in
+    let first = finding.alone-first f s (kept .end) (b .args .b) (b .pre .0) (home .result) (home .ensures) (now (b .args .names)) m (found .result .link)
+    (found .result .next) (found .ensures .0) m 128 refl (λ k u v. refl) none refl (all .result) in
     let named = c .names-of2 in
     let x : ClassSpot = record { home = home .result; number = b .args .b } in
-    let told = finding.names-told f s m2 (kept .end) (b .args .b) 128 (all .result) x (named .result) (named .ensures) is keep in
+    let told = finding.names-told f s m2 (kept .end) (b .args .b) 128 (all .result) x (named .result) (named .ensures) is keep first in
     (told .0, (told .1, found .ensures .1))
 
 pub find-names-spec : {M : Type 1} → statement M

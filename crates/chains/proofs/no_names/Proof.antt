@@ -1,8 +1,6 @@
 -- `chains::no_names` meets its contract: no home of a stored class is kept. Assumes nothing.
 use Rattle.homes.specs.declared.Home.{Home}
-use Prim.Native.Nat.{_-_}
 use mathlib.Core.Path.{refl, ap}
-use native.Mathlib.Omega.{arith}
 use borrow.Author.Needs.{needs}
 use Rattle.chains.proofs.no_names.Statement.{statement}
 use Rattle.chains.proofs.no_names.Tie as tie
@@ -11,7 +9,7 @@ own-home-requires : tie.Need-own-home-requires
 own-home-requires c κs = search needs
 
 returns : tie.Need-returns
-returns c = (refl, λ f s l z. absurd (let y = ap (λ (b : Home). b .from) (c .own-home .ensures) in omega (arith, y, z)))
+returns c = (refl, ap (λ (b : Home). b .from) (c .own-home .ensures))
 
 pub no-names-spec : {M : Type 1} → statement M
 no-names-spec = tie.close (tie.spec own-home-requires returns)

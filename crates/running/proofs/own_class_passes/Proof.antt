@@ -9,6 +9,7 @@ use Rattle.running.specs.Say.{ClassPasses}
 use Rattle.running.specs.Walk.{visitHome, visitFor, WalkFrom}
 use Rattle.running.specs.declared.visited.Visit.{Visit}
 use Rattle.running.proofs.Whole as whole
+use Rattle.running.proofs.Seen as seen-of
 use Rattle.running.proofs.own_class_passes.Statement.{statement}
 use Rattle.running.proofs.own_class_passes.Tie as tie
 
@@ -32,24 +33,18 @@ returns : tie.Need-returns
 returns c =
     let b = start (c .before .before) in
     let a = b .args in
+    let f = now (a .f) in
+    let s = now (a .s) in
     let none = c .before .none-run .ensures (c .if1 .taken) in
-    (whole.own-nothing (now (a .f)) (now (a .s)) (a .o .names .end) (a .o .domain) (a .o .names .own) (b .pre .0 .1) none, b .pre .1 .1 .1 .1)
+    let seen = seen-of.seen-nothing f s (a .o .names .end) (a .o .domain) (a .o .names .own) _ (b .pre .1 .1 .1 .0 .room) none in
+    (whole.own-nothing f s (a .o .names .end) (a .o .domain) (a .o .names .own) (b .pre .0 .1) none, (seen, b .pre .1 .1 .1 .1))
 
-mul-clear-to : tie.Need-mul-clear-to
-mul-clear-to c =
+bits-for-requires : tie.Need-bits-for-requires
+bits-for-requires c κs =
     let b = start (c .before .before .before) in
     let a = b .args in
     let below = whole.own-end (now (a .f)) (now (a .s)) (a .o .names .end) (a .o .names .own) (b .pre .0 .0 .0) in
-    record { fits = omega (arith, below, b .pre .1 .1 .0 .1) }
-
-add-clear-to : tie.Need-add-clear-to
-add-clear-to c = search needs
-
-clear-to-requires : tie.Need-clear-to-requires
-clear-to-requires c κs =
-    let b = start (c .before .before .before) in
-    let a = b .args in
-    omega (arith, whole.own-end (now (a .f)) (now (a .s)) (a .o .names .end) (a .o .names .own) (b .pre .0 .0 .0), b .pre .1 .1 .1 .0)
+    (omega (arith, below, b .pre .1 .1 .1 .0 .room), omega (arith, below, b .pre .1 .1 .0 .1))
 
 own-home-requires : tie.Need-own-home-requires
 own-home-requires c κs = search needs
@@ -73,9 +68,11 @@ class-passes-requires c κs =
     let s = now (a .s) in
     let i = b .pre .1 .1 .0 in
     let from = whole.own-from f s (now (a .index)) (now (a .names)) (a .o) (b .pre .0 .1) (b .pre .0 .0) (b .pre .1 .0) (i .0) (i .1) in
-    let cleared = k .before .before .before .before .clear-to .ensures in
-    let seen = whole.seen-none f s (a .o .names .end) (a .o .domain) (a .o .names .own) _ (omega (arith, b .pre .1 .1 .1 .0)) cleared in
-    (subst (WalkFrom f s (now (a .index)) (now (a .names))) (sym (visit k)) from, (whole.own-seen f s (a .o) _ _ (visit k) seen, b .pre .1 .1 .1 .1))
+    let bits = k .before .before .before .before .bits-for in
+    let held = b .pre .1 .1 .1 .0 in
+    let seen = seen-of.bits-for f s (a .o .names .end) (a .o .domain) (a .o .names .own) _ _ (a .o .alike) (bits .ensures) (held .hold)
+    (omega (arith, held .room, bits .kept .0)) in
+    (subst (WalkFrom f s (now (a .index)) (now (a .names))) (sym (visit k)) from, (seen-of.own-seen f s (a .o) _ _ (visit k) seen, b .pre .1 .1 .1 .1))
 
 same-length : tie.Need-same-length
 same-length c = search needs
@@ -90,7 +87,8 @@ returns-2 c =
     let s = now (a .s) in
     let o = a .o in
     let answer = subst (λ (v : Visit). ClassPasses f s (v .end) (v .domain) (v .own) (visitHome v) (v .number) (r .result)) (visit k) (r .ensures .0) in
-    (whole.own-answer f s (o .names .end) (o .domain) (o .names .own) (b .pre .0 .1) (r .result) answer, r .ensures .1 .1)
+    let seen = seen-of.seen-own f s o _ _ (visit k) (r .ensures .1 .0) in
+    (whole.own-answer f s (o .names .end) (o .domain) (o .names .own) (b .pre .0 .1) (r .result) answer, (seen, r .ensures .1 .1))
 
 pub own-class-passes-spec : {M : Type 1} → statement M
 own-class-passes-spec =
@@ -98,9 +96,7 @@ own-class-passes-spec =
     (tie.spec
     none-run-requires
     returns
-    mul-clear-to
-    add-clear-to
-    clear-to-requires
+    bits-for-requires
     own-home-requires
     visit-for-requires
     class-passes-requires

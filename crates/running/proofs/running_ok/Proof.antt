@@ -17,14 +17,17 @@ use Rattle.chains.specs.Names.{namesLength, Kept}
 use Rattle.slots.specs.Slots.{SlotsTrue}
 use Rattle.slots.proofs.Asked as asked-of
 use Rattle.running.specs.Say.{OwnPasses}
+use Rattle.running.specs.Walk.{SeenPass, SeenIf}
 use Rattle.running.proofs.Whole as whole
+use Rattle.running.proofs.Seen as seen-of
+use Rattle.running.proofs.Seen.{SeenKept}
 use Rattle.running.proofs.running_ok.Statement.{statement}
 use Rattle.running.proofs.running_ok.Tie as tie
 
 abbrev Inv-loop : tie.InvT-loop
 Inv-loop f s end domain index names₀ seen₀ slots₀ h kept₀ count b₀ names seen slots kept b =
     whole.OwnLeft f s end domain count b × SlotsTrue f s slots × (length seen ≡ length seen₀) × (kept .end ≡ end) × Kept f s names kept ×
-    (length names ≡ length names₀)
+    (length names ≡ length names₀) × SeenKept f s end domain kept seen
 
 abbrev μ-loop : tie.MeasureT-loop
 μ-loop f s end domain index names₀ seen₀ slots₀ h kept₀ count b₀ names seen slots kept b = count - b
@@ -47,7 +50,7 @@ abbrev told : tie.After-names-apart Inv-loop μ-loop → tie.After-is-kind0 Inv-
 told k = k .before .before .before .before .before
 
 abbrev named : tie.After-own-class-passes Inv-loop μ-loop → tie.After-names-apart Inv-loop μ-loop
-named k = k .before .before .before .before .before .before
+named k = k .before .before .before .before .before .before .before
 
 -- the own class at hand
 own : (k : tie.In-loop Inv-loop μ-loop) →
@@ -125,8 +128,9 @@ loop-holds c =
       asked-of.slots-start f s,
       refl,
       none .0,
-      none .1 f s _,
+      (λ z. absurd (omega (arith, z, none .1))),
       refl,
+      seen-of.kept-none f s (a .end) (a .domain) (k .no-names .result) _ (none .1),
     )
 
 slice-aggregate-is-kind0 : tie.Need-slice-aggregate-is-kind0 Inv-loop μ-loop
@@ -162,9 +166,13 @@ names-apart-requires c κs =
     let indexed = subst (λ (n : ℕ). Indexed s n (now (a .index))) (sym (inv .3)) (b .pre .1 .0 .0) in
     (subst (λ (n : ℕ). RunningThere f s n i) (sym (inv .3)) runs, ((inv .4, room), (indexed, k .is-kind0 .ensures .1)))
 
+run-alike-requires : tie.Need-run-alike-requires Inv-loop μ-loop
+run-alike-requires c κs = search needs
+
 own-class-passes-requires : tie.Need-own-class-passes-requires Inv-loop μ-loop
 own-class-passes-requires c κs =
-    let n = c .before .before .before .before .before in
+    let n = c .before .before .before .before .before .before in
+    let alike = c .before .before .before .run-alike in
     let l = turn (told n) .before in
     let b = start (begun l) in
     let a = b .args in
@@ -179,7 +187,12 @@ own-class-passes-requires c κs =
     let class = kind (told n) true (n .before .before .before .if1 .taken) in
     let zero = whole.at-own (λ (x y : ℕ). Kind0Is f s (ownHome x) y true) (w .end) (w .own) (a .end) i (ends n) (given .0 .1) class in
     let indexed = subst (λ (e : ℕ). Indexed s e (now (a .index))) (sym (ends n)) (b .pre .1 .0 .0) in
-    ((there, zero), (given .0 .2, ((indexed, b .pre .1 .0 .1), (omega (arith, b .pre .1 .1 .1, inv .2), given .1 .1))))
+    let carry = seen-of.seen-alike f s (a .end) (a .domain) _ (l .loop .kept) w (l .loop .seen) (inv .6) (inv .3) (ends n) (given .1 .0 .1) (given .1 .0 .0) in
+    let seen : SeenIf f s (w .end) (a .domain) (w .own) (l .loop .seen) (alike .result) = record {
+      room = omega (arith, b .pre .1 .1 .1, inv .2);
+      hold = λ e. subst (λ (x : ℕ). SeenPass f s x (a .domain) (w .own) (l .loop .seen)) (sym (ends n)) (carry (alike .ensures e));
+    } in
+    ((there, zero), (given .0 .2, ((indexed, b .pre .1 .0 .1), (seen, given .1 .1))))
 
 same-length : tie.Need-same-length Inv-loop μ-loop
 same-length c =
@@ -216,8 +229,14 @@ loop-again c =
     let a = start (begun l) .args in
     let w = n .names-apart in
     let more = passes k true (not-false (k .own-class-passes .result) (c .if2 .left)) in
-    let left = whole.own-yes (now (a .f)) (now (a .s)) (a .end) (a .domain) (l .before .wide .result) (l .loop .b) (inv .0) (t .loop-test .taken) more in
-    (left, k .own-class-passes .ensures .1, omega (arith, inv .2), ends n, w .ensures .1 .0, omega (arith, inv .5, w .kept .1 .1 .1 .0))
+    let f = now (a .f) in
+    let s = now (a .s) in
+    let left = whole.own-yes f s (a .end) (a .domain) (l .before .wide .result) (l .loop .b) (inv .0) (t .loop-test .taken) more in
+    let every = whole.own-every f s (a .end) (a .domain) (l .before .wide .result) (l .loop .b) (inv .0) (t .loop-test .taken)
+    (kind (told n) true (n .before .before .before .if1 .taken)) in
+    let seen = seen-of.kept-next f s (a .end) (a .domain) (l .loop .b) (w .result) _ (ends n) (w .ensures .0 .1) (w .ensures .1 .0 .1) every
+    (k .own-class-passes .ensures .1 .0) in
+    (left, k .own-class-passes .ensures .1 .1, omega (arith, inv .2), ends n, w .ensures .1 .0 .0, omega (arith, inv .5, w .kept .1 .1 .1 .0), seen)
 
 add-b-2 : tie.Need-add-b-2 Inv-loop μ-loop
 add-b-2 c =
@@ -238,7 +257,7 @@ loop-again-2 c =
     let i = l .loop .b in
     let more = whole.own-interface f s (a .end) (a .domain) i (kind k false (c .if1 .left)) in
     let left = whole.own-yes f s (a .end) (a .domain) (l .before .wide .result) i (inv .0) (turn k .loop-test .taken) more in
-    (left, k .is-kind0 .ensures .1, inv .2, inv .3, inv .4, inv .5)
+    (left, k .is-kind0 .ensures .1, inv .2, inv .3, inv .4, inv .5, inv .6)
 
 same-length-3 : tie.Need-same-length-3 Inv-loop μ-loop
 same-length-3 c = c .before .loop .inv .5
@@ -267,6 +286,7 @@ running-ok-spec =
     slice-aggregate-is-kind0
     is-kind0-requires
     names-apart-requires
+    run-alike-requires
     own-class-passes-requires
     same-length
     same-length-2
