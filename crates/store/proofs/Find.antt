@@ -114,8 +114,8 @@ module _ {q : Entry → Bool} {s : Bytes} {k i : ℕ} (w : Walks q s k i) where
       placeOf q (firstEntry s) es ≡ some (i, j)
   found-domain {a} {j} p h es r = let v = w es r in walk-found v ((p (v .rest) (v .from)) .1) h
 
-  pub found-package : {a m j : ℕ} → PartAt s i k (Package a m j) → q (loaded (part s a m) (part s m j)) ≡ true → (es : List Entry) → Entries s (firstEntry s) es k →
-      placeOf q (firstEntry s) es ≡ some (i, j)
+  pub found-package : {a m j : ℕ} → PartAt s i k (Package a m j) → q (loaded (part s a m) (part s m j)) ≡ true → (es : List Entry) →
+      Entries s (firstEntry s) es k → placeOf q (firstEntry s) es ≡ some (i, j)
   found-package {a} {m} {j} p h es r = let v = w es r in walk-found v ((p (v .rest) (v .from)) .2) h
 
   pub found-none : PartAt s i k AtEnd → (es : List Entry) → Entries s (firstEntry s) es k → any q es ≡ false
@@ -129,8 +129,8 @@ module _ {q : Entry → Bool} {s : Bytes} {k i : ℕ} (w : Walks q s k i) where
       let x = (p (v .rest) (v .from)) .2 in
       (subst (AllRead (storeLimits s)) (x .are) (walk-reads v (storeLimits s) h)) .0
 
-  pub package-entry : {a m j : ℕ} → PartAt s i k (Package a m j) → (es : List Entry) → Entries s (firstEntry s) es k → (e : Entry) → EntryAt s i e j → e ≡ loaded
-      (part s a m) (part s m j)
+  pub package-entry : {a m j : ℕ} → PartAt s i k (Package a m j) → (es : List Entry) → Entries s (firstEntry s) es k → (e : Entry) →
+      EntryAt s i e j → e ≡ loaded (part s a m) (part s m j)
   package-entry {a} {m} {j} p es r e t =
       let v = w es r in
       let x = (p (v .rest) (v .from)) .2 in

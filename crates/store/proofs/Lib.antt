@@ -1,6 +1,7 @@
 -- The laws of the store by its bytes.
 pub mod Parts
 pub mod Stand
+pub mod EntriesRead
 pub mod Laid
 pub mod Walk
 pub mod Checks

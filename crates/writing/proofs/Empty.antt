@@ -12,7 +12,7 @@ use Rattle.rules.specs.Store.{version1, version2, storeMark, limitsBytes, write
 use Rattle.rules.specs.Questions.{q30-limits}
 use Rattle.writing.specs.Changes.{Emptied}
 use Rattle.writing.proofs.Paste.{set-two, paste-over, paste-join}
-use Rattle.writing.proofs.Change.{two}
+use Rattle.writing.proofs.Layouts.{two}
 
 -- mark and version stored one after the other, the used field, zeros behind the opening bytes
 pub emptied : (s t₁ t₂ : Bytes) (n k : ℕ) → 7 ≤ k → k ≤ length s →

@@ -1,4 +1,6 @@
 -- The laws of writing a store.
 pub mod Paste
-pub mod Change
+pub mod Layouts
+pub mod Append
+pub mod Cut
 pub mod Empty

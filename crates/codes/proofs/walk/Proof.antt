@@ -51,7 +51,9 @@ on k =
     walking-on _ _ _ _ _ _ _ (t .before .loop .inv .0) (n .result) (t .loop-test .taken) (n .ensures .0) (k .if1 .left) (n .ensures .1)
 
 loop-holds : tie.Need-loop-holds Inv-loop μ-loop
-loop-holds c = (walking-start _ _ _ (c .before .before .before .pre .1 .0) (c .before .before .before .pre .1 .1), refl, refl)
+loop-holds c =
+    let p = c .before .before .before .pre in
+    (walking-start _ _ _ (p .1 .0) (p .1 .1), refl, refl)
 
 shared-slice-read-entry-at : tie.Need-shared-slice-read-entry-at Inv-loop μ-loop
 shared-slice-read-entry-at c = search needs

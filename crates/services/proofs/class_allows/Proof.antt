@@ -19,6 +19,9 @@ start k = k .before .before .before .before
 abbrev sought : tie.After-m → tie.After-find-method
 sought k = k .before .before
 
+abbrev here : tie.After-admits → tie.After-m
+here k = k .before .before .before .before
+
 find-method-requires : tie.Need-find-method-requires
 find-method-requires c κs =
     let b = c .before .before .before in
@@ -51,16 +54,16 @@ admits-requires c κs =
 
 -- the answer for the class, by the answer for the policy
 said : (c : tie.After-admits) (r : Bool) (v : Allowed) → c .admits .result ≡ r → allowed v ≡ some r →
-    let a = start (sought (c .before .before .before .before)) .args in
+    let a = start (sought (here c)) .args in
     ClassAllows (now (a .g)) (now (a .own)) (a .c) (a .name) (now (a .domain)) v
 said c r v e w =
     let policy = c .before .policy-of in
     let domains = c .before .before .domains-at in
-    let here = c .before .before .before .before in
-    let k = sought here in
+    let m = here c .m in
+    let k = sought (here c) in
     let a = start k .args in
     let says : Bool → Type 0 = Admits (now (a .g)) (domains .result) (now (a .own)) (policy .result) (now (a .domain)) in
-    allows.class-says (now (a .g)) (a .c) (a .name) (k .find-method .result) (here .m .given .0 .0) (k .find-method .ensures) (here .m .given .1)
+    allows.class-says (now (a .g)) (a .c) (a .name) (k .find-method .result) (m .given .0 .0) (k .find-method .ensures) (m .given .1)
     (domains .result) (now (a .own)) (policy .result) r (now (a .domain)) v (domains .ensures) (policy .ensures) (subst says e (c .admits .ensures)) w
 
 returns : tie.Need-returns
@@ -81,13 +84,4 @@ returns-3 c =
 pub class-allows-spec : {M : Type 1} → statement M
 class-allows-spec =
     tie.close
-    (tie.spec
-    find-method-requires
-    enum-known-m
-    domains-at-requires
-    policy-of-requires
-    admits-requires
-    returns
-    enum-told
-    returns-2
-    returns-3)
+    (tie.spec find-method-requires enum-known-m domains-at-requires policy-of-requires admits-requires returns enum-told returns-2 returns-3)

@@ -1,6 +1,6 @@
 -- `writing::append_package` leaves the layout of the entries with a package's entry behind them. Assumes nothing.
 use lib.ListN.{length, length-set}
-use Rattle.writing.proofs.Change as change
+use Rattle.writing.proofs.Append as append
 use denote.Ref.{now}
 use Prim.Native.Nat.{_+_}
 use mathlib.Core.Path.{_≡_, _∙_}
@@ -26,8 +26,8 @@ abbrev file-in : tie.After-put-u2 → tie.After-copy-in2
 file-in k = k .before .before .before .before
 
 -- there is room for the entry
-room : (b : tie.Start) → change.RoomBy (now (b .args .store)) (b .args .end) (1 + length (now (b .args .domain)) + length (now (b .args .file)))
-room b = change.package-room (b .pre .0)
+room : (b : tie.Start) → append.RoomBy (now (b .args .store)) (b .args .end) (1 + length (now (b .args .domain)) + length (now (b .args .file)))
+room b = append.package-room (b .pre .0)
 
 -- the store is as long as at the start, once the domain is written, and once the file is
 domain-long : (k : tie.After-copy-in) → length (k .copy-in .last .0) ≡ length (now (begun (headed k) .args .store))
@@ -93,7 +93,7 @@ returns c =
     let d = domain-in f in
     let h = headed d in
     let b = begun h in
-    change.package-appended (now (b .args .store)) (h .put-head .last .0) (d .copy-in .last .0) (f .copy-in2 .last .0) _ (b .args .end)
+    append.package-appended (now (b .args .store)) (h .put-head .last .0) (d .copy-in .last .0) (f .copy-in2 .last .0) _ (b .args .end)
     (now (b .args .domain)) (now (b .args .file)) (b .pre .0) (h .put-head .ensures) (d .copy-in .ensures) (f .copy-in2 .ensures) (u .put-u2 .ensures)
 
 pub append-package-spec : {M : Type 1} → statement M

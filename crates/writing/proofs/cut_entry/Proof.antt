@@ -1,7 +1,8 @@
 -- `writing::cut_entry` leaves the layout of the entries without the one cut out. Assumes nothing.
 use lib.Seq.{paste}
 use lib.ListN.{length, replicate}
-use Rattle.writing.proofs.Change as change
+use Rattle.writing.proofs.Layouts.{two}
+use Rattle.writing.proofs.Cut as cut
 use Rattle.rules.specs.Bytes.{Bytes}
 use denote.Ref.{now}
 use Prim.Native.Nat.{_-_}
@@ -21,8 +22,8 @@ abbrev zeroed : tie.After-put-u2 → tie.After-zero-out
 zeroed k = k .before .before .before .before
 
 -- the places of the entry that is cut out
-places : (b : tie.Start) → change.CutBy (b .args .end) (b .args .at) (b .args .next) (length (now (b .args .store)))
-places b = change.cut-by (b .pre)
+places : (b : tie.Start) → cut.CutBy (b .args .end) (b .args .at) (b .args .next) (length (now (b .args .store)))
+places b = cut.cut-by (b .pre)
 
 -- the store is as long as at the start, once the end is zeroed
 long : (k : tie.After-zero-out) → length (k .zero-out .last .0) ≡ length (now (start (moved k) .args .store))
@@ -63,8 +64,8 @@ returns c =
     let end = b .args .end in
     let n = b .args .next - b .args .at in
     let e : z .zero-out .last .0 ≡ paste (moved z .move-up .last .0) (end - n) (replicate n 0) n = z .zero-out .ensures in
-    change.cut-is (now (b .args .store)) _ end (b .args .at) (b .args .next) n (b .pre) refl
-    (u .put-u2 .ensures ∙ ap (λ (t : Bytes). paste t 5 (change.two (end - n)) 2)
+    cut.cut-is (now (b .args .store)) _ end (b .args .at) (b .args .next) n (b .pre) refl
+    (u .put-u2 .ensures ∙ ap (λ (t : Bytes). paste t 5 (two (end - n)) 2)
     (e ∙ ap (λ (t : Bytes). paste t (end - n) (replicate n 0) n) (moved z .move-up .ensures)))
 
 pub cut-entry-spec : {M : Type 1} → statement M

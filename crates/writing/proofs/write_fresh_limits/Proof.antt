@@ -10,9 +10,12 @@ use mathlib.Core.Bool.{true, false}
 use Rattle.writing.proofs.write_fresh_limits.Statement.{statement}
 use Rattle.writing.proofs.write_fresh_limits.Tie as tie
 
--- the limits lie in their ranges
+-- the start, from where the limits lie in their ranges, and that they do
+abbrev start : tie.Else1 → tie.Start
+start k = k .before .before .before
+
 in-range : (k : tie.Else1) →
-    let a = k .before .before .before .args in
+    let a = start k .args in
     limitsRange (limitsGiven (a .depth) (a .parents) (a .code)) ≡ true
 in-range k = sym (k .before .limits-ok .ensures) ∙ not-false _ (k .if1 .left)
 
@@ -26,7 +29,7 @@ returns c =
     (empty.ranges-asked (limitsGiven (a .depth) (a .parents) (a .code)) false (sym (ok .ensures) ∙ not-true (ok .result) (c .if1 .taken)), refl)
 
 write-limited-requires : tie.Need-write-limited-requires
-write-limited-requires c κs = (c .before .before .before .before .pre, of-true (in-range (c .before)))
+write-limited-requires c κs = (start (c .before) .pre, of-true (in-range (c .before)))
 
 same-length : tie.Need-same-length
 same-length c = search needs

@@ -1,4 +1,4 @@
--- `codes::branches::mark_each` meets its contract. The invariant: what adding the fields that are left comes to is what adding all of them does. Assumes nothing.
+-- `codes::branches::mark_each` meets its contract. The invariant: adding the fields that are left comes to what adding all of them does. Assumes nothing.
 use Prim.Native.Nat.{_+_, _-_, _*_, _≤_}
 use native.Mathlib.Omega.{arith}
 use mathlib.Core.Path.{_≡_, refl, sym}
@@ -26,12 +26,16 @@ Inv-loop code targets₀ at first step n field₀ left₀ targets field left =
 abbrev μ-loop : tie.MeasureT-loop
 μ-loop code targets₀ at first step n field₀ left₀ targets field left = left
 
--- the start, from where a turn begins; the turn, from where its field is read; that, from where its target is marked
+-- the start, from where a turn begins; the turn, from where its field is read, and from where its target is marked; that, from where the set is
+-- whole again
 abbrev start : tie.At-loop Inv-loop μ-loop → tie.Start Inv-loop μ-loop
 start k = k .before .before .before
 
 abbrev turn : tie.After-u2-at Inv-loop μ-loop → tie.At-loop Inv-loop μ-loop
 turn k = k .before .before .before
+
+abbrev going : tie.After-mark-branch Inv-loop μ-loop → tie.In-loop Inv-loop μ-loop
+going k = k .before .before .before
 
 abbrev marked : tie.After-slice-known2 Inv-loop μ-loop → tie.After-mark-branch Inv-loop μ-loop
 marked k = k .before .before
@@ -73,7 +77,7 @@ mark-branch-requires c κs =
     (omega (arith, turn c .loop .inv .0, p .0), p .0 .1, c .u2-at .ensures .1, omega arith)
 
 add-field : tie.Need-add-field Inv-loop μ-loop
-add-field c = omega (arith, fields (marked (c .before) .before .before .before))
+add-field c = omega (arith, fields (going (marked (c .before))))
 
 sub-left : tie.Need-sub-left Inv-loop μ-loop
 sub-left c = search needs
@@ -84,7 +88,7 @@ loop-less c = search needs
 loop-again : tie.Need-loop-again Inv-loop μ-loop
 loop-again c =
     let m = marked (c .before) in
-    let k = m .before .before .before in
+    let k = going m in
     let turn = k .before .loop in (
       omega (arith, turn .inv .0, m .mark-branch .kept),
       omega (arith, fields k),
@@ -97,7 +101,7 @@ same-length c = search needs
 returns : tie.Need-returns Inv-loop μ-loop
 returns c =
     let m = marked (c .before) in
-    let k = m .before .before .before in
+    let k = going m in
     k .before .loop .inv .2 _ false (adds-is refl (sym (left k)) (adds-no _ (c .if1 .left) (one m)))
 
 same-length-2 : tie.Need-same-length-2 Inv-loop μ-loop

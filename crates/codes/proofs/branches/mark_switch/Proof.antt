@@ -83,8 +83,9 @@ returns-2 : tie.Need-returns-2
 returns-2 c =
     let m = c .before .before in
     let t = m .before .before in
+    let k = t .before .before in
     let form = switch-75 _ (t .if2 .taken) in
-    adds-is refl (targets (t .before .before) _ 2 4 (omega arith) (ap (λ (w : Switch). w .offset) form) (ap (λ (w : Switch). w .entry) form)) (m .mark-each2 .ensures)
+    adds-is refl (targets k _ 2 4 (omega arith) (ap (λ (w : Switch). w .offset) form) (ap (λ (w : Switch). w .entry) form)) (m .mark-each2 .ensures)
 
 add-mark-each-4 : tie.Need-add-mark-each-4
 add-mark-each-4 c = omega (arith, head-inside (start (c .before .before .before)))
