@@ -1,41 +1,32 @@
 -- Questions 1 and 2 of a buffer by its layout, its domains and its packages. Assumes nothing.
-use Prim.Native.Nat.{ℕ, _+_, _*_, _/_, _≤_}
+use Prim.Native.Nat.{ℕ}
 use native.Mathlib.Omega.{arith}
 use mathlib.Core.Path.{_≡_, refl, sym, _∙_, ap, subst}
 use mathlib.Core.Bool.{Bool, true, false, _&&_}
 use mathlib.Core.List.{List, [], _∷_, _++_}
-use mathlib.Core.Logic.{_⊎_, ⊎-elim}
+use mathlib.Core.Logic.{⊎-elim}
 use mathlib.Core.Option.{Option, none, some, Option·some-injective}
-use lib.Dec.{T, leb}
-use borrow.Author.Tests.{le-leb}
-use lib.ListN.{length, replicate}
-use Rattle.rules.specs.Bytes.{Bytes, Aid, pick, _andThen_}
+use lib.Dec.{T}
+use lib.ListN.{length}
+use Rattle.rules.specs.Bytes.{Bytes, Aid, _andThen_}
 use Rattle.rules.specs.Code.{u2At}
 use Rattle.rules.specs.Limits.{Limits}
 use Rattle.rules.specs.Store.{Entry, domain, loaded, used, entriesOf, firstEntry, storeLimits, storeOpening}
 use Rattle.rules.specs.Questions.{q1-size, q3-lengths, q5-created}
-use Rattle.rules.specs.Operations.{acceptedAll, soundEntries, sound, entries, load, number, questions, firstNo, loadQuestions}
-use Rattle.rules.proofs.Tests.{and-l, and-r, is-true, of-true}
+use Rattle.rules.specs.Operations.{acceptedAll, soundEntries, sound, entries, load, number, questions}
+use Rattle.rules.proofs.Tests.{and-l, and-r, of-true}
 use Rattle.store.specs.Entries.{Entries, StandFrom, Holds}
 use Rattle.store.specs.Answers.{usedTold}
-use Rattle.store.specs.Sound.{Over, OverSome, SoundAt, Asked}
+use Rattle.store.specs.Sound.{Over, SoundAt, Asked}
 use Rattle.store.specs.declared.Layout.{Layout}
 use Rattle.store.specs.declared.Layout.the-variants as layouts
 use Rattle.store.proofs.Asked.{size-is}
 use Rattle.store.proofs.Sound.{over-some, asked-number}
-use Rattle.store.proofs.Stand.{entries-to, entries-next}
+use Rattle.store.proofs.Stand.{entries-next}
 use Rattle.store.proofs.Laid.{laid-by}
-use Rattle.index.specs.Index.{IndexIs}
-use Rattle.index.proofs.Entering.{index-start}
-use Rattle.depths.specs.Depths.{DepthsKept, depthsLength}
-use Rattle.depths.proofs.Kept.{depths-start}
-use Rattle.chains.specs.Names.{namesLength}
-use Rattle.running.specs.Walk.{seenLength}
 use Rattle.domains.specs.Domains.{domainAccepted, domainsAccepted, AllSay}
 use Rattle.domains.proofs.Split.{all-domains, kept-reads, domains-append}
-use Rattle.homes.specs.Found.{Indexed}
-use Rattle.judge.proofs.Entry.{indexed}
-use Rattle.judge.specs.Says.{usedAt, DomainYes, DomainsYes, PackagesSay, LoadSays, numberOf}
+use Rattle.judge.specs.Says.{DomainYes, DomainsYes, PackagesSay, LoadSays, numberOf}
 use Rattle.judge.specs.declared.LoadAnswer.{LoadAnswer}
 use Rattle.judge.specs.declared.LoadAnswer.the-variants as answers
 use Rattle.sound.specs.Says.{LaidAt, Unopened, JudgedSays}
@@ -45,7 +36,8 @@ pub domains-yes : (s : Bytes) (u : ℕ) → AllSay s u true → DomainsYes s u
 domains-yes s u h es pre post e r are =
     let all : domainsAccepted l [] (pre ++ e ∷ post) ≡ true = ap (domainsAccepted l []) (sym are) ∙ sym (h es r) in
     let split : T (domainsAccepted l [] pre && domainsAccepted l pre (e ∷ post)) = of-true (sym (domains-append l [] pre (e ∷ post)) ∙ all) in
-    let here : T (domainAccepted l pre e && domainsAccepted l (pre ++ e ∷ []) post) = and-r (domainsAccepted l [] pre) (domainsAccepted l pre (e ∷ post)) split in
+    let here : T (domainAccepted l pre e && domainsAccepted l (pre ++ e ∷ []) post) =
+    and-r (domainsAccepted l [] pre) (domainsAccepted l pre (e ∷ post)) split in
     one e (and-l (domainAccepted l pre e) (domainsAccepted l (pre ++ e ∷ []) post) here)
   where
     l : Limits
@@ -56,36 +48,6 @@ domains-yes s u h es pre post e r are =
     one (loaded d f) t =
         let five = and-r (q3-lengths (d ∷ [])) _ t in
         (and-l (q3-lengths (d ∷ [])) _ t, and-l (q5-created pre d) _ five, λ p e. kept-reads l pre d f p e (and-r (q5-created pre d) _ five))
-
--- the table of depths, by the bits of a depth: three where the depth limit is 8 or less, never more than four
-pub shallow-length : (s : Bytes) → storeLimits s .depth ≤ 8 → depthsLength s ≡ length s / 5 * 3 / 8 + 2
-shallow-length s h = ap (λ (b : Bool). length s / 5 * pick b 3 4 / 8 + 2) (le-leb (storeLimits s .depth) 8 h)
-
-pub deep-length : (s : Bytes) → depthsLength s ≤ length s / 5 * 4 / 8 + 2
-deep-length s = go (leb (storeLimits s .depth) 8)
-  where
-    go : (b : Bool) → length s / 5 * pick b 3 4 / 8 + 2 ≤ length s / 5 * 4 / 8 + 2
-    go true = omega arith
-    go false = omega arith
-
--- tables of zeros are those of no entries, where they are large enough for the store
-pub tables-start : (s : Bytes) (u n m j k : ℕ) → StandFrom s (firstEntry s) u → length s ≤ 27 * n → depthsLength s ≤ m → namesLength s ≤ j → seenLength s ≤ k →
-    length s ≤ 65535 →
-    (IndexIs s (firstEntry s) (replicate n 0) × DepthsKept s (firstEntry s) (replicate m 0)) × ((length s ≤ 65535) × ((namesLength s ≤ j) × (seenLength s ≤ k)))
-tables-start s u n m j k t i d a b l =
-    let e = entries-to s (firstEntry s) (t .0) u (t .1) in
-    ((index-start s n (omega (arith, e .0, e .1)) i, depths-start s m d), (l, (a, b)))
-
--- entries that are accepted
-pub over-packages : (s : Bytes) (u : ℕ) → StandFrom s (firstEntry s) u → PackagesSay s u true → OverSome s u
-unfolding soundEntries
-over-packages s u t h = (t .0, record { stand = t .1; sound = of-true (sym (h (t .0) (t .1))) })
-
--- entries that end at the used field are all entries of the store
-pub over-all : (s : Bytes) (u : ℕ) (index depths : List ℕ) → usedAt s ≡ u → OverSome s u → IndexIs s u index × DepthsKept s u depths →
-    OverSome s (usedAt s) × (Indexed s (usedAt s) index × DepthsKept s (usedAt s) depths)
-over-all s u index depths e o t =
-    subst (λ (i : ℕ). OverSome s i × (Indexed s i index × DepthsKept s i depths)) (sym e) (o, (indexed s u index o (t .0), t .1))
 
 -- what the layout's answer says
 told-broken : (s : Bytes) (r : Layout) → r ≡ layouts.Broken → usedTold r ≡ (entriesOf s andThen λ es. some (used (storeOpening s) es)) → entriesOf s ≡ none
@@ -187,7 +149,8 @@ module _ (s : Bytes) (u : ℕ) (a : LaidAt s u) where
         is = sound-by true yes;
         entries = λ fs q.
             let z : a .entries ≡ fs = Option·some-injective _ _ (sym (a .reads) ∙ q) in
-            subst (λ (gs : List Entry). Holds s gs × Over s u gs × (used (storeOpening s) gs ≡ u)) z (a .holds, record { stand = stands; sound = of-true yes }, a .ends);
+            let over : Over s u (a .entries) = record { stand = stands; sound = of-true yes } in
+            subst (λ (gs : List Entry). Holds s gs × Over s u gs × (used (storeOpening s) gs ≡ u)) z (a .holds, over, a .ends);
       }
 
   -- a load

@@ -4,10 +4,10 @@ use native.Mathlib.Omega.{arith}
 use borrow.Author.Needs.{needs}
 use borrow.Fn.Kinds.{In}
 use borrow.Fn.PlainCycle.{Measures, is, falls, and}
+use Rattle.domains.proofs.domains_ok.Reads as domains-ok-reads
 use Rattle.sound.proofs.domains_small.Reads as reads
 use Rattle.sound.proofs.domains_small.Kinds as kinds
 use Rattle.sound.proofs.+domains_small.Lts-domains_small as lts
-use Rattle.domains.proofs.domains_ok.Reads as domains-ok-reads
 use Rattle.sound.proofs.+domains_small.{statement}
 use Rattle.sound.proofs.+domains_small.Tie.{close}
 

@@ -1,21 +1,17 @@
 -- `sound::load_deep_small` meets its contract: it never calls itself, since no store is that long. Assumes nothing.
 use Prim.Native.Nat.{ℕ, _<_}
 use native.Mathlib.Omega.{arith}
-use mathlib.Core.Path.{refl, subst}
-use mathlib.Core.Logic.{inl, inr}
+use denote.Ref.{now}
 use borrow.Author.Needs.{needs}
 use borrow.Author.Tests.{not-true, not-false}
-use denote.Ref.{now}
 use borrow.Fn.Kinds.{In}
 use borrow.Fn.PlainCycle.{Measures, is, falls, and}
-use Rattle.rules.proofs.Limits.{limits-range}
-use Rattle.judge.specs.Says.{PackagesSay, LoadSays}
-use Rattle.sound.proofs.Laws as laws
+use Rattle.judge.proofs.load_answer.Reads as load-answer-reads
+use Rattle.judge.proofs.packages_sound.Reads as packages-sound-reads
+use Rattle.sound.proofs.Tables as tables
 use Rattle.sound.proofs.load_deep_small.Reads as reads
 use Rattle.sound.proofs.load_deep_small.Kinds as kinds
 use Rattle.sound.proofs.+load_deep_small.Lts-load_deep_small as lts
-use Rattle.judge.proofs.load_answer.Reads as load-answer-reads
-use Rattle.judge.proofs.packages_sound.Reads as packages-sound-reads
 use Rattle.sound.proofs.+load_deep_small.{statement}
 use Rattle.sound.proofs.+load_deep_small.Tie.{close}
 
@@ -32,8 +28,22 @@ below t = and 2 kinds.ps (falls 2 kinds.ps _<_ μ t) reads.Pre
 abbrev claims : ℕ → lts.Claims
 claims t = (below t, reads.Post, packages-sound-reads.Asked, packages-sound-reads.Learnt, load-answer-reads.Asked, load-answer-reads.Learnt)
 
+-- the start, from where the packages are answered; that, from where the answer is looked at; that, from where the load is asked
+abbrev start : (t : ℕ) → lts.After-packages-sound (claims t) (here t) reads.Post → lts.Start (claims t) (here t) reads.Post
+start t k = k .before .before .before .before .before .before .before .before .before
+
+abbrev answered : (t : ℕ) → lts.After-seen2 (claims t) (here t) reads.Post → lts.After-packages-sound (claims t) (here t) reads.Post
+answered t k = k .before .before .before .before
+
+abbrev accepted : (t : ℕ) → lts.After-seen3 (claims t) (here t) reads.Post → lts.Else2 (claims t) (here t) reads.Post
+accepted t k = k .before .before .before .before
+
+-- the tables are large enough
+abbrev room : (t : ℕ) (b : lts.Start (claims t) (here t) reads.Post) → tables.Room (now (b .args .s)) 304 821 1152 284
+room t b = tables.deep-small-room (now (b .args .s)) (b .pre .1 .1)
+
 itself-requires : (t : ℕ) → lts.Need-load-deep-small-requires (claims t) (here t) reads.Post
-itself-requires t c κs = absurd (omega (arith, c .if1 .taken, c .before .before .before .before .pre .1 .1))
+itself-requires t c κs = absurd (omega (arith, c .if1 .taken, room t (c .before .before .before .before) .size))
 
 returns : (t : ℕ) → lts.Need-returns (claims t) (here t) reads.Post
 returns t c = search needs
@@ -53,19 +63,11 @@ slice-aggregate-packages-sound-4 t c = search needs
 packages-sound-requires : (t : ℕ) → lts.Need-packages-sound-requires (claims t) (here t) reads.Post
 packages-sound-requires t c κs =
     let b = c .before .before .before .before .before .before .before .before in
-    let s = now (b .args .s) in
-    let p = b .pre .1 in (
-      (p .0 .0, p .0 .1),
-      laws.tables-start s (b .args .used) 304 821 1152 284 (p .0 .0)
-          (omega (arith, p .1)) (omega (arith, laws.deep-length s, p .1)) (omega (arith, (limits-range s) .0))
-          (omega (arith, p .1)) (omega (arith, p .1)),
-    )
+    let p = b .pre .1 .0 in
+    ((p .0, p .1), tables.tables-start _ _ _ _ _ _ (p .0) (room t b))
 
 returns-2 : (t : ℕ) → lts.Need-returns-2 (claims t) (here t) reads.Post
-returns-2 t c =
-    let c1 = c .before .before .before .before .before in
-    let b = c1 .before .before .before .before .before .before .before .before .before in
-    inl (subst (PackagesSay (now (b .args .s)) (b .args .used)) (not-true _ (c .if2 .taken)) (c1 .packages-sound .ensures .0), refl)
+returns-2 t c = tables.judged-no _ _ _ (answered t (c .before) .packages-sound .ensures .0) _ _ (not-true _ (c .if2 .taken))
 
 slice-aggregate-load-answer : (t : ℕ) → lts.Need-slice-aggregate-load-answer (claims t) (here t) reads.Post
 slice-aggregate-load-answer t c = search needs
@@ -81,42 +83,24 @@ slice-aggregate-load-answer-4 t c = search needs
 
 load-answer-requires : (t : ℕ) → lts.Need-load-answer-requires (claims t) (here t) reads.Post
 load-answer-requires t c κs =
-    let yes = not-false _ (c .before .before .before .before .if2 .left) in
-    let c1 = c .before .before .before .before .before .before .before .before .before in
-    let sound = c1 .packages-sound in
-    let b = c1 .before .before .before .before .before .before .before .before .before in
-    let s = now (b .args .s) in
-    let p = b .pre .1 in
-    let over = laws.over-packages s (b .args .used) (p .0 .0) (subst (PackagesSay s (b .args .used)) yes (sound .ensures .0)) in
-    let asked = laws.over-all s (b .args .used) _ _ (p .0 .2) over (sound .ensures .1 yes) in
-    let kept = sound .kept .1 .1 .1 .1 in
-    (asked .0, (asked .1, (omega (arith, p .1), (omega (arith, (limits-range s) .0, kept .0), omega (arith, p .1, kept .1 .0)))))
+    let e = accepted t c in
+    let k = answered t (e .before) in
+    let b = start t k in
+    let p = b .pre .1 .0 in
+    let r = k .packages-sound in
+    let over = tables.over-all _ _ _ (r .ensures .0) (not-false _ (e .if2 .left)) (p .2) (p .0) _ _ (r .ensures .1) in
+    let kept = r .kept .1 .1 .1 .1 in
+    (over .0, (over .1, (room t b .size, (omega (arith, room t b .names, kept .0), omega (arith, room t b .seen, kept .1 .0)))))
 
 returns-3 : (t : ℕ) → lts.Need-returns-3 (claims t) (here t) reads.Post
 returns-3 t c =
-    let yes = not-false _ (c .before .before .before .before .before .before .before .if2 .left) in
-    let c1 = c .before .before .before .before .before .before .before .before .before .before .before .before in
-    let b = c1 .before .before .before .before .before .before .before .before .before in
-    let a = b .args in
-    inr (
-      subst (PackagesSay (now (a .s)) (a .used)) yes (c1 .packages-sound .ensures .0),
-      subst (λ (u : ℕ). LoadSays (now (a .s)) u (now (a .domain)) (now (a .file)) (c .before .before .load-answer .result)) (b .pre .1 .0 .2)
-          (c .before .before .load-answer .ensures),
-    )
+    let e = accepted t (c .before .before .before) in
+    let k = answered t (e .before) in
+    let end = start t k .pre .1 .0 .2 in
+    tables.judged-yes _ _ _ (k .packages-sound .ensures .0) (not-false _ (e .if2 .left)) end _ _ _ (c .before .before .load-answer .ensures)
 
 pub +load-deep-small-spec : {M : Type 1} → statement M
 +load-deep-small-spec = close μ λ t. lts.spec (claims t) (here t) reads.Post
-    (itself-requires t)
-    (returns t)
-    (slice-aggregate-packages-sound t)
-    (slice-aggregate-packages-sound-2 t)
-    (slice-aggregate-packages-sound-3 t)
-    (slice-aggregate-packages-sound-4 t)
-    (packages-sound-requires t)
-    (returns-2 t)
-    (slice-aggregate-load-answer t)
-    (slice-aggregate-load-answer-2 t)
-    (slice-aggregate-load-answer-3 t)
-    (slice-aggregate-load-answer-4 t)
-    (load-answer-requires t)
-    (returns-3 t)
+    (itself-requires t) (returns t) (slice-aggregate-packages-sound t) (slice-aggregate-packages-sound-2 t) (slice-aggregate-packages-sound-3 t)
+    (slice-aggregate-packages-sound-4 t) (packages-sound-requires t) (returns-2 t) (slice-aggregate-load-answer t) (slice-aggregate-load-answer-2 t)
+    (slice-aggregate-load-answer-3 t) (slice-aggregate-load-answer-4 t) (load-answer-requires t) (returns-3 t)

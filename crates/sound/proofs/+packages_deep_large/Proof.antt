@@ -1,16 +1,15 @@
 -- `sound::packages_deep_large` meets its contract: it never calls itself, since no store is that long. Assumes nothing.
 use Prim.Native.Nat.{ℕ, _<_}
 use native.Mathlib.Omega.{arith}
-use borrow.Author.Needs.{needs}
 use denote.Ref.{now}
+use borrow.Author.Needs.{needs}
 use borrow.Fn.Kinds.{In}
 use borrow.Fn.PlainCycle.{Measures, is, falls, and}
-use Rattle.rules.proofs.Limits.{limits-range}
-use Rattle.sound.proofs.Laws as laws
+use Rattle.judge.proofs.packages_sound.Reads as packages-sound-reads
+use Rattle.sound.proofs.Tables as tables
 use Rattle.sound.proofs.packages_deep_large.Reads as reads
 use Rattle.sound.proofs.packages_deep_large.Kinds as kinds
 use Rattle.sound.proofs.+packages_deep_large.Lts-packages_deep_large as lts
-use Rattle.judge.proofs.packages_sound.Reads as packages-sound-reads
 use Rattle.sound.proofs.+packages_deep_large.{statement}
 use Rattle.sound.proofs.+packages_deep_large.Tie.{close}
 
@@ -27,8 +26,12 @@ below t = and 1 kinds.ps (falls 1 kinds.ps _<_ μ t) reads.Pre
 abbrev claims : ℕ → lts.Claims
 claims t = (below t, reads.Post, packages-sound-reads.Asked, packages-sound-reads.Learnt)
 
+-- the tables are large enough
+abbrev room : (t : ℕ) (b : lts.Start (claims t) (here t) reads.Post) → tables.Room (now (b .args .s)) 2428 6556 1152 2239
+room t b = tables.deep-large-room (now (b .args .s)) (b .pre .1 .1)
+
 itself-requires : (t : ℕ) → lts.Need-packages-deep-large-requires (claims t) (here t) reads.Post
-itself-requires t c κs = absurd (omega (arith, c .if1 .taken, c .before .before .pre .1 .1))
+itself-requires t c κs = absurd (omega (arith, c .if1 .taken, room t (c .before .before) .size))
 
 returns : (t : ℕ) → lts.Need-returns (claims t) (here t) reads.Post
 returns t c = search needs
@@ -48,24 +51,13 @@ slice-aggregate-packages-sound-4 t c = search needs
 packages-sound-requires : (t : ℕ) → lts.Need-packages-sound-requires (claims t) (here t) reads.Post
 packages-sound-requires t c κs =
     let b = c .before .before .before .before .before .before in
-    let s = now (b .args .s) in
-    let p = b .pre .1 in (
-      (p .0 .0, p .0 .1),
-      laws.tables-start s (b .args .used) 2428 6556 1152 2239 (p .0 .0)
-          (omega (arith, p .1)) (omega (arith, laws.deep-length s, p .1)) (omega (arith, (limits-range s) .0))
-          (omega (arith, p .1)) (omega (arith, p .1)),
-    )
+    let p = b .pre .1 .0 in
+    ((p .0, p .1), tables.tables-start _ _ _ _ _ _ (p .0) (room t b))
 
 returns-2 : (t : ℕ) → lts.Need-returns-2 (claims t) (here t) reads.Post
 returns-2 t c = c .before .before .before .before .packages-sound .ensures .0
 
 pub +packages-deep-large-spec : {M : Type 1} → statement M
 +packages-deep-large-spec = close μ λ t. lts.spec (claims t) (here t) reads.Post
-    (itself-requires t)
-    (returns t)
-    (slice-aggregate-packages-sound t)
-    (slice-aggregate-packages-sound-2 t)
-    (slice-aggregate-packages-sound-3 t)
-    (slice-aggregate-packages-sound-4 t)
-    (packages-sound-requires t)
-    (returns-2 t)
+    (itself-requires t) (returns t) (slice-aggregate-packages-sound t) (slice-aggregate-packages-sound-2 t) (slice-aggregate-packages-sound-3 t)
+    (slice-aggregate-packages-sound-4 t) (packages-sound-requires t) (returns-2 t)

@@ -42,13 +42,5 @@ returns-4 c = search needs
 pub load-judged-spec : {M : Type 1} → statement M
 load-judged-spec =
     tie.close
-    (tie.spec
-    limits-of-requires
-    load-small-requires
-    returns
-    load-large-requires
-    returns-2
-    load-deep-small-requires
-    returns-3
-    load-deep-large-requires
+    (tie.spec limits-of-requires load-small-requires returns load-large-requires returns-2 load-deep-small-requires returns-3 load-deep-large-requires
     returns-4)

@@ -42,13 +42,5 @@ returns-4 c = search needs
 pub packages-sound-spec : {M : Type 1} → statement M
 packages-sound-spec =
     tie.close
-    (tie.spec
-    limits-of-requires
-    packages-small-requires
-    returns
-    packages-large-requires
-    returns-2
-    packages-deep-small-requires
-    returns-3
-    packages-deep-large-requires
-    returns-4)
+    (tie.spec limits-of-requires packages-small-requires returns packages-large-requires returns-2 packages-deep-small-requires returns-3
+    packages-deep-large-requires returns-4)
