@@ -2,7 +2,8 @@
 //! loads of its entries in this order leave; the call is a query that question 7 refuses,
 //! so that question 2 is all that it costs.
 
-use crate::hostile_chains::{chain, chain_of_lists, lists_by_turns, own_alone};
+use crate::hostile_chains::{chain, chain_declared, chain_of_lists, lists_by_turns};
+use crate::hostile_chains::{own_alone, turns_declared};
 use crate::hostile_handlers::{in_second, long_codes, short_codes};
 use crate::hostile_kinds::with_kinds;
 use crate::hostile_limits::with_limits;
@@ -15,12 +16,17 @@ use independent::generate::model::{FileModel, MethodModel};
 use independent::ledger::{Call, Entry};
 
 pub const CHAIN: &str = "a kind-0 chain of 7 × 64 names above classes of 13 bytes";
+pub const CHAIN_DECLARED: &str = "the chain, a method of its own in each class below it";
 pub const CHAIN_LISTS: &str = "the same with fewer names and lists of 32 indexes";
 pub const LISTS_BY_TURNS: &str =
     "lists of 32 indexes, the running methods in two packages by turns";
 pub const LISTS_REVERSED: &str = "lists of 32 indexes, the domains in the other order";
 pub const TURNS_REVERSED: &str = "by turns, the domains in the other order";
 pub const TURNS_TWICE: &str = "by turns, each domain twice, and listed by its second place";
+pub const REVERSED_DECLARED: &str =
+    "by turns, the domains in the other order, a method of its own in each class";
+pub const TWICE_DECLARED: &str =
+    "by turns, each domain twice, a method of its own in each class below";
 pub const OWN_ALONE: &str = "the chain, FE alone in each list";
 pub const OWN_REPEATED: &str = "lists of FE 32 times";
 pub const OWN_FIRST: &str = "lists of FE and 31 indexes";
@@ -45,7 +51,7 @@ pub const CHAIN_SECOND: &str = "the chain in version 2";
 pub const CALLED_SECOND: &str = "the references called, in 16 handlers' ranges";
 pub const CHAIN_DEEP: &str = "limits 16 and 8: a chain of 15 × 64 names, 8 parents a level";
 pub const TURNS_DEEP: &str =
-    "limits 16 and 8: by turns, each domain twice, and listed by its second place";
+    "limits 16 and 8: by turns, each domain twice, a method of its own in each class below";
 pub const BELOW_DEEP: &str = "limits 16 and 8: small packages below a ladder of 15 levels";
 pub const CROSSING_DEEP: &str = "limits 16 and 8: parents crossing eight packages a level";
 pub const LONGEST_HANDLERS: &str = "codes of 32,767 and 32,400 bytes, 16 handlers each";
@@ -65,6 +71,7 @@ pub const CHAIN_SIZES: [usize; 4] = [8, 16, 32, 64];
 /// All of them, in the order of the table.
 pub fn all() -> Vec<Workload> {
     let mut found: Vec<Workload> = CHAIN_SIZES.iter().map(|kb| chain(*kb)).collect();
+    found.push(chain_declared());
     found.push(chain_of_lists(CHAIN_LISTS, Lists::alike()));
     found.push(chain_of_lists(LISTS_REVERSED, Lists::reversed()));
     found.push(lists_by_turns(
@@ -77,6 +84,14 @@ pub fn all() -> Vec<Workload> {
     ));
     found.push(lists_by_turns(
         TURNS_TWICE,
+        [Lists::twice(), Lists::twice()],
+    ));
+    found.push(turns_declared(
+        REVERSED_DECLARED,
+        [Lists::reversed(), Lists::reversed()],
+    ));
+    found.push(turns_declared(
+        TWICE_DECLARED,
         [Lists::twice(), Lists::twice()],
     ));
     found.push(own_alone());

@@ -2,7 +2,7 @@
 //! compares the lists of the methods that run with those of all interfaces above.
 
 use crate::hostile::{aid, asked, filled, packed, packed_in, runs, start, workload};
-use crate::hostile::{CHAIN, LARGEST, OWN_ALONE};
+use crate::hostile::{CHAIN, CHAIN_DECLARED, LARGEST, OWN_ALONE};
 use crate::hostile_lists::Lists;
 use crate::ordinary::domain;
 use crate::workloads::{used, Workload};
@@ -88,14 +88,45 @@ impl Level {
     }
 }
 
+/// The classes below all others: so many parents, the first of them this class, by the number of its
+/// package and its own, the others interfaces; and whether each declares a method of its own.
+struct Below {
+    parents: usize,
+    above: (usize, u8),
+    declares: bool,
+}
+
+impl Below {
+    fn of(parents: usize, above: (usize, u8)) -> Self {
+        let declares = false;
+        Below {
+            parents,
+            above,
+            declares,
+        }
+    }
+
+    /// Class i. Its method has a name that no other class has, and no code: four bytes, and what runs
+    /// for each class differs.
+    fn class(&self, i: u8) -> ClassModel {
+        let four = [
+            (1, self.above.1),
+            (2, i % 4),
+            (2, (i + 1) % 4),
+            (2, (i + 2) % 4),
+        ];
+        let method = self.declares.then(|| asked(0x7000 + u16::from(i), &[]));
+        ClassModel::new(0, &four[..self.parents], method.into_iter().collect())
+    }
+}
+
 /// Up to so many levels of interfaces by turns, in about half of the store; then packages of 32 classes
-/// below a class, by the number of its package and its own, and one interface or three.
+/// below these.
 fn below_class(
     mut entries: Vec<Entry>,
     length: usize,
     (levels, most): (&[Level], usize),
-    parents: usize,
-    above: (usize, u8),
+    below: &Below,
 ) -> Vec<Entry> {
     let mut last = 1;
     for level in 0..most {
@@ -108,19 +139,17 @@ fn below_class(
         last += 1;
     }
     filled(entries, length, |k| {
-        let four = |i: u8| [(1, above.1), (2, i % 4), (2, (i + 1) % 4), (2, (i + 2) % 4)];
-        let class = |i| ClassModel::new(0, &four(i)[..parents], vec![]);
         packed(FileModel {
             aid: aid(100 + k),
-            imports: vec![aid(above.0), aid(last)],
-            classes: (0..32).map(class).collect(),
+            imports: vec![aid(below.above.0), aid(last)],
+            classes: (0..32).map(|i| below.class(i)).collect(),
             ..FileModel::default()
         })
     })
 }
 
 /// A chain with as many names as there is room for, each with this list.
-fn chain_with(name: &'static str, kb: usize, list: &[u8]) -> Workload {
+fn chain_with(name: &'static str, kb: usize, list: &[u8], declares: bool) -> Workload {
     let length = (1024 * kb).min(LARGEST);
     let (names, count) = if kb == 8 { (16, 8) } else { (64, 16) };
     let mut entries = start();
@@ -134,7 +163,11 @@ fn chain_with(name: &'static str, kb: usize, list: &[u8]) -> Workload {
         asking: list.to_vec(),
     };
     let levels = (&[level][..], levels_most(Limits::STANDARD));
-    let entries = below_class(entries, length, levels, 2, (1, CLASSES - 1));
+    let below = Below {
+        declares,
+        ..Below::of(2, (1, CLASSES - 1))
+    };
+    let entries = below_class(entries, length, levels, &below);
     workload(name, &entries, length)
 }
 
@@ -155,16 +188,21 @@ pub(crate) fn deep_chain(name: &'static str, kb: usize) -> Workload {
     entries.push(chain_package(classes, names, vec![], &[]));
     let levels = (&[level][..], usize::from(classes));
     let room = length - Limits::BYTES;
-    let entries = below_class(entries, room, levels, 2, (1, classes - 1));
+    let entries = below_class(entries, room, levels, &Below::of(2, (1, classes - 1)));
     workload(name, &entries, length)
 }
 
 pub(crate) fn chain(kb: usize) -> Workload {
-    chain_with(CHAIN, kb, &[])
+    chain_with(CHAIN, kb, &[], false)
+}
+
+/// The same, each class below with a method of its own.
+pub(crate) fn chain_declared() -> Workload {
+    chain_with(CHAIN_DECLARED, 64, &[], true)
 }
 
 pub(crate) fn own_alone() -> Workload {
-    chain_with(OWN_ALONE, 64, &[OWN])
+    chain_with(OWN_ALONE, 64, &[OWN], false)
 }
 
 pub(crate) fn chain_of_lists(name: &'static str, lists: Lists) -> Workload {
@@ -172,22 +210,32 @@ pub(crate) fn chain_of_lists(name: &'static str, lists: Lists) -> Workload {
     let mut entries = start();
     entries.push(chain_package(CLASSES, 4, lists.running, &lists.listed));
     let levels = (&[level][..], levels_most(Limits::STANDARD));
-    let entries = below_class(entries, LARGEST, levels, 4, (1, CLASSES - 1));
+    let entries = below_class(entries, LARGEST, levels, &Below::of(4, (1, CLASSES - 1)));
     workload(name, &entries, LARGEST)
 }
 
 /// The same where the methods that run lie in two packages by turns, and the interfaces
 /// in the homes of both.
 pub(crate) fn lists_by_turns(name: &'static str, lists: [Lists; 2]) -> Workload {
-    turns_within(name, &lists, Limits::STANDARD, LARGEST)
+    turns_within(name, &lists, Limits::STANDARD, false)
+}
+
+/// The same, each class below with a method of its own.
+pub(crate) fn turns_declared(name: &'static str, lists: [Lists; 2]) -> Workload {
+    turns_within(name, &lists, Limits::STANDARD, true)
 }
 
 /// The same at the greatest limits; room for these is left.
 pub(crate) fn deep_turns(name: &'static str, lists: [Lists; 2]) -> Workload {
-    turns_within(name, &lists, Limits::GREATEST, LARGEST - Limits::BYTES)
+    turns_within(name, &lists, Limits::GREATEST, true)
 }
 
-fn turns_within(name: &'static str, lists: &[Lists; 2], limits: Limits, room: usize) -> Workload {
+fn turns_within(
+    name: &'static str,
+    lists: &[Lists; 2],
+    limits: Limits,
+    declares: bool,
+) -> Workload {
     let levels = [Level::of(&lists[0], limits), Level::of(&lists[1], limits)];
     let package = |number: usize, imports, lists: &Lists, parents: &[(u8, u8)], names: [u16; 2]| {
         let methods = names.map(|name| runs(name, Some(&lists.listed)));
@@ -207,6 +255,10 @@ fn turns_within(name: &'static str, lists: &[Lists; 2], limits: Limits, room: us
     entries.push(package(1, vec![], &lists[0], &[], [1, 3]));
     entries.push(package(50, vec![aid(1)], &lists[1], &[(1, 0)], [0, 2]));
     let levels = (&levels[..], levels_most(limits));
-    let entries = below_class(entries, room, levels, 4, (50, 0));
+    let below = Below {
+        declares,
+        ..Below::of(4, (50, 0))
+    };
+    let entries = below_class(entries, LARGEST - Limits::BYTES, levels, &below);
     workload(name, &entries, LARGEST)
 }

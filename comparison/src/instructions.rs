@@ -1,7 +1,7 @@
 //! Instructions of single calls, counted by valgrind.
 
 use crate::library::Library;
-use crate::timing::timed;
+use crate::timing::called;
 use crate::workloads;
 use independent::loader::{Independent, Loader};
 use std::process::Command;
@@ -15,7 +15,7 @@ pub fn once(workload: &str, reader: &str, count: &str) {
         _ => &Independent,
     };
     for _ in 0..count.parse().expect("a count") {
-        timed(loader, &all[number]);
+        called(loader, &all[number], 1);
     }
 }
 

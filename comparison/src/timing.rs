@@ -60,19 +60,34 @@ pub fn measure(workloads: &[Workload], rounds: usize) -> Vec<Times> {
     all
 }
 
+/// Calls on a store of less bytes than this take no longer than reading the clock does.
+const SHORT: usize = 1_024;
+
+/// So many of these are timed together; each leaves the store as it is.
+const TOGETHER: u32 = 1_000;
+
 /// The time of the call alone, over a new copy of the store.
-pub fn timed(loader: &dyn Loader, workload: &Workload) -> Duration {
+fn timed(loader: &dyn Loader, workload: &Workload) -> Duration {
+    let calls = if workload.store.len() < SHORT {
+        TOGETHER
+    } else {
+        1
+    };
+    called(loader, workload, calls) / calls
+}
+
+/// The time of so many calls over a new copy of the store, each with the number that the
+/// workload has.
+pub fn called(loader: &dyn Loader, workload: &Workload, calls: u32) -> Duration {
     let mut store = workload.store.clone();
-    let start = Instant::now();
-    let answer = loader.call(&mut store, &workload.call);
-    let spent = start.elapsed();
     let number = u32::from(workload.number);
-    assert_eq!(
-        answer & 0xFF,
-        number,
-        "{}, {}",
-        workload.name,
-        workload.size
-    );
+    let mut wrong = 0;
+    let start = Instant::now();
+    for _ in 0..calls {
+        let answer = loader.call(&mut store, &workload.call);
+        wrong += u32::from(answer & 0xFF != number);
+    }
+    let spent = start.elapsed();
+    assert_eq!(wrong, 0, "{}, {}", workload.name, workload.size);
     spent
 }
