@@ -49,11 +49,14 @@ fn domains_large(s: &[u8], used: usize) -> bool
     domains::domains_ok(s, used, &mut table)
 }
 
-// Questions 3 to 5 of the entries of a store.
+// Questions 3 to 5 of the entries of a store. Where there is no entry no table is made.
 fn domains_sound(s: &[u8], used: usize) -> bool
     requires { ⌜ StandFrom (now s) (firstEntry (now s)) used × (length (now s) ≤ 65535) ⌝ }
     ensures { λ r. ⌜ AllSay (now (s .entry)) used r ⌝ }
 {
+    if used <= openings::first_entry(s) {
+        return true;
+    }
     if s.len() <= 8192 {
         return domains_small(s, used);
     }
@@ -124,12 +127,15 @@ fn packages_deep_large(s: &[u8], used: usize) -> bool
     judge::packages_sound(s, used, &mut index, &mut depths, &mut names, &mut seen)
 }
 
-// The other questions of the entries of a store.
+// The other questions of the entries of a store. Where there is no entry no table is made.
 fn packages_sound(s: &[u8], used: usize) -> bool
     requires { ⌜ StandFrom (now s) (firstEntry (now s)) used × DomainsYes (now s) used ⌝ }
     requires { ⌜ length (now s) ≤ 65535 ⌝ }
     ensures { λ r. ⌜ PackagesSay (now (s .entry)) used r ⌝ }
 {
+    if used <= openings::first_entry(s) {
+        return true;
+    }
     let limits = openings::limits_of(s);
     if limits.depth <= 8 {
         if s.len() <= 8192 {
