@@ -66,13 +66,13 @@ impl Measured {
         println!("|---|---|---:|---:|---:|---:|---:|---:|");
         for (workload, times) in self.workloads.iter().zip(&self.times) {
             println!(
-                "| {} | {} | {:.1} | {:.1} | {:.1} | {:.1} | {:.2} | {:.2} |",
+                "| {} | {} | {} | {} | {} | {} | {:.2} | {:.2} |",
                 workload.name,
                 workload.size,
-                times.library.best(),
-                times.library.median(),
-                times.independent.best(),
-                times.independent.median(),
+                microseconds(times.library.best()),
+                microseconds(times.library.median()),
+                microseconds(times.independent.best()),
+                microseconds(times.independent.median()),
                 times.ratio(),
                 times.median_ratio()
             );
@@ -120,6 +120,15 @@ impl Measured {
             aim("codes alone: ratio", codes, 0.9),
             aim("every workload: the greatest ratio", worst, 1.0),
         ]
+    }
+}
+
+/// With more places where the time is short.
+fn microseconds(time: f64) -> String {
+    if time < 1.0 {
+        format!("{time:.3}")
+    } else {
+        format!("{time:.1}")
     }
 }
 
