@@ -8,6 +8,7 @@ pub mod Package
 pub mod Entries
 pub mod Store
 pub mod Classes
+pub mod Search
 pub mod Questions
 pub mod Operations
 pub mod Ledger
