@@ -31,6 +31,16 @@
  * none. A call that a handler guards, or that stands where it goes on, is a call
  * of its method like any other.
  *
+ * Calls. A call names a class and a method's name. The class need not declare the
+ * name itself. It is searched for in the class and its parents of kind 0 upwards,
+ * then in the interfaces of each of these in turn, depth first and in listed order,
+ * an interface before its own parents. The first class that declares the name ends
+ * the search, whatever the form of its declaration: a static one or one that is not
+ * visible hides those behind it. The call means this declaration; 18 and 19 ask
+ * about it. It may lie in a package that the file does not import itself. 8B may end
+ * at an interface's declaration where the class named is of kind 0, and 8E may name
+ * such a class. The receivers of 8B and 8E are the classes at or below the one named.
+ *
  * Domains without int. Door readers run the Java Card subset without int, the
  * type of 32 bits. A domain that loader_create_without_int creates is of kind 3:
  * its packages must keep to this subset. A load into it refuses a file with a
@@ -109,7 +119,7 @@
  * operation takes about 0.06 ms over a full store of 8,192 bytes and 0.5 ms over
  * one of 65,535. These are no bounds. Packages can be made for the purpose of
  * taking longer: an operation over the slowest store of 65,535 bytes that was
- * found takes 1 to 3 seconds, with larger limits (see below) 3 to 5. For each
+ * found takes 6 seconds, with larger limits (see below) 7. For each
  * package judged the time is at most a constant times its file's bytes times the
  * bytes of the packages that it imports, directly or not. It does not grow with
  * the number of ways up through the classes, whatever the limits.
@@ -126,12 +136,12 @@
  *                                  8,192   longer      8,192   longer
  *     loader_fresh                   300      300        300      300
  *     loader_fresh_limits            300      300        300      300
- *     loader_create                7,920   18,430     16,270   28,210
- *     loader_create_without_int    7,920   18,430     16,270   28,210
- *     loader_delete                7,920   18,430     16,270   28,210
- *     loader_load                  7,920   18,430     16,270   28,210
- *     loader_remove                7,920   18,430     16,270   28,210
- *     loader_query                 7,920   18,430     16,270   28,210
+ *     loader_create                8,640   19,140     16,270   28,210
+ *     loader_create_without_int    8,640   19,140     16,270   28,210
+ *     loader_delete                8,640   19,140     16,270   28,210
+ *     loader_load                  8,640   19,140     16,270   28,210
+ *     loader_remove                8,640   19,140     16,270   28,210
+ *     loader_query                 8,640   19,140     16,270   28,210
  *
  * Linking. libloader.a is for x86-64 Linux. It needs one function from outside:
  * memset, as C99 has it. This header compiles where int has 16 bits or more, and
@@ -160,9 +170,12 @@ extern "C" {
  * library before 1.4, a store of version 2 is not sound. Since 1.5 domains may be
  * of kind 3, loader_create_without_int creates them, and a load into one may be
  * refused with 26. To a library before 1.5, a store that has one is not sound.
+ * Since 1.6 a call may name a class that inherits the method; before, it was refused
+ * with 18. To a library before 1.6, a store that holds a package with such a call is
+ * not sound.
  */
 #define LOADER_VERSION_MAJOR 1u
-#define LOADER_VERSION_MINOR 5u
+#define LOADER_VERSION_MINOR 6u
 #define LOADER_VERSION (LOADER_VERSION_MAJOR * 256u + LOADER_VERSION_MINOR)
 
 /* The number of an answer: the question that was answered no. 22, 23, 25 and 27 to 29 are no
@@ -208,10 +221,12 @@ enum loader_number {
     LOADER_CODE_SPLIT = 16,
     /* Is each branch target an offset where an instruction starts? */
     LOADER_BRANCH_TARGET = 17,
-    /* Does each call's reference exist and name a class that declares it, visible if imported;
-       for 8B non-static of kind 0, 8C implemented, 8D static, 8E non-static of kind 1? */
+    /* Does each call's reference exist, and does the search from the class that it names end at a
+       declaration, visible if it lies outside the file; for 8B non-static and the class named of
+       kind 0, 8C implemented, 8D static, 8E non-static of kind 1? */
     LOADER_CALL_REFERENCE = 18,
-    /* Does the method each call names allow the loading domain and all that the caller allows? */
+    /* Does the declaration that each call means allow the loading domain and all that the caller
+       allows? */
     LOADER_CALL_POLICY = 19,
     /* For each own class B and n, does the method that runs allow all that each non-static n of B
        and its ancestors allows? */

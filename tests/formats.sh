@@ -2,7 +2,7 @@
 # formats.sh: the figures of docs/FORMATS.md on the static library. The dumps are contiguous, load, and are refused with bytes of
 # their opening changed; every limit holds at its value and is refused one past it, in a store of version 1 and with the limits that
 # one of version 2 chooses; these are taken at the edges of their ranges and refused one past them, given and stored; lengths,
-# branches, calls and last instructions of all opcodes are those of the tables; the codes and handlers are answered as said, and a
+# branches, calls and last instructions of all opcodes are those of the tables; the codes, calls and handlers are answered as said, and a
 # store that holds a handler is sound where its load is accepted, and only there; a domain without int bars just the opcodes of the
 # table, and a store that holds a code in such a domain is sound where its load is accepted, and only there.
 #
@@ -63,6 +63,32 @@ marked() {
     list '^[1-5]$' | sort | while read -r opcode; do
         if grep -qx "$opcode" "$out/list"; then echo "$1 $2 $opcode"; else echo "$1 0 $opcode"; fi
     done
+}
+
+# called OPCODE CLASS NAME: a file of the page's classes and a method that makes this call
+called() {
+    rows Class | awk -F '|' -v opcode="$1" -v class="$2" -v name="$3" '
+        {
+            record = $2 == "interface" ? "01" : "00"
+            n = $3 == "none" ? 0 : split($3, parents, ", ")
+            record = record sprintf("%02X", n)
+            for (i = 1; i <= n; i++) record = record sprintf("00%02X", parents[i])
+            n = $4 == "none" ? 0 : split($4, methods, "; ")
+            record = record sprintf("%02X", n)
+            for (i = 1; i <= n; i++) {
+                method = methods[i]
+                allowed = sub(/ for nobody$/, "", method) ? "00" : "FF"
+                bits = sub(/^static /, "", method) ? "E0" : sub(/ without code$/, "", method) || $2 == "interface" ? "80" : "C0"
+                record = record bits sprintf("%04X", method) allowed (bits == "80" ? "" : "00017A")
+            }
+            classes = classes record
+        }
+        END {
+            code = opcode == "8E" ? "8E000000007A" : opcode "00007A"
+            caller = "000001E0000100" sprintf("%04X", length(code) / 2) code
+            rest = "05C0C0C0C0C000000001" "00" sprintf("%02X%04X", class, name) sprintf("%02X", NR + 1) classes caller
+            print "42504B0001" sprintf("%04X", length(rest) / 2 + 7) rest
+        }'
 }
 
 {
@@ -160,6 +186,7 @@ marked() {
     marked call 1 '^call the reference'
     marked last 1 'may be the last'
     rows Code | sed 's/^\([^|]*\)|\([^|]*\).*/code \2 \1/'
+    rows 'Call by' | while IFS='|' read -r opcode class name number; do echo "load $number $(called "$opcode" "$class" "$name")"; done
     code=$(sed -n 's/^Handlers of the code `\([0-9A-F ]*\)`.*/\1/p' "$page")
     rows Start | while IFS='|' read -r start end target number; do echo "handler $number $start $end $target $code"; done
     rows 'Code without int' | sed 's/^\([^|]*\)|\([^|]*\).*/subset \2 \1/'
@@ -219,4 +246,4 @@ for kind in limit chosen fresh load store length branch call last code handler s
 done
 "$out/formats" <"$out/lines" >"$out/said" || fail "the library says otherwise:" "$out/said"
 
-echo "ok formats: $(cat "$out/said") of the page's limits, chosen limits, dumps, instructions, codes, handlers and kinds of domains"
+echo "ok formats: $(cat "$out/said") of the page's limits, chosen limits, dumps, instructions, codes, calls, handlers and kinds of domains"

@@ -1,5 +1,5 @@
 //! How often each operation answered each number, loads by their depth figure, and what
-//! FE, handlers, limits and kinds of domains decided.
+//! FE, handlers, limits, kinds of domains and searches for declarations decided.
 
 use independent::depths::DepthCounts;
 use independent::handler_counts::HandlerCounts;
@@ -10,6 +10,7 @@ use independent::limits::Limits;
 use independent::loader::{Independent, Loader};
 use independent::own_domain::OwnCounts;
 use independent::questions::NUMBERS;
+use independent::search_counts::SearchCounts;
 use std::cell::RefCell;
 
 const GREATEST: usize = NUMBERS[NUMBERS.len() - 1] as usize;
@@ -39,6 +40,7 @@ pub struct Counts {
     handlers: HandlerCounts,
     limits: LimitCounts,
     int: IntCounts,
+    search: SearchCounts,
     /// Queries answered yes.
     yes: u64,
 }
@@ -52,6 +54,7 @@ impl Counts {
         if matches!(operation, LOAD | QUERY) {
             self.own.note(call, answer, store);
             self.handlers.note(call, answer, store);
+            self.search.note(call, answer, store);
         }
         self.limits.note(call, answer, store);
         self.int.note(call, answer, store);
@@ -90,12 +93,12 @@ impl Counts {
         let (yes, queries) = (self.yes, self.answers[QUERY][0]);
         println!("{yes} of {queries} queries answered yes");
         println!("{}\n{}\n{}", self.own, self.handlers, self.limits);
-        println!("{}", self.int);
+        println!("{}\n{}", self.int, self.search);
     }
 
     /// What falls short of this many answers of each number, this many accepted loads by
-    /// each depth and origin, this many decisions of each kind by FE, by handlers, by limits
-    /// and by kinds of domains, and a fifth of loads accepted.
+    /// each depth and origin, this many decisions of each kind by FE, by handlers, by limits,
+    /// by kinds of domains and by searches, and a fifth of loads accepted.
     pub fn shortfalls(&self, least: u64) -> Vec<String> {
         let mut found = Vec::new();
         for (operation, numbers) in CAN_ANSWER.iter().enumerate() {
@@ -115,6 +118,7 @@ impl Counts {
         found.extend(self.handlers.shortfalls(least));
         found.extend(self.limits.shortfalls(least));
         found.extend(self.int.shortfalls(least));
+        found.extend(self.search.shortfalls(least));
         found
     }
 }

@@ -8,6 +8,7 @@ use independent::generate::kind_cases;
 use independent::generate::limit_cases;
 use independent::generate::lineages::lineages;
 use independent::generate::own_pairs::own_pairs;
+use independent::generate::search_cases;
 use independent::generate::special;
 use independent::loader::Sequence;
 use independent::package::Version;
@@ -30,6 +31,7 @@ pub fn groups(seed: u64) -> Vec<Group> {
     found.extend(of_version_2());
     found.extend(of_limits());
     found.extend(of_kinds());
+    found.extend(of_searches());
     found.extend(given());
     found.extend(seeded(seed));
     found
@@ -108,6 +110,24 @@ fn of_kinds() -> Vec<Group> {
         group(
             "packages that call across kinds",
             kind_cases::meetings().into_iter(),
+        ),
+    ]
+}
+
+/// Calls that name inheriting classes.
+fn of_searches() -> Vec<Group> {
+    vec![
+        group(
+            "a name declared in every choice of a hierarchy's classes",
+            search_cases::places().into_iter(),
+        ),
+        group(
+            "declarations in every form, called in every way",
+            search_cases::all_forms().into_iter(),
+        ),
+        group(
+            "inherited declarations and callers with lists in every way",
+            search_cases::lists().into_iter(),
         ),
     ]
 }

@@ -8,6 +8,7 @@ use crate::hostile_handlers::{in_second, long_codes, short_codes};
 use crate::hostile_kinds::with_kinds;
 use crate::hostile_limits::with_limits;
 use crate::hostile_lists::Lists;
+use crate::hostile_searches::with_searches;
 use crate::hostile_tables::{below, crossing, domains, maps, names, packages, references};
 use crate::hostile_tables::{shuffle, Levels};
 use crate::ordinary::domain;
@@ -65,6 +66,26 @@ pub const PLAIN_CODES: &str = "the longest codes of one-byte instructions, witho
 pub const TYPED_CODES: &str = "the longest codes of 90 0C, without int";
 pub const LONGEST_PLAIN: &str = "codes of 32,767 and 32,600 one-byte instructions, without int";
 
+pub const SEARCH_TREE: &str =
+    "1,024 references a file, each called, through a tree of 5,460 interfaces, 4 parents each";
+pub const SEARCH_LADDER: &str = "the same through 7 levels of interfaces, 4 parents each";
+pub const SEARCH_CROSSING: &str = "the same, the parents of each in packages far apart";
+pub const SEARCH_NAMES: &str = "the same through fewer interfaces, 8 other names in each";
+pub const SEARCH_CHAIN: &str =
+    "1,024 references a file, each called, up a kind-0 chain of 8 × 64 names";
+pub const SEARCH_TWO: &str = "thousands of calls of two references by turns, through the 7 levels";
+pub const SEARCH_NONE: &str = "load 1,024 references, each called, the last of them naming nothing";
+pub const SEARCH_DEEP: &str =
+    "limits 16 and 8: 1,024 references a file, each called, through 15 levels";
+pub const SEARCH_DEEP_CROSSING: &str =
+    "limits 16 and 8: the same, the parents of each in packages far apart";
+pub const SEARCH_DEEP_CHAIN: &str =
+    "limits 16 and 8: 1,024 references a file, each called, up a kind-0 chain of 16 × 64 names";
+pub const SEARCH_DEEP_TWO: &str =
+    "limits 16 and 8: thousands of calls of two references by turns, through the 15 levels";
+pub const SEARCH_DEEP_NONE: &str =
+    "limits 16 and 8: load 1,024 references, each called, the last of them naming nothing";
+
 /// The sizes of the chain's stores, for its growth.
 pub const CHAIN_SIZES: [usize; 4] = [8, 16, 32, 64];
 
@@ -114,6 +135,7 @@ pub fn all() -> Vec<Workload> {
     found.extend(with_handlers());
     found.extend(with_limits());
     found.extend(with_kinds());
+    found.extend(with_searches());
     found
 }
 

@@ -1,7 +1,7 @@
 //! Instructions of single calls, counted by valgrind.
 
 use crate::library::Library;
-use crate::timing::called;
+use crate::timing::{as_expected, called};
 use crate::workloads;
 use independent::loader::{Independent, Loader};
 use std::process::Command;
@@ -28,7 +28,9 @@ pub fn print() {
     };
     println!("| What | Size | Library | Independent | Ratio |");
     println!("|---|---|---:|---:|---:|");
-    for (number, workload) in workloads::all().iter().enumerate() {
+    let all = workloads::all();
+    let timed = all.iter().enumerate().filter(|(_, w)| as_expected(w));
+    for (number, workload) in timed {
         let (name, size) = (workload.name, &workload.size);
         let of = |reader| Some(counted(number, reader, 1)? - without);
         if let (Some(library), Some(independent)) = (of("library"), of("independent")) {

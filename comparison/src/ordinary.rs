@@ -10,9 +10,9 @@ use independent::without_int::DomainKind;
 /// How many bytes a code has at least, where nothing else is asked for.
 pub const CODE: usize = 24;
 
-const VISIBLE: u8 = 0x80;
-const BODY: u8 = 0xC0;
-const STATIC_BODY: u8 = 0xE0;
+pub(crate) const VISIBLE: u8 = 0x80;
+pub(crate) const BODY: u8 = 0xC0;
+pub(crate) const STATIC_BODY: u8 = 0xE0;
 
 /// The AID of a domain.
 pub fn domain(number: usize) -> Vec<u8> {
@@ -48,7 +48,7 @@ impl Own {
     }
 
     /// A list of the own domain.
-    fn closed(self) -> &'static [u8] {
+    pub(crate) fn closed(self) -> &'static [u8] {
         match self {
             Own::Index => &[0],
             Own::Fe => &[OWN],
@@ -56,7 +56,7 @@ impl Own {
     }
 
     /// A list of the own domain and the next.
-    fn shared(self) -> &'static [u8] {
+    pub(crate) fn shared(self) -> &'static [u8] {
         match self {
             Own::Index => &[0, 1],
             Own::Fe => &[OWN, 0],
@@ -64,18 +64,18 @@ impl Own {
     }
 }
 
-struct Draft<'r> {
-    random: &'r mut Random,
-    model: FileModel,
-    own: Own,
+pub(crate) struct Draft<'r> {
+    pub random: &'r mut Random,
+    pub model: FileModel,
+    pub own: Own,
     /// The kind of domain whose instructions the codes have.
     kind: DomainKind,
     /// The least length of a code.
     code: usize,
     /// Calls that every method may have, and those for methods that only allow
     /// the loading domain.
-    open: Vec<(u8, (u8, u8, u16))>,
-    closed: Vec<(u8, (u8, u8, u16))>,
+    pub open: Vec<(u8, (u8, u8, u16))>,
+    pub closed: Vec<(u8, (u8, u8, u16))>,
 }
 
 /// The package of this number, with this many groups of three classes, over earlier
@@ -89,8 +89,14 @@ pub fn ordinary_of(kind: DomainKind, number: usize) -> FileModel {
     drafted(number, 1, CODE, Own::Index, kind)
 }
 
-fn drafted(number: usize, groups: u8, code: usize, own: Own, kind: DomainKind) -> FileModel {
-    let random = &mut Random::new(number as u64);
+/// The package of this number without classes and calls yet.
+pub(crate) fn begun(
+    random: &mut Random,
+    number: usize,
+    code: usize,
+    own: Own,
+    kind: DomainKind,
+) -> Draft<'_> {
     let mut model = FileModel {
         aid: package(number),
         domains: own.domains(number),
@@ -101,7 +107,7 @@ fn drafted(number: usize, groups: u8, code: usize, own: Own, kind: DomainKind) -
             model.imports.push(package(random.between(1, number - 1)));
         }
     }
-    let mut draft = Draft {
+    Draft {
         random,
         open: Vec::new(),
         closed: Vec::new(),
@@ -109,7 +115,12 @@ fn drafted(number: usize, groups: u8, code: usize, own: Own, kind: DomainKind) -
         own,
         kind,
         code,
-    };
+    }
+}
+
+fn drafted(number: usize, groups: u8, code: usize, own: Own, kind: DomainKind) -> FileModel {
+    let random = &mut Random::new(number as u64);
+    let mut draft = begun(random, number, code, own, kind);
     for import in 1..=draft.model.imports.len() as u8 {
         draft.open.push((0x8D, (import, 0, 2)));
         draft.open.push((0x8B, (import, 0, 1)));
@@ -152,7 +163,7 @@ impl Draft<'_> {
         classes.push(ClassModel::new(0, &parents, derived));
     }
 
-    fn method(&mut self, bits: u8, name: u16, allowed: Option<&[u8]>) -> MethodModel {
+    pub(crate) fn method(&mut self, bits: u8, name: u16, allowed: Option<&[u8]>) -> MethodModel {
         let code = match bits {
             VISIBLE => Vec::new(),
             _ => self.body(allowed == Some(self.own.closed())),

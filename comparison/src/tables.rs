@@ -4,6 +4,7 @@ use crate::hostile;
 use crate::ordinary_handlers as handled;
 use crate::ordinary_kinds as kinds;
 use crate::ordinary_limits as limited;
+use crate::ordinary_searches as searches;
 use crate::stack::Peaks;
 use crate::timing::Times;
 use crate::workloads::{self as named, Workload};
@@ -97,7 +98,13 @@ impl Measured {
             kinds::QUARTER,
             kinds::HALF,
             kinds::ALL,
+            searches::LOAD,
+            searches::QUERY,
         ] {
+            // What the library does not answer as it should was left out.
+            if !self.workloads.iter().any(|w| w.name == name) {
+                continue;
+            }
             let (small, large) = (self.of(name, "8 KB"), self.of(name, "64 KB"));
             let library = large.library.best() / small.library.best();
             let independent = large.independent.best() / small.independent.best();

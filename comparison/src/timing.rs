@@ -39,6 +39,17 @@ impl Times {
     }
 }
 
+/// Does the library answer the number that the workload has? Where it does not, says so.
+pub fn as_expected(workload: &Workload) -> bool {
+    let answer = Library.call(&mut workload.store.clone(), &workload.call);
+    let (answered, expected) = (answer & 0xFF, u32::from(workload.number));
+    if answered != expected {
+        let (name, size) = (workload.name, &workload.size);
+        eprintln!("left out: {name}, {size}: the library answers {answered}, not {expected}");
+    }
+    answered == expected
+}
+
 /// Times every workload once a round, with the one and the other reader first.
 pub fn measure(workloads: &[Workload], rounds: usize) -> Vec<Times> {
     let mut all: Vec<Times> = workloads.iter().map(|_| Times::default()).collect();

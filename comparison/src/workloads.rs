@@ -5,6 +5,7 @@ use crate::ordinary::{domain, home, of_codes, of_size, ordinary, package, Own, C
 use crate::ordinary_handlers::with_handlers;
 use crate::ordinary_kinds::{of_domains, with_kinds};
 use crate::ordinary_limits::with_limits;
+use crate::ordinary_searches::with_searches;
 use independent::generate::limits::ladder;
 use independent::generate::model::FileModel;
 use independent::ledger::{Call, Entry, Ledger};
@@ -71,6 +72,7 @@ pub fn all() -> Vec<Workload> {
     found.extend(with_handlers());
     found.extend(with_limits());
     found.extend(with_kinds());
+    found.extend(with_searches());
     found
 }
 

@@ -113,7 +113,8 @@ impl<'a> Contents<'a> {
         *self.domain_numbers.entry(aid).or_insert(next)
     }
 
-    fn class_count(&self) -> usize {
+    /// How many classes the packages have.
+    pub fn class_count(&self) -> usize {
         self.packages
             .last()
             .map_or(0, |last| last.classes_before + last.package.classes.len())
@@ -136,8 +137,19 @@ impl<'a> Contents<'a> {
         &self.class(place.class).methods[place.method]
     }
 
-    fn lineage(&self, place: Place) -> &Lineage {
+    pub fn lineage(&self, place: Place) -> &Lineage {
         &self.packages[place.package].lineages[place.class]
+    }
+
+    /// The number of a class among those of all packages.
+    pub fn class_number(&self, place: Place) -> usize {
+        self.packages[place.package].classes_before + place.class
+    }
+
+    /// The method of this name that the class itself declares.
+    pub fn declared(&self, class: Place, name: u16) -> Option<MethodPlace> {
+        let method = self.class(class).method_named(name)?;
+        Some(MethodPlace { class, method })
     }
 
     /// The class that package and class numbers in an installed file stand for.
@@ -159,7 +171,7 @@ impl<'a> Contents<'a> {
         while let Some(&class) = found.get(next) {
             next += 1;
             for &parent in &self.lineage(class).parents {
-                let number = self.packages[parent.package].classes_before + parent.class;
+                let number = self.class_number(parent);
                 if !seen[number] {
                     seen[number] = true;
                     found.push(parent);
@@ -169,18 +181,28 @@ impl<'a> Contents<'a> {
         found
     }
 
-    /// The kind-0 parent of a kind-0 class.
+    /// The kind-0 parent of a class.
     fn class_parent(&self, place: Place) -> Option<Place> {
         let parents = &self.lineage(place).parents;
         parents.iter().copied().find(|&p| !self.class(p).interface)
+    }
+
+    /// The class and its kind-0 parents upwards.
+    pub fn chain(&self, class: Place) -> impl Iterator<Item = Place> + '_ {
+        std::iter::successors(Some(class), |&below| self.class_parent(below))
+    }
+
+    /// The interfaces among a class's parents, in listed order.
+    pub fn interfaces(&self, class: Place) -> impl Iterator<Item = Place> + '_ {
+        let parents = self.lineage(class).parents.iter().copied();
+        parents.filter(|&parent| self.class(parent).interface)
     }
 
     /// For a kind-0 class and each name that it or a kind-0 ancestor declares
     /// non-static, sorted by name: the method that runs, or none.
     pub fn running(&self, class: Place) -> Vec<(u16, Option<MethodPlace>)> {
         let mut found = Vec::new();
-        let mut next = Some(class);
-        while let Some(class) = next {
+        for class in self.chain(class) {
             for (number, method) in self.class(class).methods.iter().enumerate() {
                 if !method.is_static {
                     let place = MethodPlace {
@@ -190,7 +212,6 @@ impl<'a> Contents<'a> {
                     found.push((method.name, method.implemented().then_some(place)));
                 }
             }
-            next = self.class_parent(class);
         }
         // The sort keeps the order of equal names, so the first declared stays.
         found.sort_by_key(|&(name, _)| name);
@@ -227,11 +248,11 @@ impl<'a> Contents<'a> {
         self.standing(place, role).allows(number)
     }
 
-    /// Question 19 for one call, the loading domain apart: does the method that it names
+    /// Question 19 for one call, the loading domain apart: does the declaration that it means
     /// allow all that the caller allows?
-    pub fn called_allows(&self, named: MethodPlace, caller: MethodPlace) -> bool {
+    pub fn called_allows(&self, declared: MethodPlace, caller: MethodPlace) -> bool {
         let caller = self.standing(caller, Role::Caller);
-        self.standing(named, Role::Called).allows_all(&caller)
+        self.standing(declared, Role::Called).allows_all(&caller)
     }
 
     /// Question 20 for one method of a class or its ancestors: does the method that runs

@@ -132,6 +132,6 @@ fn opcodes(codes: &[Code], holds: impl Fn(&[u8], usize) -> bool) -> BTreeSet<u8>
 fn calls_barred(contents: &Contents, codes: &[Code]) -> bool {
     let judged = contents.packages.len() - 1;
     let calls = q18(contents, judged, codes).unwrap_or_default();
-    let mut called = calls.iter().map(|call| call.named.class.package);
+    let mut called = calls.iter().map(|call| call.meant.declared.class.package);
     called.any(|package| has_barred(&contents.packages[package].package))
 }

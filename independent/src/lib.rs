@@ -1,4 +1,4 @@
-//! An independent reading of document 01 with requests 2, 5, 7, 9 and 12 of document 02: the
+//! An independent reading of document 01 with requests 2, 3, 5, 7, 9 and 12 of document 02: the
 //! staff card loader.
 
 pub mod bytes;
@@ -22,12 +22,16 @@ mod misread_handlers;
 pub mod misread_int;
 mod misread_kinds;
 pub mod misread_limits;
+pub mod misread_search;
 pub mod misreadings;
 pub mod operations;
 pub mod own_domain;
 pub mod package;
 pub mod policy;
 pub mod questions;
+pub mod search;
+pub mod search_counts;
+mod search_shapes;
 pub mod store;
 pub mod without_int;
 

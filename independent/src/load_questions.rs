@@ -7,6 +7,7 @@ use crate::limits::Limits;
 use crate::misreadings::Misreading;
 use crate::package::{self, Class, Method, Package, Reading, Version};
 use crate::policy::Role;
+use crate::search::{Meanings, Meant};
 use std::borrow::Cow;
 
 /// Does the file begin with mark and version? If so, which version.
@@ -146,16 +147,18 @@ pub fn q17(codes: &[Code]) -> bool {
         .all(|c| code::branches_land(c.bytes, &c.starts))
 }
 
-/// A call in the file: the method whose code has it and the method it names.
+/// A call in the file: the method whose code has it, and what it means.
 pub struct Call {
+    pub kind: CallKind,
     pub caller: MethodPlace,
-    pub named: MethodPlace,
+    pub meant: Meant,
 }
 
-/// Does each call's reference exist and name a class that declares it, visible if
-/// imported; for 8B non-static of kind 0, 8C implemented, 8D static, 8E non-static
-/// of kind 1?
+/// Does each call's reference exist, and does the search from the class that it names end at a
+/// declaration, visible if that lies outside the file; for 8B non-static and the class named of
+/// kind 0, 8C implemented, 8D static, 8E non-static of kind 1?
 pub fn q18(contents: &Contents, judged: usize, codes: &[Code]) -> Option<Vec<Call>> {
+    let mut meanings = Meanings::new(contents, judged);
     let mut found = Vec::new();
     for code in codes {
         let caller = MethodPlace {
@@ -170,46 +173,48 @@ pub fn q18(contents: &Contents, judged: usize, codes: &[Code]) -> Option<Vec<Cal
             Some(wrong) => Cow::Owned(wrong.looked_at(code)),
         };
         for (kind, index) in code::calls(code.bytes, &starts) {
-            let named = named_method(contents, judged, kind, index)?;
-            found.push(Call { caller, named });
+            let meant = match contents.misreading {
+                Some(Misreading::Search(wrong)) => wrong.meant(contents, judged, kind, index)?,
+                _ => Some(meanings.of(index)?).filter(|m| fits(contents, judged, kind, m))?,
+            };
+            found.push(Call {
+                kind,
+                caller,
+                meant,
+            });
         }
     }
     Some(found)
 }
 
-/// The method that a call names, if the call is as question 18 asks.
-fn named_method(
-    contents: &Contents,
-    judged: usize,
-    kind: CallKind,
-    index: usize,
-) -> Option<MethodPlace> {
-    let package = &contents.packages[judged].package;
-    let reference = package.references.get(index)?;
-    let place = contents.class_numbered(judged, reference.package, reference.class)?;
-    let class = contents.class(place);
-    let number = class.method_named(reference.name)?;
-    let method = &class.methods[number];
-    let visible = reference.package == 0 || method.visible;
-    let fits = match kind {
-        CallKind::Virtual => !method.is_static && !class.interface,
-        CallKind::Special => method.implemented(),
-        CallKind::Static => method.is_static,
-        CallKind::Interface => !method.is_static && class.interface,
-    };
-    (visible && fits).then_some(MethodPlace {
-        class: place,
-        method: number,
-    })
+/// Is the declaration as the call asks, and visible if it lies outside the file?
+pub fn fits(contents: &Contents, judged: usize, kind: CallKind, meant: &Meant) -> bool {
+    let outside = meant.declared.class.package != judged;
+    let visible = contents.method(meant.declared).visible || !outside;
+    visible && formed(contents, kind, meant)
 }
 
-/// Does the method each call names allow the loading domain and all that the
-/// caller allows?
+/// The same, visibility apart.
+pub fn formed(contents: &Contents, kind: CallKind, meant: &Meant) -> bool {
+    let method = contents.method(meant.declared);
+    let interface = |class: Place| contents.class(class).interface;
+    match kind {
+        CallKind::Virtual => !method.is_static && !interface(meant.named),
+        CallKind::Special => method.implemented(),
+        CallKind::Static => method.is_static,
+        CallKind::Interface => !method.is_static && interface(meant.declared.class),
+    }
+}
+
+/// Does the declaration that each call means allow the loading domain and all that the caller
+/// allows?
 pub fn q19(contents: &Contents, domain: &[u8], calls: &[Call]) -> bool {
     let loading = contents.domain_number(domain);
     calls.iter().all(|call| {
-        let entered = contents.standing(call.named, Role::Entered);
-        entered.allows(loading) && contents.called_allows(call.named, call.caller)
+        let declared = call.meant.declared;
+        let entered = contents.standing(declared, Role::Entered);
+        let allows = entered.allows(loading) && contents.called_allows(declared, call.caller);
+        allows || contents.misreading.is_some_and(|w| w.passes_19(call))
     })
 }
 

@@ -1,10 +1,11 @@
-//! Wrong readings of FE, of handlers, of limits and of domains without int. Tests show that
-//! generated sequences find them, and counts ask by them on what an answer hangs; the loader
-//! itself uses none.
+//! Wrong readings of FE, of handlers, of limits, of domains without int and of the search for
+//! declarations. Tests show that generated sequences find them, and counts ask by them on what
+//! an answer hangs; the loader itself uses none.
 
 use crate::handler_faults::HandlerFault;
 use crate::misread_int::IntMisreading;
 use crate::misread_limits::LimitMisreading;
+use crate::misread_search::SearchMisreading;
 use crate::policy::{Policy, Role, Standing, OWN};
 
 #[derive(Clone, Copy, Debug, PartialEq, Eq)]
@@ -82,6 +83,9 @@ pub enum Misreading {
 
     /// Something about domains without int.
     WithoutInt(IntMisreading),
+
+    /// Something about the search for declarations.
+    Search(SearchMisreading),
 }
 
 impl Misreading {

@@ -124,7 +124,7 @@ fn calls_pass(contents: &Contents, package: usize) -> bool {
     let installed = &contents.packages[package];
     let codes = q16(&installed.package).unwrap_or_default();
     let mut calls = q18(contents, package, &codes).unwrap_or_default();
-    calls.retain(|call| !in_one_domain(contents, call.caller, call.named));
+    calls.retain(|call| !in_one_domain(contents, call.caller, call.meant.declared));
     q19(contents, installed.domain, &calls)
 }
 

@@ -138,13 +138,16 @@ fn limits_in_a_sequence() {
 
 #[test]
 fn hostile_files() {
-    // The ladder and 40 files below it are accepted with depth 8, one too deep is not, and the ladder stays imported.
+    // The ladder and 40 files below it are accepted with depth 8, one too deep is not, and the
+    // ladder stays imported. Calls find name 0 where the ladder has methods, and 99 nowhere.
     let accepted = 8 << 8;
-    let mut expected = vec![0, 0, 0, accepted, 14];
-    expected.extend([accepted; 40]);
-    expected.push(8);
-    for sequence in special::hostile() {
-        assert_eq!(answers(&sequence), expected);
+    for (number, sequence) in special::hostile().iter().enumerate() {
+        let called = if number == 0 { [18, 7] } else { [accepted, 0] };
+        let mut expected = vec![0, 0, 0, accepted, 14];
+        expected.extend([called, [18, 7]].concat());
+        expected.extend([accepted; 40]);
+        expected.push(8);
+        assert_eq!(answers(sequence), expected);
     }
 }
 

@@ -6,7 +6,7 @@ use comparison::hostile;
 use comparison::instructions;
 use comparison::stack::peaks;
 use comparison::tables::{print_stack, Measured};
-use comparison::timing::measure;
+use comparison::timing::{as_expected, measure};
 use comparison::workloads::{self, Workload};
 use independent::generate::full_stores::full_stores;
 use independent::generate::handler_cases;
@@ -14,6 +14,7 @@ use independent::generate::int_cases;
 use independent::generate::kind_cases;
 use independent::generate::limit_cases;
 use independent::generate::own_pairs::own_pairs;
+use independent::generate::search_cases;
 use independent::generate::sequences::sequence;
 use independent::generate::special;
 use independent::ledger::Call;
@@ -53,11 +54,13 @@ const HOSTILE_ROUNDS: usize = 5;
 
 fn bench(rounds: usize, date: &str) {
     println!("{}, {date}, {rounds} rounds.\n", processor());
-    let workloads = workloads::all();
+    let mut workloads = workloads::all();
+    workloads.retain(as_expected);
     let times = measure(&workloads, rounds);
     let ordinary = Measured { workloads, times };
     ordinary.print();
-    let workloads = hostile::all();
+    let mut workloads = hostile::all();
+    workloads.retain(as_expected);
     let times = measure(&workloads, HOSTILE_ROUNDS);
     let hostile = Measured { workloads, times };
     hostile.print_hostile();
@@ -79,7 +82,7 @@ fn processor() -> String {
 }
 
 /// Calls that reach deep: limits, lists with FE, handlers, limits of stores, kinds of domains,
-/// ladders, full stores, all that is timed, and others.
+/// searches, ladders, full stores, all that is timed, and others.
 fn stack_sequences<'a>(workloads: impl Iterator<Item = &'a Workload>) -> Vec<Sequence> {
     let mut found = special::lengths();
     found.extend(Version::BOTH.map(special::limits));
@@ -92,6 +95,8 @@ fn stack_sequences<'a>(workloads: impl Iterator<Item = &'a Workload>) -> Vec<Seq
     found.extend(int_cases::orders());
     found.extend(kind_cases::rooms());
     found.extend(kind_cases::meetings());
+    found.extend(search_cases::places());
+    found.extend(search_cases::lists());
     found.extend(full_stores());
     found.extend(special::hostile());
     found.extend((0..300).map(sequence));
@@ -99,11 +104,21 @@ fn stack_sequences<'a>(workloads: impl Iterator<Item = &'a Workload>) -> Vec<Seq
     found
 }
 
-/// The call that is timed; over a store of version 2 also one of each other kind, refused.
+/// Stores of version 2 over which each call takes seconds.
+const SLOW: [&str; 4] = [
+    hostile::SEARCH_DEEP,
+    hostile::SEARCH_DEEP_CROSSING,
+    hostile::SEARCH_DEEP_TWO,
+    hostile::SEARCH_DEEP_NONE,
+];
+
+/// The call that is timed; over a store of version 2 also one of each other kind, refused, unless
+/// each takes seconds.
 fn over_workload(workload: &Workload) -> Sequence {
     let start = workload.store.clone();
     let mut calls = vec![workload.call.clone()];
-    if matches!(StoreVersion::of(&start), Some(StoreVersion::Second(_))) {
+    let second = matches!(StoreVersion::of(&start), Some(StoreVersion::Second(_)));
+    if second && !SLOW.contains(&workload.name) {
         let aid = || vec![9; 5];
         let (domain, file) = (aid(), Vec::new());
         calls.extend([

@@ -9,7 +9,7 @@ use Rattle.rules.specs.Code.{Call, splitFrom, codeSplits, callsOf}
 use Rattle.rules.specs.Package.{Limits, formatOf, Method, codeIf}
 use Rattle.rules.specs.Store.{storeLimits}
 use Rattle.rules.specs.Classes.{installed, allows, allowsAllOf}
-use Rattle.rules.specs.Questions.{ownMethod, methodNamed}
+use Rattle.rules.specs.Questions.{ownMethod}
 use Rattle.places.specs.Reads.{Reads}
 use Rattle.places.proofs.Parts.{code-none, method-part}
 use Rattle.files.specs.Say.{MethodThere, ClassThere, CodeIs}
@@ -42,26 +42,26 @@ class-there {s = s} g = (storeLimits s, g .1 .pack .domains, (g .3 .0, g .3 .1, 
 -- whether a method of the file being judged, loaded in z, may call what a reference names
 abbrev allowedIn : {f s : Bytes} {end : ℕ} {d : Aid} → Asking f s end d → ℕ → Method → Aid → Bool
 allowedIn {s = s} a index m z =
-    let named = referenceNamed (installed (storeLimits s) (a .es)) (a .self) index in
-    noneOr named λ x. allows (methodNamed x) z && allowsAllOf (methodNamed x) (ownMethod (a .self) 0 m)
+    let named = referenceNamed (storeLimits s) (installed (storeLimits s) (a .es)) (a .self) index in
+    noneOr named λ x. allows (x .means) z && allowsAllOf (x .means) (ownMethod (a .self) 0 m)
 
 -- one call
 module _ {f s : Bytes} {end : ℕ} {d : Aid} {i index : ℕ} (kind : Calling) where
   pub call-18 : CallNamedIs f s end kind index false → CallNumberIs f s end d i kind index 18
-  call-18 h a m j p = rw (← h (a .es) (a .self) (a .imports))
+  call-18 h a m j p = rw (← h (a .es) (a .self) (a .loading))
 
   -- what the caller may call, in terms of the own loading domain
   told : {b : Bool} → CallAllowedIs f s end d i index b → (a : Asking f s end d) (m : Method) (j : ℕ) → MethodOf a i m j →
       callAllows a m (record { kind = kindOf kind; index = index }) ≡ b
   told {b} g a m j p =
-      let q = g (a .es) (a .self) (a .imports) (a .loads) (ownMethod (a .self) 0 m) (record { lies = own; to = j; reads = p }) in
+      let q = g (a .es) (a .self) (a .loading) (a .loads) (ownMethod (a .self) 0 m) (record { lies = own; to = j; reads = p }) in
       sym (subst (λ (z : Aid). b ≡ allowedIn a index m z) (sym (a .loads)) q)
 
   pub call-19 : CallNamedIs f s end kind index true → CallAllowedIs f s end d i index false → CallNumberIs f s end d i kind index 19
-  call-19 h g a m j p = rw (← h (a .es) (a .self) (a .imports), told g a m j p)
+  call-19 h g a m j p = rw (← h (a .es) (a .self) (a .loading), told g a m j p)
 
   pub call-0 : CallNamedIs f s end kind index true → CallAllowedIs f s end d i index true → CallNumberIs f s end d i kind index 0
-  call-0 h g a m j p = rw (← h (a .es) (a .self) (a .imports), told g a m j p)
+  call-0 h g a m j p = rw (← h (a .es) (a .self) (a .loading), told g a m j p)
 
 -- the order of the two questions
 pub rises : {A : Type 0} (p q : A → Bool) → T (rising (numbers ((18, p) ∷ (19, q) ∷ [])))

@@ -1,90 +1,130 @@
--- Question 18 of a call: what is named stands in its file, visible if imported, and of the form that the call asks. Assumes nothing.
+-- The form of what is called: visible where it lies outside the file, and as the kind of call asks. Assumes nothing.
 use Prim.Native.Nat.{ℕ}
-use mathlib.Core.Path.{_≡_, sym, _∙_, ap, subst}
+use native.Mathlib.Omega.{arith}
+use mathlib.Core.Path.{_≡_, refl, sym, _∙_, ap, ap₂, subst}
 use mathlib.Core.Bool.{Bool, true, false, _&&_, _||_, not}
-use mathlib.Core.List.{List}
-use mathlib.Core.Option.{Option}
-use lib.Dec.{eqb}
-use Rattle.rules.specs.Bytes.{Bytes, someAnd}
-use Rattle.rules.specs.Package.{Method, method, class}
-use Rattle.rules.specs.Questions.{Named, callForm}
-use Rattle.files.specs.Say.{ClassThere, MethodThere, VisibleIs, StaticIs}
-use Rattle.files.specs.Say.{ImplementedIs, InterfaceIs}
-use Rattle.files.specs.declared.Spot.the-variants.{Nothing}
+use mathlib.Core.List.{List, List·Memᴰ, List·Memᴰ·head, Memᴰ·append-right}
+use mathlib.Core.Option.{Option, some}
+use lib.Dec.{T, T-not, eqb}
+use borrow.Author.Tests.{ne-eqb}
+use Rattle.rules.specs.Bytes.{Bytes, someAnd, isSome}
+use Rattle.rules.specs.Package.{Limits}
+use Rattle.rules.specs.Store.{Entry, loaded, storeLimits}
+use Rattle.rules.specs.Classes.{Installed, installedBy, installed, hasAid, byAid}
+use Rattle.rules.specs.Questions.{Named, q12-new, visibleFrom, callForm}
+use Rattle.rules.proofs.Tests.{is-true, of-true, same-refl}
+use Rattle.rules.proofs.Lists.{find-there}
+use Rattle.rules.proofs.Bounds.{flat-mem}
+use Rattle.files.specs.Say.{VisibleIs, StaticIs, ImplementedIs, InterfaceIs, ClassThere, MethodThere}
 use Rattle.codes.specs.Calls.{kindOf}
 use Rattle.codes.specs.declared.Calling.{Calling}
 use Rattle.codes.specs.declared.Calling.the-variants as kinds
-use Rattle.rules.specs.Store.{storeLimits}
-use Rattle.homes.specs.Homes.{fileOf, HomeThere}
-use Rattle.named.specs.Named.{Judged, homeOf}
-use Rattle.calls.specs.Named.{ReferenceIs, OfNamed, SeenIs, FormIs, WellIs, CallNamedIs}
+use Rattle.homes.specs.Homes.{fileOf, HomeIs, own, stored, Stored, HomeThere}
+use Rattle.homes.specs.declared.Home.{Home}
+use Rattle.calls.specs.Setting.{Loading, importsOf, Judged}
+use Rattle.calls.specs.Named.{OfNamed, SeenIs, FormIs, WellIs, ReferenceIs, CallNamedIs}
+use Rattle.calls.specs.declared.Meant.{Meant}
 use Rattle.calls.specs.declared.NamedFound.the-variants as found
 
--- visible if imported
-module _ {g : Bytes} {m : ℕ} {b : Bool} where
-  pub seen-imported : {i : Bool} → i ≡ true → VisibleIs g m b → SeenIs g m i b
-  seen-imported e h l ds x j p = rw e (h l ds x j p)
+-- visible where it lies outside the file
+pub seen-outside : {g : Bytes} {m : ℕ} {o b : Bool} → o ≡ true → VisibleIs g m b → SeenIs g m o b
+seen-outside e h l ds x j p = rw e (h l ds x j p)
 
-pub seen-own : {g : Bytes} {m : ℕ} {i : Bool} → i ≡ false → SeenIs g m i true
+pub seen-own : {g : Bytes} {m : ℕ} {o : Bool} → o ≡ false → SeenIs g m o true
 seen-own e l ds x j p = rw e
 
 -- the form that each kind of call asks
-module _ {g : Bytes} {c m : ℕ} where
-  pub virtual-static : StaticIs g m true → FormIs g c m kinds.Virtual false
-  virtual-static h x l ds j e a p = rw (← h l ds (x .method) e p)
+module _ {g : Bytes} (x : Meant) where
+  pub virtual-static : StaticIs g (x .method) true → FormIs g x kinds.Virtual false
+  virtual-static h y k is n l ds j e a p = rw (← h l ds (y .means .method) e p)
 
-  pub virtual-is : {b : Bool} → StaticIs g m false → InterfaceIs g c b → FormIs g c m kinds.Virtual (not b)
-  virtual-is h k x l ds j e a p = rw (← h l ds (x .method) e p, ← k l ds (x .declaring) j a)
+  pub virtual-is : StaticIs g (x .method) false → FormIs g x kinds.Virtual (x .kind0)
+  virtual-is h y k is n l ds j e a p = rw (← h l ds (y .means .method) e p) n
 
-  pub special-is : {b : Bool} → ImplementedIs g m b → FormIs g c m kinds.Special b
-  special-is h x l ds j e a p = h l ds (x .method) e p
+  pub special-is : {b : Bool} → ImplementedIs g (x .method) b → FormIs g x kinds.Special b
+  special-is h y k is n l ds j e a p = h l ds (y .means .method) e p
 
-  pub static-is : {b : Bool} → StaticIs g m b → FormIs g c m kinds.Static b
-  static-is h x l ds j e a p = h l ds (x .method) e p
+  pub static-is : {b : Bool} → StaticIs g (x .method) b → FormIs g x kinds.Static b
+  static-is h y k is n l ds j e a p = h l ds (y .means .method) e p
 
-  pub interface-static : StaticIs g m true → FormIs g c m kinds.Interface false
-  interface-static h x l ds j e a p = rw (← h l ds (x .method) e p)
+  pub interface-static : StaticIs g (x .method) true → FormIs g x kinds.Interface false
+  interface-static h y k is n l ds j e a p = rw (← h l ds (y .means .method) e p)
 
-  pub interface-is : {b : Bool} → StaticIs g m false → InterfaceIs g c b → FormIs g c m kinds.Interface b
-  interface-is h k x l ds j e a p = rw (← h l ds (x .method) e p) (k l ds (x .declaring) j a)
+  pub interface-is : {b : Bool} → StaticIs g (x .method) false → InterfaceIs g (x .class) b → FormIs g x kinds.Interface b
+  interface-is h i y k is n l ds j e a p = rw (← h l ds (y .means .method) e p, is) (i l ds k j a)
 
--- both
-module _ {g : Bytes} {c m : ℕ} where
-  seen-is : (i b : Bool) → SeenIs g m i b → OfNamed g c m λ x. x .imported ≡ i → (not (x .imported) || x .method .visible) ≡ b
-  seen-is i b h x l ds j e a p q = ap (λ (v : Bool). not v || x .method .visible) q ∙ sym (h l ds (x .method) e p)
+  -- both
+  seen-is : (o b : Bool) → o ≡ not (eqb (x .home .from) 0) → SeenIs g (x .method) o b →
+      OfNamed g x λ y. (self : Installed) → hasAid (self .pack .aid) (y .means .class .home) ≡ eqb (x .home .from) 0 → visibleFrom self (y .means) ≡ b
+  seen-is o b w h y k is n l ds j e a p self q =
+      ap (λ (v : Bool). v || y .means .method .visible) (q ∙ twice (eqb (x .home .from) 0) ∙ ap not (sym w)) ∙ sym (h l ds (y .means .method) e p)
+    where
+      twice : (v : Bool) → v ≡ not (not v)
+      twice true = refl
+      twice false = refl
 
-  pub well-unseen : (i : Bool) (k : Calling) → SeenIs g m i false → WellIs g c m i k false
-  well-unseen i k h x l ds j e a p q = sym (ap (λ (v : Bool). v && callForm (kindOf k) x) (seen-is i false h x l ds j e a p q))
+  pub well-unseen : (o : Bool) (k : Calling) → o ≡ not (eqb (x .home .from) 0) → SeenIs g (x .method) o false → WellIs g x k false
+  well-unseen o k w h y z is n l ds j e a p self q =
+      sym (ap (λ (v : Bool). v && callForm (kindOf k) y) (seen-is o false w h y z is n l ds j e a p self q))
 
-  pub well-seen : (i : Bool) (k : Calling) (r : Bool) → SeenIs g m i true → FormIs g c m k r → WellIs g c m i k r
-  well-seen i k r h d x l ds j e a p q = d x l ds j e a p ∙ sym (ap (λ (v : Bool). v && callForm (kindOf k) x) (seen-is i true h x l ds j e a p q))
+  pub well-seen : (o : Bool) (k : Calling) (r : Bool) → o ≡ not (eqb (x .home .from) 0) → SeenIs g (x .method) o true → FormIs g x k r → WellIs g x k r
+  well-seen o k r w h d y z is n l ds j e a p self q =
+      d y z is n l ds j e a p ∙ sym (ap (λ (v : Bool). v && callForm (kindOf k) y) (seen-is o true w h y z is n l ds j e a p self q))
+
+-- a package lies in the file being judged exactly where it has its AID
+stored-installed : (s : Bytes) (es : List Entry) (h : Home) (x : Installed) → Stored s es h x → List·Memᴰ x (installed (storeLimits s) es)
+stored-installed s es h x t =
+    let l = storeLimits s in
+    let here : List·Memᴰ (loaded (x .domain) _) es = subst (List·Memᴰ _) (sym (t .are)) (Memᴰ·append-right (t .pre) (List·Memᴰ·head refl)) in
+    flat-mem (installedBy l) (loaded (x .domain) _) x es here (rw (t .reads) (List·Memᴰ·head refl))
+
+lies-own : {f s : Bytes} {end : ℕ} {es : List Entry} {self : Installed} (h : Home) (x : Installed) → Loading f s end es self →
+    HomeIs f s end es self h x → hasAid (self .pack .aid) x ≡ eqb (h .from) 0
+unfolding q12-new
+lies-own {self = self} _ _ i own = is-true _ (same-refl (self .pack .aid))
+lies-own {s = s} {es = es} {self} h x i (stored t) =
+    go (hasAid (self .pack .aid) x) refl ∙ sym (ne-eqb (h .from) 0 (λ e. omega (arith, t .inside, e)))
+  where
+    is : List Installed
+    is = installed (storeLimits s) es
+
+    go : (b : Bool) → hasAid (self .pack .aid) x ≡ b → hasAid (self .pack .aid) x ≡ false
+    go false e = e
+    go true e =
+        absurd (T-not (isSome (byAid is (self .pack .aid))) (i .new)
+        (find-there (hasAid (self .pack .aid)) is x (stored-installed s es h x t) (of-true e)))
 
 -- question 18 of a call
-module _ {f s : Bytes} {end index : ℕ} (t : List ℕ) (kind : Calling) where
-  pub call-unnamed : ReferenceIs f s end t index found.Nothing → CallNamedIs f s end kind index false
+module _ {f s : Bytes} {end index : ℕ} (kind : Calling) where
+  pub call-unnamed : ReferenceIs f s end index found.Nothing → CallNamedIs f s end kind index false
   call-unnamed q es self m = rw (q es self m)
 
-  module _ (p c m : ℕ) (q : ReferenceIs f s end t index (found.Method p c m)) where
-    pub named-home : Judged f s end → HomeThere f s (homeOf end t p)
-    named-home g = let z = q (g .0) (g .1) (g .2) in (end, g .0, g .1, g .2, z .0 .class .home, z .2 .lies)
+  module _ (x : Meant) (q : ReferenceIs f s end index (found.Method x)) where
+    pub named-home : Judged f s end → HomeThere f s (x .home)
+    named-home g =
+        let z = q (g .0) (g .1) (g .2) in
+        (end, g .0, g .1, importsOf (g .2), z .0 .means .class .home, z .2 .declared .lies)
 
-    module _ (b : Bytes) (e : b ≡ fileOf f s (homeOf end t p)) where
-      pub named-class : Judged f s end → ClassThere b c
+    module _ (b : Bytes) (e : b ≡ fileOf f s (x .home)) where
+      pub named-class : Judged f s end → ClassThere b (x .class)
       named-class g =
           let z = q (g .0) (g .1) (g .2) in
-          rw e (storeLimits s, z .0 .class .home .pack .domains, (z .0 .declaring, z .2 .classEnd, z .2 .declaring))
+          let d = z .2 .declared in
+          rw e (storeLimits s, z .0 .means .class .home .pack .domains, (d .class, d .classEnd, d .stands))
 
-      pub named-method : Judged f s end → MethodThere b m
+      pub named-method : Judged f s end → MethodThere b (x .method)
       named-method g =
           let z = q (g .0) (g .1) (g .2) in
-          rw e (storeLimits s, z .0 .class .home .pack .domains, (z .0 .method, z .2 .methodEnd, z .2 .method))
+          let d = z .2 .declared in
+          rw e (storeLimits s, z .0 .means .class .home .pack .domains, (z .0 .means .method, d .methodEnd, d .method))
 
-      pub call-named-is : (r : Bool) → WellIs b c m (not (eqb p 0)) kind r → CallNamedIs f s end kind index r
+      pub call-named-is : (r : Bool) → WellIs b x kind r → CallNamedIs f s end kind index r
       call-named-is r w es self u =
           let z = q es self u in
-          let x = z .0 in
-          let y =
-          subst (λ (v : Bytes). WellIs v c m (not (eqb p 0)) kind r) e w x (storeLimits s) (x .class .home .pack .domains) (z .2 .classEnd)
-          (z .2 .methodEnd) (z .2 .declaring) (z .2 .method) (z .2 .imported)
+          let y = z .0 in
+          let d = z .2 .declared in
+          let a =
+          subst (λ (v : Bytes). WellIs v x kind r) e w y (d .class) (d .is) (z .2 .kind0) (storeLimits s) (y .means .class .home .pack .domains)
+          (d .classEnd) (d .methodEnd) (d .stands) (d .method) self (lies-own (x .home) (y .means .class .home) u (d .lies))
           in
-          subst (λ (o : Option Named). r ≡ someAnd o (λ v. (not (v .imported) || v .method .visible) && callForm (kindOf kind) v)) (sym (z .1)) y
+          subst (λ (o : Option Named). r ≡ someAnd o (λ v. visibleFrom self (v .means) && callForm (kindOf kind) v)) (sym (z .1)) a

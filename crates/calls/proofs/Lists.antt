@@ -12,9 +12,9 @@ use Rattle.rules.proofs.Tests.{and-l, and-r}
 use Rattle.places.specs.Reads.{Reads, EndsAt}
 use Rattle.places.proofs.Steady.{Steady, steady-u1}
 use Rattle.places.proofs.Inverse.{reads-left, reads-counted, reads-u1}
-use Rattle.homes.specs.Homes.{Imports}
 use Rattle.refusals.specs.Order.{firstOf, Asks, noOf, noOfAll, numbers, rising}
 use Rattle.refusals.proofs.Walks.{NumberLoop, numbers-start, numbers-on, numbers-done}
+use Rattle.calls.specs.Setting.{Loading}
 use Rattle.calls.specs.Calls.{Asking}
 use Rattle.calls.specs.Calls.{Reading}
 
@@ -45,7 +45,7 @@ pub record AskLoop {A : Type 0} (R : List Aid → Reader A) (most : ℕ) (t : A 
     (qs : Asking f s end d → Asks A) (i past left c : ℕ) : Type 0 where
   pub es : List Entry
   pub self : Installed
-  pub imports : Imports f s end es self
+  pub loading : Loading f s end es self
   pub rest : Reading (many left (R (self .pack .domains))) (all t) f c
   pub numbers : NumberLoop (λ (a : Asking f s end d). R (a .self .pack .domains)) most qs f i past left c
 
@@ -58,27 +58,27 @@ module _ {A : Type 0} (R : List Aid → Reader A) (steady : (ds : List Aid) → 
   abbrev reads : (a : Asking f s end d) → Steady (read a)
   reads a = steady (a .self .pack .domains)
 
-  pub ask-begin : (es : List Entry) (self : Installed) → Imports f s end es self → Reading (counted most u1 (R (self .pack .domains))) (all t) f i →
+  pub ask-begin : (es : List Entry) (self : Installed) → Loading f s end es self → Reading (counted most u1 (R (self .pack .domains))) (all t) f i →
       (n : ℕ) → n ≡ getD f i 0 → AskLoop R most t f s end d qs i 0 n (i + 1)
   ask-begin es self m x n h = record {
     es = es;
     self = self;
-    imports = m;
+    loading = m;
     rest = reading-start (R (self .pack .domains)) (steady (self .pack .domains)) t f most i n h x;
     numbers = numbers-start read reads most qs order f i n h;
   }
 
   module _ {past left c : ℕ} (l : AskLoop R most t f s end d qs i past left c) where
     module _ (h : 0 < left) where
-      pub ask-one : (es : List Entry) × (self : Installed) × Imports f s end es self × Reading (R (self .pack .domains)) t f c
-      ask-one = (l .es, l .self, l .imports, reading-one (R (l .self .pack .domains)) (steady (l .self .pack .domains)) t f left c h (l .rest))
+      pub ask-one : (es : List Entry) × (self : Installed) × Loading f s end es self × Reading (R (self .pack .domains)) t f c
+      ask-one = (l .es, l .self, l .loading, reading-one (R (l .self .pack .domains)) (steady (l .self .pack .domains)) t f left c h (l .rest))
 
       pub ask-on : (n : ℕ) → ((a : Asking f s end d) (x : A) (j : ℕ) → Reads (R (a .self .pack .domains)) f c x j → n ≡ noOf (qs a) x) →
           (m e : ℕ) → m ≡ firstOf past n → ((ds : List Aid) → EndsAt (R ds) f c e) → AskLoop R most t f s end d qs i m (left - 1) e
       ask-on n b m e w k = record {
         es = l .es;
         self = l .self;
-        imports = l .imports;
+        loading = l .loading;
         rest = reading-on (R (l .self .pack .domains)) (steady (l .self .pack .domains)) t f left c h (l .rest) e (k (l .self .pack .domains));
         numbers = numbers-on read reads most qs order f i past left c (l .numbers) n h b m e w (λ a. k (a .self .pack .domains));
       }

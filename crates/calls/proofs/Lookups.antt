@@ -1,139 +1,214 @@
--- What a reference names, step by step: its numbers and name, the package's home, the class record, the method. Assumes nothing.
+-- What a reference names, step by step: its numbers and name, the class record, the declaration meant. Assumes nothing.
 use Prim.Native.Nat.{ℕ, zero, suc, _<_, _≤_}
 use native.Mathlib.Omega.{arith}
 use mathlib.Core.Path.{_≡_, refl, sym, _∙_, ap, subst}
-use mathlib.Core.Bool.{Bool, not}
-use mathlib.Core.List.{List}
-use mathlib.Core.Option.{Option, some}
-use lib.Dec.{eqb}
-use lib.ListN.{length, getD}
-use Rattle.rules.specs.Bytes.{Bytes, at, u1, aid, _andThen_}
-use Rattle.rules.specs.Package.{mostImports, Reference, Method, Class, method, class}
-use Rattle.rules.specs.Classes.{Installed, installed, ClassAt, packageNumbered, recordOf, declared}
+use mathlib.Core.Bool.{Bool, true, false, not}
+use mathlib.Core.List.{List, [], _∷_, _++_}
+use mathlib.Core.Option.{Option, none, some}
+use lib.ListN.{length}
+use Rattle.rules.specs.Bytes.{Bytes, at, _andThen_, listOf, flat, firstOf}
+use Rattle.rules.specs.Package.{Limits, Reference, Method, Class}
+use Rattle.rules.specs.Store.{Entry, firstEntry, storeLimits}
+use Rattle.store.proofs.Stand.{entries-to}
+use Rattle.rules.specs.Classes.{Installed, installed, ClassAt, packageNumbered, recordOf, classNamed, isKind0, kind0Parent, declared, MethodAt, declaredAt}
+use Rattle.rules.specs.Search.{chainUpTo, interfacesUpTo, searchUpTo}
 use Rattle.rules.specs.Questions.{Named, referenceNames}
-use Rattle.places.proofs.Steady.{steady-u1, steady-aid}
-use Rattle.places.proofs.Inverse.{reads-counted, reads-u1}
-use Rattle.places.proofs.Track.{placed-at, placed-none, counted-inside, many-length}
-use Rattle.files.specs.Say.{referenced, Readable, ImportsAt, ReferencesAt, ReferenceNth, ClassThere, DeclaredPlaced}
+use Rattle.places.specs.Reads.{Reads}
+use Rattle.places.proofs.Track.{placed-at, placed-none}
+use Rattle.files.specs.Say.{referenced, Readable, ReferencesAt, ReferenceNth, InterfaceIs, DeclaredPlaced}
+use Rattle.files.specs.Say as say
+use Rattle.files.specs.declared.Spot.{Spot}
 use Rattle.files.specs.declared.Spot.the-variants.{At, Nothing}
 use Rattle.files.specs.declared.Referenced.{Referenced}
 use Rattle.files.specs.declared.Referenced.the-variants as referenced′
-use Rattle.files.proofs.Walks.{imports-read, references-read}
-use Rattle.rules.specs.Store.{Entry, storeLimits}
-use Rattle.homes.specs.Homes.{Imports, fileOf, HomeIs, own, HomeThere, ClassPlaced}
-use Rattle.homes.specs.Found.{ImportHomes}
-use Rattle.named.specs.Named.{Judged, OfJudged, homeOf, PackageThere}
-use Rattle.named.proofs.Numbers.{imports-few}
-use Rattle.named.proofs.Rows.{at-none}
-use Rattle.calls.specs.Named.{ImportCount, NamedIs, NumbersName, ReferenceIs}
+use Rattle.files.proofs.Walks.{references-read}
+use Rattle.homes.specs.Homes.{fileOf, HomeIs, own, HomeThere, NumberedIs, ClassPlaced, ownHome}
+use Rattle.homes.specs.declared.Home.{Home}
+use Rattle.homes.specs.declared.HomeFound.the-variants as homes
+use Rattle.homes.proofs.Homes.{home-bounds, home-below}
+use Rattle.slots.specs.Slots.{SmallHome}
+use Rattle.search.specs.Search.{SearchIs, DeclaredIs, DeclaredThere}
+use Rattle.search.specs.declared.Sought.{Sought}
+use Rattle.search.specs.declared.Declared.the-variants as found′
+use Rattle.calls.specs.Setting.{Loading, importsOf, settingOf, Judged, OfJudged}
+use Rattle.calls.specs.Named.{ClassThere, ClassIs, RecordThere, MeantAt, NamedIs, namedFrom, MeantIs, NumbersName, ReferenceIs}
+use Rattle.calls.specs.declared.Meant.{Meant}
 use Rattle.calls.specs.declared.Naming.{Naming}
 use Rattle.calls.specs.declared.NamedFound.{NamedFound}
 use Rattle.calls.specs.declared.NamedFound.the-variants as found
+use Rattle.calls.specs.declared.references.ClassNamed.the-variants as named
+use Rattle.calls.specs.declared.references.NamedRecord.{NamedRecord}
 
--- the file being judged reads
+-- the file being judged reads, and lies at its own home
 pub judged-reads : {f s : Bytes} {end : ℕ} → Judged f s end → Readable f
-judged-reads {s = s} g = (storeLimits s, g .1 .pack, g .2 .setting .reads)
+judged-reads {s = s} g = (storeLimits s, g .1 .pack, settingOf (g .2) .reads)
 
--- the number of imports
-pub imports-count : {f : Bytes} {i : ℕ} (n : ℕ) → ImportsAt f i → n ≡ getD f i 0 → ImportCount f n
-imports-count {f} {i} n h e l p r =
-    let t = imports-read h l p r in
-    let c = reads-counted mostImports u1 aid steady-u1 f i (p .imports) (t .0) (t .1) in
-    e ∙ (reads-u1 f i (c .number) (c .place) (c .count)) .byte ∙ sym (many-length aid steady-aid (c .number) f (c .place) (p .imports) (t .0) (c .list))
+pub own-there : {f s : Bytes} {end : ℕ} → Judged f s end → HomeThere f s (ownHome end)
+own-there {end = end} g = (end, g .0, g .1, importsOf (g .2), g .1, own)
 
--- their count is inside the file
-pub imports-in : {f : Bytes} {i : ℕ} → ImportsAt f i → Readable f → i < length f
-imports-in {f} {i} h r = let t = imports-read h (r .0) (r .1) (r .2) in counted-inside aid f mostImports i (r .1 .imports) (t .0) (t .1)
+-- the places of a home fit two bytes
+pub there-small : {f s : Bytes} (h : Home) → HomeThere f s h → length s ≤ 65535 → SmallHome h
+there-small {f} {s} h t z =
+    let g = t .3 .setting in
+    let w = home-bounds f s (t .0) (t .1) (t .2) h (t .4) (t .5) in
+    let e = (entries-to s (firstEntry s) (t .1) (t .0) (g .stand)) .1 in
+    let l = home-below f s (t .0) (t .1) (t .2) g h (t .4) (t .5) in
+    record { from = omega (arith, w .0, w .1); to = omega (arith, w .1); before = omega (arith, l, e) }
 
--- a package number up to the count
-pub package-there : (f : Bytes) {count p : ℕ} → ImportCount f count → p ≤ count → PackageThere f p
-package-there f k h l q e = omega (arith, k l q e)
+-- the package that a number stands for in the file being judged
+module _ {f s : Bytes} {end : ℕ} where
+  pub numbered-at : (p : ℕ) (h : Home) → NumberedIs f s (ownHome end) p (homes.At h) →
+      OfJudged f s end λ es self. (y : Installed) × (packageNumbered (installed (storeLimits s) es) self p ≡ some y) × HomeIs f s end es self h y
+  numbered-at zero h q es self i = (self, refl, subst (λ (g : Home). HomeIs f s end es self g self) (same-home q) own)
+    where
+      same-home : homes.At h ≡ homes.At (ownHome end) → ownHome end ≡ h
+      same-home e = cc
+  numbered-at (suc p) h q es self i = let z = q end es self (importsOf i) self own in (z .0, z .1, z .2)
+
+  pub numbered-there : (p : ℕ) (h : Home) → NumberedIs f s (ownHome end) p (homes.At h) → Judged f s end → HomeThere f s h
+  numbered-there p h q g = let z = numbered-at p h q (g .0) (g .1) (g .2) in (end, g .0, g .1, importsOf (g .2), z .0, z .2)
+
+  -- where it stands for none no class is named
+  pub numbered-none : (p c : ℕ) → NumberedIs f s (ownHome end) p homes.Nothing → ClassIs f s end p c named.Nothing
+  numbered-none zero c q es self i = absurd (clash q)
+    where
+      clash : homes.Nothing ≡ homes.At (ownHome end) → ⊥
+      clash e = let z : _≡_ {A = ℕ} 0 1 = cc in omega arith
+  numbered-none (suc p) c q es self i = rw (q end es self (importsOf i) self own)
+
+  -- the class named, where its record stands
+  pub class-found : (p c : ℕ) (h : Home) (i : ℕ) → NumberedIs f s (ownHome end) p (homes.At h) → ClassPlaced f s h c (At i) →
+      ClassIs f s end p c (named.At h i)
+  class-found p c h i q r es self m =
+      let z = numbered-at p h q es self m in
+      let w = placed-at (r end es self (importsOf m) (z .0) (z .2)) in
+      record { pack = z .0; numbered = z .1; lies = z .2; known = w .0; is = w .2; to = w .1; reads = w .3 }
+
+  pub class-missing : (p c : ℕ) (h : Home) → NumberedIs f s (ownHome end) p (homes.At h) → ClassPlaced f s h c Nothing →
+      ClassIs f s end p c named.Nothing
+  class-missing p c h q r es self m =
+      let z = numbered-at p h q es self m in
+      rw (z .1) (placed-none (r end es self (importsOf m) (z .0) (z .2)))
+
+-- a class that declares a name means its own declaration
+own-declared : (is : List Installed) (k : ℕ) (c : ClassAt) (n : ℕ) (m : MethodAt) → declaredAt n c ≡ some m → searchUpTo is k c n ≡ some m
+own-declared is zero c n m e = rw e
+own-declared is (suc k) c n m e = rw e
+
+-- what a class that is there declares by a name
+declared-here : (c : ClassAt) (k : Class) (n : ℕ) (m : Method) → recordOf c ≡ some k → declared k n ≡ some m →
+    declaredAt n c ≡ some (record { class = c; method = m })
+declared-here c k n m e d = rw (e, d)
+
+-- the record of a class that is named stands in its file
+module _ {f s : Bytes} (x : Sought) (r : NamedRecord) (t : RecordThere f s x r) (g : Bytes) (e : g ≡ fileOf f s (x .home)) where
+  pub record-there : Judged f s (x .end) → say.ClassThere g (r .place)
+  record-there j =
+      let z = t (j .0) (j .1) (j .2) in
+      rw e (storeLimits s, z .pack .pack .domains, (z .known, z .to, z .reads))
+
+  -- whether it is of kind 0
+  kind-is : (b : Bool) → InterfaceIs g (r .place) b → OfJudged f s (x .end) λ es self.
+      (z : ClassThere f s (x .end) es self (r .pack) (x .number) (x .home) (r .place)) →
+      not b ≡ isKind0 (record { home = z .pack; number = x .number })
+  kind-is b h es self m z =
+      let w = subst (λ (v : Bytes). InterfaceIs v (r .place) b) e h (storeLimits s) (z .pack .pack .domains) (z .known) (z .to) (z .reads) in
+      rw (z .is) (ap not w)
+
+  -- what is named by the class and the name sought
+  means : (q : NamedFound) → ((es : List Entry) (self : Installed) → Loading f s (x .end) es self →
+      (z : ClassThere f s (x .end) es self (r .pack) (x .number) (x .home) (r .place)) →
+      NamedIs f s (x .end) es self (namedFrom (storeLimits s) (installed (storeLimits s) es) (record { home = z .pack; number = x .number }) (x .name)) q) →
+      MeantIs f s x r q
+  means q h es self m y l e′ =
+      let z = t es self m in
+      let same : z .pack ≡ y = option-same (z .numbered) e′ in
+      let is = installed (storeLimits s) es in
+      subst (λ (w : Installed). NamedIs f s (x .end) es self (namedFrom (storeLimits s) is (record { home = w; number = x .number }) (x .name)) q)
+      same (h es self m z)
+    where
+      option-same : {o : Option Installed} {a b : Installed} → o ≡ some a → o ≡ some b → a ≡ b
+      option-same {a = a} {b} p q = let w : _≡_ {A = Option Installed} (some a) (some b) = sym p ∙ q in cc
+
+  -- its own declaration
+  module _ (b : Bool) (h : InterfaceIs g (r .place) b) where
+    pub own-meant : (v : ℕ) → DeclaredPlaced g (r .place) (x .name) (At v) →
+        MeantIs f s x r (found.Method (record { home = x .home; class = r .place; method = v; kind0 = not b; pack = r .pack }))
+    own-meant v d = means (found.Method (record { home = x .home; class = r .place; method = v; kind0 = not b; pack = r .pack })) λ es self m z.
+        let u = subst (λ (w : Bytes). DeclaredPlaced w (r .place) (x .name) (At v)) e d in
+        let w = placed-at (u (storeLimits s) (z .pack .pack .domains) (z .known) (z .to) (z .reads)) in
+        let c : ClassAt = record { home = z .pack; number = x .number } in
+        let y : MethodAt = record { class = c; method = w .0 } in
+        let here : declaredAt (x .name) c ≡ some y = declared-here c (z .known) (x .name) (w .0) (z .is) (w .2) in
+        let there : DeclaredThere f s (x .end) es self (x .home) (r .place) v y = record {
+          lies = z .lies;
+          class = z .known;
+          is = z .is;
+          classEnd = z .to;
+          stands = z .reads;
+          methodEnd = w .1;
+          method = w .3;
+        } in
+        let is = installed (storeLimits s) es in
+        let n : Named = record { class = c; means = y } in
+        let found : namedFrom (storeLimits s) is c (x .name) ≡ some n = rw (own-declared is (storeLimits s .depth) c (x .name) y here) in
+        (n, found, record { declared = there; kind0 = kind-is b h es self m z; numbered = λ l. z .numbered })
+
+    -- that of a class above it, or none
+    pub above-meant : (h′ : Home) (c m : ℕ) → SearchIs f s x (found′.At h′ c m) →
+        MeantIs f s x r (found.Method (record { home = h′; class = c; method = m; kind0 = not b; pack = 16 }))
+    above-meant h′ c m q = means (found.Method (record { home = h′; class = c; method = m; kind0 = not b; pack = 16 })) λ es self i z.
+        let w = q es self (i .judged) (z .pack) (z .lies) (z .known) (z .is) in
+        let k : ClassAt = record { home = z .pack; number = x .number } in (
+          record { class = k; means = w .0 },
+          rw (w .1),
+          record { declared = w .2; kind0 = kind-is b h es self i z; numbered = λ l. absurd (omega arith) },
+        )
+
+    pub none-meant : SearchIs f s x found′.Nothing → MeantIs f s x r found.Nothing
+    none-meant q = means found.Nothing λ es self i z. rw (q es self (i .judged) (z .pack) (z .lies) (z .known) (z .is))
 
 -- a reference's numbers and name
 abbrev pub naming : ℕ → ℕ → ℕ → Naming
 naming p c n = record { pack = p; class = c; name = n }
 
--- the method of a name that a class declares
-abbrev declaredAs : Bool → ClassAt → ℕ → Option Named
-declaredAs i c n = recordOf c andThen λ k. declared k n andThen λ m. some (record { imported = i; class = c; declaring = k; method = m })
+-- a class that is not there means nothing
+nothing-declared : (is : List Installed) (k : ℕ) (c : ClassAt) (n : ℕ) → recordOf c ≡ none → searchUpTo is k c n ≡ none
+nothing-declared is zero c n e = rw e
+nothing-declared is (suc k) c n e = rw e
 
--- the package that a number stands for in the file being judged
-module _ {f s : Bytes} {end : ℕ} (t : List ℕ) where
-  pub numbered-none : (p c n : ℕ) {count : ℕ} → ImportCount f count → count < p → NumbersName f s end t (naming p c n) found.Nothing
-  numbered-none zero c n k h es self m = absurd (omega arith)
-  numbered-none (suc p) c n k h es self m =
-      let e = at-none (self .pack .imports) p (omega (arith, k (storeLimits s) (self .pack) (m .setting .reads))) in
-      rw e
+-- the class named, and the name
+module _ {f s : Bytes} {end : ℕ} (p c n : ℕ) where
+  pub numbers-missing : ClassIs f s end p c named.Nothing → NumbersName f s end (naming p c n) found.Nothing
+  numbers-missing q es self m = unnamed (classNamed (installed (storeLimits s) es) self (record { pack = p; class = c })) (q es self m)
+    where
+      is : List Installed
+      is = installed (storeLimits s) es
 
-  module _ (i : ImportHomes f s end t) {count : ℕ} (k : ImportCount f count) where
-    numbered-at : (p : ℕ) → p ≤ count →
-        OfJudged f s end λ es self. (y : Installed) × (packageNumbered (installed (storeLimits s) es) self p ≡ some y)
-        × HomeIs f s end es self (homeOf end t p) y
-    numbered-at zero h es self m = (self, refl, own)
-    numbered-at (suc p) h es self m = let z = i .found es self m p (omega (arith, k (storeLimits s) (self .pack) (m .setting .reads))) in (z .0, z .1, z .2)
+      unnamed : (o : Option ClassAt) → (o andThen recordOf) ≡ none → (o andThen λ d. namedFrom (storeLimits s) is d n) ≡ none
+      unnamed none e = refl
+      unnamed (some d) e = rw (nothing-declared is (storeLimits s .depth) d n e)
 
-    module _ (p : ℕ) (h : p ≤ count) where
-      pub numbered-there : Judged f s end → HomeThere f s (homeOf end t p)
-      numbered-there g = let z = numbered-at p h (g .0) (g .1) (g .2) in (end, g .0, g .1, g .2, z .0, z .2)
-
-      module _ (c n : ℕ) where
-        -- what the class declares is what the numbers and the name name
-        numbers-name : (r : NamedFound) →
-            ((es : List Entry) (self : Installed) → Imports f s end es self → (y : Installed) → HomeIs f s end es self (homeOf end t p) y →
-            NamedIs f s end t es self (declaredAs (not (eqb p 0)) (record { home = y; number = c }) n) r) → NumbersName f s end t (naming p c n) r
-        numbers-name r d es self m =
-            let z = numbered-at p h es self m in
-            let numbered : Option Installed → Option ClassAt = λ o. o andThen λ y. some (record { home = y; number = c }) in
-            subst (λ (o : Option Installed). NamedIs f s end t es self (numbered o andThen λ x. declaredAs (not (eqb p 0)) x n) r) (sym (z .1))
-            (d es self m (z .0) (z .2))
-
-        pub class-missing : ClassPlaced f s (homeOf end t p) c Nothing → NumbersName f s end t (naming p c n) found.Nothing
-        class-missing q = numbers-name found.Nothing λ es self m y l. let e = placed-none (q end es self m y l) in rw e
-
-        module _ (o : ℕ) (q : ClassPlaced f s (homeOf end t p) c (At o)) (g : Bytes) (e : g ≡ fileOf f s (homeOf end t p)) where
-          pub class-there : Judged f s end → ClassThere g o
-          class-there j =
-              let y = numbered-at p h (j .0) (j .1) (j .2) in
-              let z = placed-at (q end (j .0) (j .1) (j .2) (y .0) (y .2)) in
-              rw e (storeLimits s, y .0 .pack .domains, (z .0, z .1, z .3))
-
-          pub method-missing : DeclaredPlaced g o n Nothing → NumbersName f s end t (naming p c n) found.Nothing
-          method-missing d = numbers-name found.Nothing λ es self m y l.
-              let z = placed-at (q end es self m y l) in
-              let b = subst (λ (v : Bytes). DeclaredPlaced v o n Nothing) e d in
-              let w = placed-none (b (storeLimits s) (y .pack .domains) (z .0) (z .1) (z .3)) in
-              rw (z .2, w)
-
-          pub method-found : (v : ℕ) → DeclaredPlaced g o n (At v) → NumbersName f s end t (naming p c n) (found.Method p o v)
-          method-found v d = numbers-name (found.Method p o v) λ es self m y l.
-              let b = not (eqb p 0) in
-              let z = placed-at (q end es self m y l) in
-              let x = subst (λ (v′ : Bytes). DeclaredPlaced v′ o n (At v)) e d in
-              let w = placed-at (x (storeLimits s) (y .pack .domains) (z .0) (z .1) (z .3)) in
-              let a : Named = record { imported = b; class = record { home = y; number = c }; declaring = z .0; method = w .0 } in
-              let at′ : ClassAt = record { home = y; number = c } in
-              let u : Class → Option Named = λ k. declared k n andThen λ z. some (record { imported = b; class = at′; declaring = k; method = z }) in
-              let r : Method → Option Named = λ k. some (record { imported = b; class = at′; declaring = z .0; method = k }) in
-              let j : declaredAs b at′ n ≡ some a = ap (λ (k : Option Class). k andThen u) (z .2) ∙ ap (λ (k : Option Method). k andThen r) (w .2) in
-              let small : p ≤ length (self .pack .imports) = omega (arith, h, k (storeLimits s) (self .pack) (m .setting .reads)) in
-              (a, j, record { number = small; lies = l; classEnd = z .1; methodEnd = w .1; declaring = z .3; method = w .3; imported = refl })
+  pub numbers-named : (h : Home) (i : ℕ) → ClassIs f s end p c (named.At h i) → (q : NamedFound) →
+      MeantIs f s (record { end = end; home = h; number = c; name = n }) (record { pack = p; place = i }) q → NumbersName f s end (naming p c n) q
+  numbers-named h i t q d es self m =
+      let z = t es self m in
+      let is = installed (storeLimits s) es in
+      let named′ : Option Installed → Option Named = λ o.
+      (o andThen λ y. some (record { home = y; number = c })) andThen λ k. namedFrom (storeLimits s) is k n in
+      subst (λ (o : Option Installed). NamedIs f s end es self (named′ o) q) (sym (z .numbered)) (d es self m (z .pack) (z .lies) (z .numbered))
 
 -- the numbers and the name of a reference
-module _ {f s : Bytes} {end : ℕ} (t : List ℕ) (i k : ℕ) (a : ReferencesAt f i) where
+module _ {f s : Bytes} {end : ℕ} (i k : ℕ) (a : ReferencesAt f i) where
   reference-is : (r : Referenced) → ReferenceNth f i k r → OfJudged f s end λ es self. at (self .pack .references) k ≡ referenced r
-  reference-is r q es self m = let z = references-read a (storeLimits s) (self .pack) (m .setting .reads) in sym (q (self .pack .references) (z .0) (z .1))
+  reference-is r q es self m = let z = references-read a (storeLimits s) (self .pack) (settingOf m .reads) in sym (q (self .pack .references) (z .0) (z .1))
 
-  pub reference-named : (p c n : ℕ) → ReferenceNth f i k (referenced′.To p c n) → (r : NamedFound) → NumbersName f s end t (naming p c n) r →
-      ReferenceIs f s end t k r
+  pub reference-named : (p c n : ℕ) → ReferenceNth f i k (referenced′.To p c n) → (r : NamedFound) → NumbersName f s end (naming p c n) r →
+      ReferenceIs f s end k r
   reference-named p c n q r d es self m =
       let e = reference-is (referenced′.To p c n) q es self m in
-      subst (λ (o : Option Reference). NamedIs f s end t es self (o andThen referenceNames (installed (storeLimits s) es) self) r) (sym e) (d es self m)
+      let is = installed (storeLimits s) es in
+      subst (λ (o : Option Reference). NamedIs f s end es self (o andThen referenceNames (storeLimits s) is self) r) (sym e) (d es self m)
 
-  pub reference-none : ReferenceNth f i k referenced′.Nothing → ReferenceIs f s end t k found.Nothing
+  pub reference-none : ReferenceNth f i k referenced′.Nothing → ReferenceIs f s end k found.Nothing
   reference-none q es self m = rw (reference-is referenced′.Nothing q es self m)
-
--- the package number of what is named
-pub named-few : {f s : Bytes} {end : ℕ} (t : List ℕ) (k p c m : ℕ) → Judged f s end → ReferenceIs f s end t k (found.Method p c m) → p ≤ mostImports
-named-few {f} {s} t k p c m g q =
-    let z = q (g .0) (g .1) (g .2) in
-    omega (arith, z .2 .number, imports-few (storeLimits s) f (g .1 .pack) (g .2 .setting .reads))

@@ -1,27 +1,30 @@
 -- What a method allows where it stands: its policy, the domains that this counts, the domain of its package. Assumes nothing.
 use Prim.Native.Nat.{ℕ}
-use mathlib.Core.Path.{_≡_, refl, _∙_, subst}
+use native.Mathlib.Omega.{arith}
+use mathlib.Core.Path.{_≡_, refl, sym, _∙_, subst}
 use mathlib.Core.List.{List}
+use mathlib.Core.Option.{Option·some-injective}
+use lib.ListN.{length}
 use Rattle.rules.specs.Bytes.{Bytes, Aid, aid}
+use Rattle.rules.specs.Package.{Package, method}
 use Rattle.rules.specs.Store.{Entry, storeLimits}
-use Rattle.rules.specs.Classes.{Installed}
-use Rattle.rules.specs.Questions.{methodNamed, ownMethod}
-use Rattle.places.specs.Reads.{Ends}
+use Rattle.rules.specs.Classes.{Installed, MethodAt}
+use Rattle.rules.specs.Questions.{ownMethod}
+use Rattle.places.specs.Reads.{Reads, Ends}
 use Rattle.files.specs.Say.{AidBytes, Readable, DomainsAt, PolicyAt, MethodThere}
 use Rattle.files.proofs.Walks.{domains-read}
 use Rattle.policies.specs.Say.{PolicyOver}
 use Rattle.policies.specs.declared.RightsPlace.{RightsPlace}
-use Rattle.homes.specs.Homes.{Setting, HomeIs, ownHome, fileOf, aidAt, domainPlace, own, stored, HomeThere}
+use Rattle.homes.specs.Homes.{Setting, HomeIs, ownHome, fileOf, formatAt, aidAt, domainPlace, own, stored, HomeThere}
 use Rattle.homes.specs.declared.Home.{Home}
 use Rattle.homes.proofs.Homes.{home-reads}
 use Rattle.homes.proofs.Domains.{aid-at, domain-there}
-use Rattle.named.specs.Named.{Judged, homeOf}
-use Rattle.calls.specs.Named.{ReferenceIs}
-use Rattle.calls.specs.Rights.{StandsThere, RightsAt}
+use Rattle.calls.specs.Setting.{Loading, importsOf, settingOf, Judged}
+use Rattle.calls.specs.Rights.{Stands, StandsThere, RightsAt, Callee}
 use Rattle.calls.specs.Calls.{OwnMethod}
-use Rattle.calls.specs.Maps.{askerAt, AskerTrue, TablesTrue}
+use Rattle.calls.specs.Maps.{askerAt, AskerTrue, Lent, TablesTrue}
 use Rattle.calls.specs.declared.Asker.{Asker}
-use Rattle.calls.specs.declared.NamedFound.the-variants as found
+use Rattle.calls.specs.declared.Meant.{Meant}
 
 module _ {f s : Bytes} {h : Home} {m : ℕ} where
   pub stands-home : StandsThere f s h m → HomeThere f s h
@@ -70,22 +73,34 @@ module _ {f s : Bytes} {end i : ℕ} (g : OwnMethod f s end i) where
   caller-judged = (g .0, g .1, g .2)
 
   pub caller-stands : StandsThere f s (ownHome end) i
-  caller-stands = (end, g .0, g .1, g .2, ownMethod (g .1) 0 (g .3 .0), record { lies = own; to = g .3 .1; reads = g .3 .2 })
+  caller-stands = (end, g .0, g .1, importsOf (g .2), ownMethod (g .1) 0 (g .3 .0), record { lies = own; to = g .3 .1; reads = g .3 .2 })
+
+-- the caller stands there in every setting
+pub caller-everywhere : {f s : Bytes} {end i : ℕ} → OwnMethod f s end i → (es : List Entry) (self : Installed) → Loading f s end es self →
+    (z : MethodAt) × Stands f s end es self (ownHome end) i z
+caller-everywhere {f} {s} {end} {i} g es self l =
+    let same : g .1 .pack ≡ self .pack = Option·some-injective _ _ (sym (settingOf (g .2) .reads) ∙ settingOf l .reads) in
+    let reads = subst (λ (p : Package). Reads (method (formatAt s f) (p .domains)) f i (g .3 .0) (g .3 .1)) same (g .3 .2) in
+    (ownMethod self 0 (g .3 .0), record { lies = own; to = g .3 .1; reads = reads })
 
 -- what is called
-pub callee-stands : {f s : Bytes} {end : ℕ} (t : List ℕ) (index p c m : ℕ) → ReferenceIs f s end t index (found.Method p c m) → Judged f s end →
-    StandsThere f s (homeOf end t p) m
-callee-stands {end = end} t index p c m q g =
-    let z = q (g .0) (g .1) (g .2) in
-    (end, g .0, g .1, g .2, methodNamed (z .0), record { lies = z .2 .lies; to = z .2 .methodEnd; reads = z .2 .method })
+pub callee-stands : {f s : Bytes} {end : ℕ} (x : Meant) → Callee f s end x → Judged f s end → StandsThere f s (x .home) (x .method)
+callee-stands {end = end} x q g =
+    let z = q .1 (g .0) (g .1) (g .2) in
+    let d = z .2 .declared in
+    (end, g .0, g .1, importsOf (g .2), z .0 .means, record { lies = d .lies; to = d .methodEnd; reads = d .method })
 
 -- what a walk carries, at another place
 pub asker-moved : {f s : Bytes} {a : Asker} {i : ℕ} → AskerTrue f s a → AskerTrue f s (askerAt a i)
 asker-moved t = record { file = t .file; domain = t .domain; loading = t .loading }
 
 -- what is told of the place that a walk was moved to, and the tables with it
-pub told-at : {f s : Bytes} {x : Asker} {i : ℕ} {h u v : List ℕ} (a : Asker) (P : ℕ → Aid → ℕ → Type 0) → x ≡ askerAt a i →
-    P (x .end) (aidAt s (x .domain)) (x .at) × TablesTrue f s (x .end) (x .domain) h u v →
-    P (a .end) (aidAt s (a .domain)) i × TablesTrue f s (a .end) (a .domain) h u v
-told-at {f} {s} {h = h} {u} {v} a P e p =
-    subst (λ (y : Asker). P (y .end) (aidAt s (y .domain)) (y .at) × TablesTrue f s (y .end) (y .domain) h u v) e p
+pub told-at : {f s : Bytes} {x : Asker} {i : ℕ} {u v : List ℕ} (a : Asker) (P : ℕ → Aid → ℕ → Type 0) → x ≡ askerAt a i →
+    P (x .end) (aidAt s (x .domain)) (x .at) × TablesTrue f s (x .end) (aidAt s (x .domain)) u v →
+    P (a .end) (aidAt s (a .domain)) i × TablesTrue f s (a .end) (aidAt s (a .domain)) u v
+told-at {f} {s} {u = u} {v} a P e p =
+    subst (λ (y : Asker). P (y .end) (aidAt s (y .domain)) (y .at) × TablesTrue f s (y .end) (aidAt s (y .domain)) u v) e p
+
+-- what is lent serves on where the bits keep their length
+pub lent-on : {s : Bytes} {end : ℕ} {packages x : List ℕ} (y : List ℕ) → Lent s end packages x → length y ≡ length x → Lent s end packages y
+lent-on y t e = record { indexed = t .indexed; room = omega (arith, t .room, e); small = t .small }

@@ -13,7 +13,7 @@ use Rattle.files.specs.Say.{MethodsAt, ClassesAt, AfterMethod, AfterClass}
 use Rattle.files.proofs.Walks.{classes-read}
 use Rattle.homes.specs.Homes.{formatAt}
 use Rattle.refusals.specs.Order.{firstOf, noOfAll, numbers, rising}
-use Rattle.named.specs.Named.{Judged}
+use Rattle.calls.specs.Setting.{settingOf, Judged}
 use Rattle.calls.specs.Codes.{codeTest, classTest}
 use Rattle.calls.specs.Calls.{Asking, methodAsks, classAsks, methodNames, classNames}
 use Rattle.calls.specs.Calls.{methodAllows, classAllows, Reading, OwnMethod, OwnClass, CodesSplit}
@@ -62,7 +62,7 @@ classes-split : (f s : Bytes) (end i : ℕ) (g : Judged f s end) → CodesSplit 
 unfolding q16-splits
 classes-split f s end i g h k =
     let p = g .1 .pack in
-    let r = g .2 .setting .reads in
+    let r = settingOf (g .2) .reads in
     (p .classes, length f, classes-read k (storeLimits s) p r, subst T (allFrom-all (classTest codeSplits) 0 (p .classes)) (h (storeLimits s) p r))
 
 module _ {f s : Bytes} {end : ℕ} {d : Aid} where
@@ -94,8 +94,8 @@ module _ {f s : Bytes} {end : ℕ} {d : Aid} where
     pub classes-end : left ≤ 0 → ClassesAt f k → FileCallsAre f s end d past
     classes-end h m = file-calls past λ a.
         ask-end (class (formatAt s f)) (steady-class (formatAt s f)) mostClasses (classTest codeSplits) classAsks classes-rise k l h
-        a (a .self .pack .classes) (length f) (classes-read m (storeLimits s) (a .self .pack) (a .imports .setting .reads))
+        a (a .self .pack .classes) (length f) (classes-read m (storeLimits s) (a .self .pack) (settingOf (a .loading) .reads))
 
 -- in every setting with this loading domain
 pub calls-number : {f s : Bytes} {end : ℕ} (d : Aid) (n : ℕ) → FileCallsAre f s end d n → CallsNumberIs f s end d n
-calls-number d n h es self i e = h (record { es = es; self = self; imports = i; loads = e })
+calls-number d n h es self i e = h (record { es = es; self = self; loading = i; loads = e })

@@ -23,9 +23,9 @@ use Rattle.rules.specs.Operations.{firstNo}
 use Rattle.places.specs.Reads.{Reads}
 use Rattle.codes.specs.Calls.{kindOf}
 use Rattle.codes.specs.declared.Calling.{Calling}
-use Rattle.homes.specs.Homes.{formatAt, Imports}
+use Rattle.homes.specs.Homes.{formatAt}
 use Rattle.refusals.specs.Order.{Asks, noOf}
-use Rattle.named.specs.Named.{OfJudged}
+use Rattle.calls.specs.Setting.{Loading, OfJudged}
 use Rattle.calls.specs.Codes.{codeTest, classTest}
 use Rattle.calls.specs.Named.{CalledIs}
 use Rattle.calls.specs.declared.NamedFound.{NamedFound}
@@ -34,7 +34,7 @@ use Rattle.calls.specs.declared.NamedFound.{NamedFound}
 pub record Asking (f s : Bytes) (end : ℕ) (d : Aid) : Type 0 where
   pub es : List Entry
   pub self : Installed
-  pub imports : Imports f s end es self
+  pub loading : Loading f s end es self
   pub loads : self .domain ≡ d
 
 -- a reader's value at a place, in the setting's own file
@@ -46,7 +46,7 @@ ClassOf {f} {s} a i k j = Reads (class (formatAt s f) (a .self .pack .domains)) 
 
 -- the answers of 18
 abbrev pub callNames : {f s : Bytes} {end : ℕ} {d : Aid} → Asking f s end d → Call → Bool
-callNames {f} {s} a c = callNamesMethod (installed (storeLimits s) (a .es)) (a .self) c
+callNames {f} {s} a c = callNamesMethod (storeLimits s) (installed (storeLimits s) (a .es)) (a .self) c
 
 abbrev pub methodNames : {f s : Bytes} {end : ℕ} {d : Aid} → Asking f s end d → Method → Bool
 methodNames a m = all (callNames a) (callsOf (m .code))
@@ -56,7 +56,7 @@ classNames a k = all (methodNames a) (k .methods)
 
 -- the answers of 19; none goes by the number of the caller's class
 abbrev pub callAllows : {f s : Bytes} {end : ℕ} {d : Aid} → Asking f s end d → Method → Call → Bool
-callAllows {f} {s} a m c = callAllowed (installed (storeLimits s) (a .es)) (a .self) (ownMethod (a .self) 0 m) c
+callAllows {f} {s} a m c = callAllowed (storeLimits s) (installed (storeLimits s) (a .es)) (a .self) (ownMethod (a .self) 0 m) c
 
 abbrev pub methodAllows : {f s : Bytes} {end : ℕ} {d : Aid} → Asking f s end d → Method → Bool
 methodAllows a m = all (callAllows a m) (callsOf (m .code))
@@ -71,11 +71,11 @@ Reading {A} r p s i = (x : A) × (j : ℕ) × Reads r s i x j × T (p x)
 -- in the file being judged a method or class whose codes split stands at a place
 abbrev pub OwnMethod : Bytes → Bytes → ℕ → ℕ → Type 0
 OwnMethod f s end i =
-    (es : List Entry) × (self : Installed) × Imports f s end es self × Reading (method (formatAt s f) (self .pack .domains)) (codeTest codeSplits) f i
+    (es : List Entry) × (self : Installed) × Loading f s end es self × Reading (method (formatAt s f) (self .pack .domains)) (codeTest codeSplits) f i
 
 abbrev pub OwnClass : Bytes → Bytes → ℕ → ℕ → Type 0
 OwnClass f s end i =
-    (es : List Entry) × (self : Installed) × Imports f s end es self × Reading (class (formatAt s f) (self .pack .domains)) (classTest codeSplits) f i
+    (es : List Entry) × (self : Installed) × Loading f s end es self × Reading (class (formatAt s f) (self .pack .domains)) (classTest codeSplits) f i
 
 -- question 16 was answered yes
 abbrev pub CodesSplit : Bytes → Type 0
@@ -83,7 +83,9 @@ CodesSplit f = (l : Limits) (p : Package) → readFile l f ≡ some p → T (q16
 
 -- the number of the first no of the two questions
 abbrev pub callsNumber : Bytes → List Entry → Installed → ℕ
-callsNumber s es self = firstNo ((18, q18-calls (installed (storeLimits s) es) self) ∷ (19, q19-allowed (installed (storeLimits s) es) self) ∷ [])
+callsNumber s es self =
+    let is = installed (storeLimits s) es in
+    firstNo ((18, q18-calls (storeLimits s) is self) ∷ (19, q19-allowed (storeLimits s) is self) ∷ [])
 
 -- the two questions, of a call, a method, a class
 abbrev pub callAsks : {f s : Bytes} {end : ℕ} {d : Aid} → Asking f s end d → Method → Asks Call
@@ -101,8 +103,8 @@ CallNumberIs f s end d i kind index r =
     (a : Asking f s end d) (m : Method) (j : ℕ) → MethodOf a i m j → r ≡ noOf (callAsks a m) (record { kind = kindOf kind; index = index })
 
 -- of every call that calls what was found
-abbrev pub FoundNumberIs : Bytes → Bytes → ℕ → Aid → List ℕ → ℕ → NamedFound → ℕ → Type 0
-FoundNumberIs f s end d t i x r = (kind : Calling) (index : ℕ) → CalledIs f s end t kind index x → CallNumberIs f s end d i kind index r
+abbrev pub FoundNumberIs : Bytes → Bytes → ℕ → Aid → ℕ → NamedFound → ℕ → Type 0
+FoundNumberIs f s end d i x r = (kind : Calling) (index : ℕ) → CalledIs f s end kind index x → CallNumberIs f s end d i kind index r
 
 abbrev pub MethodCallsAre : Bytes → Bytes → ℕ → Aid → ℕ → ℕ → Type 0
 MethodCallsAre f s end d i r = (a : Asking f s end d) (m : Method) (j : ℕ) → MethodOf a i m j → r ≡ noOf (methodAsks a) m

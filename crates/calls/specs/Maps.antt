@@ -1,33 +1,40 @@
 -- What a walk over the calls of a file carries. Assumes nothing.
 --
 -- askerAt a i              == the same at another place
+-- FileIs f a               == a tells where the file's references stand
 -- domainsOf s g            == the domains that the file g lists, read within the limits of the store s
--- packageDomain s end h p at == the domain that package number p lies in; h has the homes of the imports, the loading domain stands at place `at`
--- mapNumber f s end at h k == the number, in the domains of f and the loading domain behind them, of slot k % 33 of package number k / 33
+-- rowsNumber self of k     == the number, in the domains of self and its own domain behind them, of slot k % 33 of package number k / 33, which is `of`
 -- LoadingIs f s a          == a tells the number of the loading domain
 -- AskerTrue f s a          == all that a tells of the file being judged
--- MapTrue f s end at h m   == each number in the table m is true, where it is known
--- TablesTrue f s end at h r m == the tables of homes, of places of classes and of numbers are true
-use Prim.Native.Nat.{ℕ, _/_, _%_}
+-- Lent s end packages seen == what is lent: the index of the earlier entries, and room for a bit of each class
+-- MapTrue f s end d m      == each number in the table m is true, where it is known, for the file loaded in d
+-- TablesTrue f s end d t m == the slots and the table of numbers are true
+use Prim.Native.Nat.{ℕ, _/_, _%_, _≤_}
 use mathlib.Core.Path.{_≡_}
 use mathlib.Core.List.{List, [], _∷_, _++_}
 use mathlib.Core.Option.{Option, none, some}
 use lib.ListN.{length}
 use Rattle.rules.specs.Bytes.{Bytes, Aid, aid}
 use Rattle.rules.specs.Package.{Package, readFile}
-use Rattle.rules.specs.Store.{storeLimits}
+use Rattle.rules.specs.Store.{Entry, storeLimits}
+use Rattle.rules.specs.Classes.{Installed, installed, packageNumbered}
 use Rattle.places.specs.Reads.{Ends}
+use Rattle.files.specs.Say.{ReferencesAt}
 use Rattle.policies.specs.Say.{slotAid}
 use Rattle.policies.specs.Numbers.{numberIn}
 use Rattle.policies.specs.Rows.{rowLength, Known}
-use Rattle.homes.specs.Homes.{fileOf, aidAt, domainPlace}
-use Rattle.homes.specs.Found.{ImportHomes}
-use Rattle.named.specs.Named.{homeOf, RowsTrue}
-use Rattle.calls.specs.Named.{FileIs}
+use Rattle.homes.specs.Homes.{aidAt}
+use Rattle.homes.specs.Found.{Indexed}
+use Rattle.slots.specs.Slots.{SlotsTrue}
+use Rattle.classes.specs.Keys.{seenLength}
+use Rattle.calls.specs.Setting.{Loading}
 use Rattle.calls.specs.declared.Asker.{Asker}
 
 abbrev pub askerAt : Asker → ℕ → Asker
-askerAt a i = record { end = a .end; domain = a .domain; imports = a .imports; references = a .references; loading = a .loading; at = i }
+askerAt a i = record { end = a .end; domain = a .domain; references = a .references; loading = a .loading; at = i }
+
+abbrev pub FileIs : Bytes → Asker → Type 0
+FileIs f a = ReferencesAt f (a .references)
 
 -- the domains of what is read
 abbrev pub listed : Option Package → List Aid
@@ -37,13 +44,19 @@ listed (some p) = p .domains
 abbrev pub domainsOf : Bytes → Bytes → List Aid
 domainsOf s g = listed (readFile (storeLimits s) g)
 
-abbrev pub packageDomain : Bytes → ℕ → List ℕ → ℕ → ℕ → Aid
-packageDomain s end h p at = aidAt s (domainPlace (homeOf end h p) at)
+-- the domains that a package lists, and the domain that it lies in
+abbrev pub packageDomains : Option Installed → List Aid
+packageDomains none = []
+packageDomains (some y) = y .pack .domains
 
-abbrev pub mapNumber : Bytes → Bytes → ℕ → ℕ → List ℕ → ℕ → ℕ
-mapNumber f s end at h k =
-    let p = k / rowLength in
-    numberIn (domainsOf s f ++ aidAt s at ∷ []) (slotAid (domainsOf s (fileOf f s (homeOf end h p))) (packageDomain s end h p at) (k % rowLength))
+abbrev pub packageDomain : Option Installed → Aid
+packageDomain none = []
+packageDomain (some y) = y .domain
+
+abbrev pub rowsNumber : Installed → (ℕ → Option Installed) → ℕ → ℕ
+rowsNumber self of k =
+    numberIn (self .pack .domains ++ self .domain ∷ [])
+    (slotAid (packageDomains (of (k / rowLength))) (packageDomain (of (k / rowLength))) (k % rowLength))
 
 abbrev pub LoadingIs : Bytes → Bytes → Asker → Type 0
 LoadingIs f s a = let d = aidAt s (a .domain) in a .loading ≡ numberIn (domainsOf s f ++ d ∷ []) d
@@ -53,15 +66,20 @@ pub record AskerTrue (f s : Bytes) (a : Asker) : Type 0 where
   pub domain : Ends aid s (a .domain)
   pub loading : LoadingIs f s a
 
+pub record Lent (s : Bytes) (end : ℕ) (packages seen : List ℕ) : Type 0 where
+  pub indexed : Indexed s end packages
+  pub room : seenLength s ≤ length seen
+  pub small : length s ≤ 65535
+
 -- 16 packages
 abbrev pub mapLength : ℕ
 mapLength = 528
 
-pub record MapTrue (f s : Bytes) (end at : ℕ) (h m : List ℕ) : Type 0 where
+pub record MapTrue (f s : Bytes) (end : ℕ) (d : Aid) (m : List ℕ) : Type 0 where
   pub size : length m ≡ mapLength
-  pub known : Known (mapNumber f s end at h) m
+  pub known : (es : List Entry) (self : Installed) → Loading f s end es self → self .domain ≡ d →
+      Known (rowsNumber self (packageNumbered (installed (storeLimits s) es) self)) m
 
-pub record TablesTrue (f s : Bytes) (end at : ℕ) (h r m : List ℕ) : Type 0 where
-  pub homes : ImportHomes f s end h
-  pub rows : RowsTrue f s end h r
-  pub map : MapTrue f s end at h m
+pub record TablesTrue (f s : Bytes) (end : ℕ) (d : Aid) (t m : List ℕ) : Type 0 where
+  pub slots : SlotsTrue f s t
+  pub map : MapTrue f s end d m

@@ -1,15 +1,17 @@
 // The rights of methods, and question 19 of a call by the numbers of domains.
 use super::Asker;
+use super::Meant;
 use super::NamedFound;
 use coverage::Asked;
 use homes::Home;
 use policies::RightsPlace;
 use policies::TwoLists;
+ghost use Prim.Native.Nat.{_+_, _*_, _≤_};
+ghost use lib.ListN.{length};
 ghost use Rattle.homes.specs.Homes.{aidAt};
-ghost use Rattle.homes.specs.Found.{ImportHomes};
 ghost use Rattle.calls.specs.Named.{CalledThere};
 ghost use Rattle.calls.specs.Maps.{AskerTrue, MapTrue};
-ghost use Rattle.calls.specs.Rights.{StandsThere, RightsAt, NamedThere, MayCall};
+ghost use Rattle.calls.specs.Rights.{StandsThere, RightsAt, MayCall, Callee, CalleeAllows};
 ghost use Rattle.calls.specs.Calls.{OwnMethod, FoundNumberIs};
 
 // Where the policy of the method at place m of the file at a home stands, and the list of domains that its indexes count.
@@ -24,24 +26,23 @@ pub fn rights_of<'a>(f: &'a [u8], s: &'a [u8], h: Home, m: usize) -> RightsPlace
     }
 }
 
-// Question 19 of a call in the method at a place of the file being judged, which calls the method at m of package number p.
+// Question 19 of a call in the method at a place of the file being judged, which calls the method at m of the file at a home; row p of the
+// table is that file's, row 0 that of the file being judged.
 fn may_call<'a>(
     f: &'a [u8],
     s: &'a [u8],
     a: Asker,
-    homes: &[usize; 48],
-    map: &mut [u8],
-    p: usize,
+    h: Home,
     m: usize,
+    p: usize,
+    map: &mut [u8],
 ) -> bool
-    requires { ⌜ OwnMethod (now f) (now s) (a .end) (a .at) × NamedThere (now f) (now s) (a .end) (now homes) p m ⌝ }
-    requires { ⌜ AskerTrue (now f) (now s) a × ImportHomes (now f) (now s) (a .end) (now homes) ⌝ }
-    requires { ⌜ MapTrue (now f) (now s) (a .end) (a .domain) (now homes) (now map) ⌝ }
-    ensures { λ r. ⌜ MayCall (now (f .entry)) (now (s .entry)) (a .end) (aidAt (now (s .entry)) (a .domain)) (now (homes .entry)) (a .at) p m r ⌝ }
-    ensures { λ _. ⌜ MapTrue (now (f .entry)) (now (s .entry)) (a .end) (a .domain) (now (homes .entry)) (now (map .exit)) ⌝ }
+    requires { ⌜ OwnMethod (now f) (now s) (a .end) (a .at) × StandsThere (now f) (now s) h m ⌝ }
+    requires { ⌜ AskerTrue (now f) (now s) a ⌝ }
+    requires { ⌜ (33 * p + 33 ≤ length (now map)) × (length (now map) ≤ 528) ⌝ }
+    ensures { λ r. ⌜ MayCall (now (f .entry)) (now (s .entry)) (a .end) (aidAt (now (s .entry)) (a .domain)) (a .at) h m p (now (map .entry)) (now (map .exit)) r ⌝ }
 {
-    let h = named::home_at(a.end, homes, p);
-    let own = named::home_at(a.end, homes, 0);
+    let own = homes::own_home(a.end);
     let q = rights_of(f, s, own, a.at);
     let r = rights_of(f, s, h, m);
     let l = TwoLists {
@@ -60,24 +61,41 @@ fn may_call<'a>(
     coverage::covers(f, domain, g, other, l, x, map)
 }
 
+// The same by a table of its own, for a method that the class named does not declare itself.
+fn may_call_above<'a>(f: &'a [u8], s: &'a [u8], a: Asker, x: Meant) -> bool
+    requires { ⌜ OwnMethod (now f) (now s) (a .end) (a .at) × Callee (now f) (now s) (a .end) x ⌝ }
+    requires { ⌜ AskerTrue (now f) (now s) a ⌝ }
+    ensures { λ r. ⌜ CalleeAllows (now (f .entry)) (now (s .entry)) (a .end) (aidAt (now (s .entry)) (a .domain)) (a .at) x r ⌝ }
+{
+    let mut map = [255u8; 66];
+    may_call(f, s, a, x.home, x.method, 1, &mut map)
+}
+
+// Question 19 of a call that calls the declaration.
+fn callee_allows<'a>(f: &'a [u8], s: &'a [u8], a: Asker, map: &mut [u8], x: Meant) -> bool
+    requires { ⌜ OwnMethod (now f) (now s) (a .end) (a .at) × Callee (now f) (now s) (a .end) x ⌝ }
+    requires { ⌜ AskerTrue (now f) (now s) a ⌝ }
+    requires { ⌜ MapTrue (now f) (now s) (a .end) (aidAt (now s) (a .domain)) (now map) ⌝ }
+    ensures { λ r. ⌜ CalleeAllows (now (f .entry)) (now (s .entry)) (a .end) (aidAt (now (s .entry)) (a .domain)) (a .at) x r ⌝ }
+    ensures { λ _. ⌜ MapTrue (now (f .entry)) (now (s .entry)) (a .end) (aidAt (now (s .entry)) (a .domain)) (now (map .exit)) ⌝ }
+{
+    if x.pack < 16 {
+        return may_call(f, s, a, x.home, x.method, x.pack, map);
+    }
+    may_call_above(f, s, a, x)
+}
+
 // Questions 18 and 19 of a call in the method at a place of the file being judged, by what it calls: the number of the first no, or 0.
-pub fn call_number<'a>(
-    f: &'a [u8],
-    s: &'a [u8],
-    a: Asker,
-    homes: &[usize; 48],
-    map: &mut [u8],
-    found: NamedFound,
-) -> u8
-    requires { ⌜ OwnMethod (now f) (now s) (a .end) (a .at) × CalledThere (now f) (now s) (a .end) (now homes) found ⌝ }
-    requires { ⌜ AskerTrue (now f) (now s) a × ImportHomes (now f) (now s) (a .end) (now homes) ⌝ }
-    requires { ⌜ MapTrue (now f) (now s) (a .end) (a .domain) (now homes) (now map) ⌝ }
-    ensures { λ r. ⌜ FoundNumberIs (now (f .entry)) (now (s .entry)) (a .end) (aidAt (now (s .entry)) (a .domain)) (now (homes .entry)) (a .at) found r ⌝ }
-    ensures { λ _. ⌜ MapTrue (now (f .entry)) (now (s .entry)) (a .end) (a .domain) (now (homes .entry)) (now (map .exit)) ⌝ }
+pub fn call_number<'a>(f: &'a [u8], s: &'a [u8], a: Asker, map: &mut [u8], found: NamedFound) -> u8
+    requires { ⌜ OwnMethod (now f) (now s) (a .end) (a .at) × CalledThere (now f) (now s) (a .end) found ⌝ }
+    requires { ⌜ AskerTrue (now f) (now s) a ⌝ }
+    requires { ⌜ MapTrue (now f) (now s) (a .end) (aidAt (now s) (a .domain)) (now map) ⌝ }
+    ensures { λ r. ⌜ FoundNumberIs (now (f .entry)) (now (s .entry)) (a .end) (aidAt (now (s .entry)) (a .domain)) (a .at) found r ⌝ }
+    ensures { λ _. ⌜ MapTrue (now (f .entry)) (now (s .entry)) (a .end) (aidAt (now (s .entry)) (a .domain)) (now (map .exit)) ⌝ }
 {
     match found {
-        NamedFound::Method(p, c, m) => {
-            if !may_call(f, s, a, homes, map, p, m) {
+        NamedFound::Method(x) => {
+            if !callee_allows(f, s, a, map, x) {
                 return 19;
             }
             0

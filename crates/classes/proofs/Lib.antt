@@ -3,3 +3,4 @@ pub mod Records
 pub mod Parents
 pub mod Places
 pub mod Apart
+pub mod Keys

@@ -175,6 +175,13 @@ module _ (f s : Bytes) (h : Home) (n count i : ℕ) (q : CountIs f s h n count) 
         let m = at-split (c .class .parents) i ((parent-there t z) .inside) in
         (p (t .0) (c .entries) (c .self) (c .asked) (c .pack) (c .home) (c .class) (c .is) (m .0) (m .1)) .2
 
+    pub kind0-before : ClassThere f s h n → rank (r .home) (r .number) < rank h n
+    unfolding parent-there
+    kind0-before t =
+        let c = t .1 in
+        let m = at-split (c .class .parents) i ((parent-there t z) .inside) in
+        (p (t .0) (c .entries) (c .self) (c .asked) (c .pack) (c .home) (c .class) (c .is) (m .0) (m .1)) .1
+
     pub kind0-hit : Kind0Is f s (r .home) (r .number) true → Kind0ParentIs f s h n (At r)
     kind0-hit y end es self j x o k e =
         let m = at-split (k .parents) i (omega (arith, q end es self j x o k e)) in

@@ -5,7 +5,8 @@
 -- ClassThere, AtClass   == the same wherever the earlier entries end
 -- OwnThere              == own class b
 -- ParentIs              == the class told is the parent with a number, and stands before the class of which it is one
--- Kind0ParentIs         == the class told is the first parent of kind 0, if there is one; FoundNearer == its entry is the same or an earlier one
+-- Kind0ParentIs         == the class told is the first parent of kind 0, if there is one; FoundNearer == its entry is the same or an
+--                          earlier one; FoundBefore == its rank is smaller
 -- RecordAt, MethodsIn   == the class's record, or its counted list of methods, stands at a place of the file at home h
 use Prim.Native.Nat.{ℕ, _+_, _*_, _<_}
 use mathlib.Core.Path.{_≡_}
@@ -106,6 +107,11 @@ Kind0ParentIs f s h n r = AtClass f s h n λ end es self x k. FoundAt f s end es
 abbrev pub FoundNearer : Home → ClassFound → Type 0
 FoundNearer h (classes.At r) = Nearer h (r .home)
 FoundNearer h classes.Nothing = Unit {0}
+
+-- and its rank is smaller
+abbrev pub FoundBefore : Home → ℕ → ClassFound → Type 0
+FoundBefore h n (classes.At r) = rank (r .home) (r .number) < rank h n
+FoundBefore h n classes.Nothing = Unit {0}
 
 -- the record of class n of the package at home h stands at place i of the file there
 abbrev pub RecordAt : Bytes → Bytes → Home → ℕ → ℕ → Type 0

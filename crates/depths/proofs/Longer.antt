@@ -14,7 +14,7 @@ use Rattle.rules.specs.Questions.{q13-imports}
 use Rattle.rules.proofs.Tests.{all-mem, find-some}
 use Rattle.rules.proofs.Lists.{flat-append}
 use Rattle.rules.proofs.Bounds.{flat-mem}
-use Rattle.rules.proofs.Agree.{depth-agree}
+use Rattle.rules.proofs.Reached.{depth-agree}
 use Rattle.rules.proofs.Sound.{Sane, byAid-more}
 use Rattle.store.specs.Entries.{part, EntryAt, Entries}
 use Rattle.store.proofs.Stand.{entry-next, entries-next}

@@ -7,7 +7,7 @@ use mathlib.Core.List.{List, [], _∷_}
 use lib.Dec.{T}
 use Rattle.rules.specs.Bytes.{pick, all, allFrom}
 use Rattle.rules.specs.Code.{Call, callsOf}
-use Rattle.rules.specs.Package.{Method, Class, Package}
+use Rattle.rules.specs.Package.{Limits, Method, Class, Package}
 use Rattle.rules.specs.Classes.{Installed}
 use Rattle.rules.specs.Questions.{q16-splits, q17-targets, q24-handlers, q18-calls, q19-allowed}
 use Rattle.rules.specs.Operations.{Question, firstNo}
@@ -86,10 +86,10 @@ classes-quiet q i (k ∷ ks) e = go (all (λ m. noCalls (m .code)) (k .methods))
 
 -- a file without calls passes 18 and 19
 module _ (is : List Installed) (self : Installed) (e : quiet (self .pack) ≡ true) where
-  pub quiet-18 : q18-calls is self ≡ true
+  pub quiet-18 : (l : Limits) → q18-calls l is self ≡ true
   unfolding q18-calls quiet
-  quiet-18 = classes-quiet (λ i m c. _) 0 (self .pack .classes) e
+  quiet-18 l = classes-quiet (λ i m c. _) 0 (self .pack .classes) e
 
-  pub quiet-19 : q19-allowed is self ≡ true
+  pub quiet-19 : (l : Limits) → q19-allowed l is self ≡ true
   unfolding q19-allowed quiet
-  quiet-19 = classes-quiet (λ i m c. _) 0 (self .pack .classes) e
+  quiet-19 l = classes-quiet (λ i m c. _) 0 (self .pack .classes) e

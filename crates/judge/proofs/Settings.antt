@@ -16,7 +16,7 @@ use Rattle.store.proofs.Stand.{entries-to}
 use Rattle.imports.specs.Say.{SettingThere}
 use Rattle.files.specs.Say.{Readable}
 use Rattle.homes.specs.Homes.{Setting, Imports, Parents}
-use Rattle.named.specs.Named.{Judged}
+use Rattle.calls.specs.Setting.{Loading, Judged}
 use Rattle.judge.specs.Says.{usedAt, FileRead, Asked14, ReadSome, Asked14Some}
 
 -- a package in the domain that loads it
@@ -34,9 +34,12 @@ module _ {s : Bytes} {end : ℕ} {d : Aid} {f : Bytes} (es : List Entry) (p : Pa
   pub parents : Parents f s end es (selfOf d p)
   parents = record { imported = imports; exist = (parents-yes (storeLimits s) (installed (storeLimits s) es) (selfOf d p) (a .q14)) .exist }
 
+  pub loading : Loading f s end es (selfOf d p)
+  loading = record { new = a .q12; judged = record { parents = parents; q14 = a .q14 } }
+
 module _ (s : Bytes) (end : ℕ) (d : Aid) (f : Bytes) where
   pub judged : Asked14Some s end d f → Judged f s end
-  judged t = (t .0, selfOf d (t .1), imports (t .0) (t .1) (t .2))
+  judged t = (t .0, selfOf d (t .1), loading (t .0) (t .1) (t .2))
 
   -- the file reads
   pub read-some : Asked14Some s end d f → ReadSome s f

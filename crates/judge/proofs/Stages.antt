@@ -25,7 +25,7 @@ use Rattle.rules.proofs.Tests.{of-true}
 use Rattle.running.specs.Say.{JudgedThere, RunningIs}
 use Rattle.judge.specs.Says.{Asked14, Asked14Some, NumberFrom, NumberBefore, SubsetIs, SubsetTold, from, asks}
 use Rattle.judge.proofs.Answers.{number-no, number-yes, joined-no, joined-yes}
-use Rattle.judge.proofs.Settings.{selfOf, imports, parents}
+use Rattle.judge.proofs.Settings.{selfOf, parents, loading}
 
 module _ (s : Bytes) (end : ℕ) (d : Aid) (f : Bytes) where
   -- 21
@@ -60,16 +60,18 @@ module _ (s : Bytes) (end : ℕ) (d : Aid) (f : Bytes) where
 
   -- 18 and 19, which are asked together, and what follows them
   abbrev calls : List Entry → Package → List Question
-  calls es p = (18, q18-calls (installed (storeLimits s) es) (selfOf d p)) ∷ (19, q19-allowed (installed (storeLimits s) es) (selfOf d p)) ∷ []
+  calls es p =
+      let is = installed (storeLimits s) es in
+      (18, q18-calls (storeLimits s) is (selfOf d p)) ∷ (19, q19-allowed (storeLimits s) is (selfOf d p)) ∷ []
 
   module _ (c : ℕ) (number : CallsNumberIs f s end d c) where
     number-18 : (c ≡ 0 → ⊥) → NumberFrom 18 s end d f c
     unfolding packageQuestions
-    number-18 z es p a = joined-no (calls es p) (from 20 (asks s es d f p)) c tt (number es (selfOf d p) (imports es p a) refl) z
+    number-18 z es p a = joined-no (calls es p) (from 20 (asks s es d f p)) c tt (number es (selfOf d p) (loading es p a) refl) z
 
     behind-19 : c ≡ 0 → (r : ℕ) → NumberFrom 20 s end d f r → NumberFrom 18 s end d f r
     unfolding packageQuestions
-    behind-19 z r n es p a = joined-yes (calls es p) (from 20 (asks s es d f p)) r tt (sym z ∙ number es (selfOf d p) (imports es p a) refl) (n es p a)
+    behind-19 z r n es p a = joined-yes (calls es p) (from 20 (asks s es d f p)) r tt (sym z ∙ number es (selfOf d p) (loading es p a) refl) (n es p a)
 
     pub calls-before : NumberBefore 18 20 s end d f c
     calls-before = (number-18, behind-19)
@@ -160,8 +162,10 @@ module _ (s : Bytes) (end : ℕ) (d : Aid) (f : Bytes) where
           without-calls z r n es p a =
               let quiet = codes.number-0 p (sym (of-file es p a) ∙ z) .3 in
               let is = installed (storeLimits s) es in
-              let from-19 = number-yes 19 (q19-allowed is (selfOf d p)) (from 20 (asks s es d f p)) r (codes.quiet-19 is (selfOf d p) quiet) (n es p a) in
-              number-yes 18 (q18-calls is (selfOf d p)) (from 19 (asks s es d f p)) r (codes.quiet-18 is (selfOf d p) quiet) from-19
+              let l = storeLimits s in
+              let self = selfOf d p in
+              let from-19 = number-yes 19 (q19-allowed l is self) (from 20 (asks s es d f p)) r (codes.quiet-19 is self quiet l) (n es p a) in
+              number-yes 18 (q18-calls l is self) (from 19 (asks s es d f p)) r (codes.quiet-18 is self quiet l) from-19
 
           pub quiet-before : c ≡ 0 → NumberBefore 15 20 s end d f 0
           quiet-before z = ((λ y. absurd (y refl)), (λ y r n. behind-26 r (without-calls z r n)))

@@ -9,11 +9,11 @@
 -- NumberFrom k s end d f r  == r is the number of a load's questions from k on, those before it answered yes
 -- NumberBefore k m ..       == the same, of the questions from k on that stand before m: 0 where they are answered yes
 -- fileAsks s es d f         == a load's questions from 10 on
--- ParentsAnswer s end f r   == questions 10 to 14 of a file; ParentsTold == what is found with a yes
+-- ParentsAnswer s end f r   == questions 10 to 14 of a file; DepthsTold == what is found with a yes
 -- DomainTold s end f x      == x tells where the AID of the loading domain stands, and whether 26 is asked of the file f
 -- SubsetTold s end d f b    == 26 of the file f, where b says that it is asked, is the load's
 -- SubsetIs f b r            == r is the answer to 26 of the file f, where b says that it is asked
--- InsideAnswer s end d f r  == questions 10 to 19 of a file; DepthsTold == what is found with a yes
+-- InsideAnswer s end d f r  == questions 10 to 19 of a file
 -- FileSays, LoadSays        == a load's answer from 10 on, and whole
 -- DomainYes l pre e         == question 3, and 4 or 5, of an entry behind others, and 26 of a package
 -- DomainsYes s end          == of every entry of those that end at a place
@@ -38,9 +38,9 @@ use Rattle.store.specs.Entries.{part, EntryAt, Entries}
 use Rattle.store.specs.Sound.{Over}
 use Rattle.places.specs.Reads.{Ends}
 use Rattle.homes.specs.Homes.{aidAt}
-use Rattle.homes.specs.Found.{ImportHomes}
 use Rattle.chains.specs.Names.{namesLength}
-use Rattle.running.specs.Walk.{seenLength}
+use Rattle.classes.specs.Keys.{seenLength}
+use Rattle.slots.specs.Slots.{slotsLength}
 use Rattle.depths.specs.Depths.{OwnDepths, DepthsFit, depthWidth}
 use Rattle.judge.specs.declared.LoadAnswer.{LoadAnswer}
 use Rattle.judge.specs.declared.LoadAnswer.the-variants.{Refused, Accepted}
@@ -51,9 +51,9 @@ use Rattle.judge.specs.declared.LoadingDomain.{LoadingDomain}
 abbrev pub usedAt : Bytes → ℕ
 usedAt s = u2At s 5
 
--- the tables of question 20 have room for the names of a chain and for every class of the store
+-- the tables of question 20 have room for the names of a chain and for every class of the store, and the first for the slots of 18 and 19
 abbrev pub HasRoom : Bytes → List ℕ → List ℕ → Type 0
-HasRoom s names seen = (namesLength s ≤ length names) × (seenLength s ≤ length seen)
+HasRoom s names seen = (namesLength s ≤ length names) × (seenLength s ≤ length seen) × (slotsLength ≤ length names)
 
 -- the number of a load's answer, and its depth figure
 abbrev pub numberOf : LoadAnswer → ℕ
@@ -119,10 +119,10 @@ ParentsSay s end d f es (Accepted depth) = (p : Package) × Asked14 s end d f es
 abbrev pub ParentsAnswer : Bytes → ℕ → Bytes → LoadAnswer → Type 0
 ParentsAnswer s end f r = (d : Aid) (es : List Entry) → Over s end es → ParentsSay s end d f es r
 
--- with a yes: the homes of the imports, and the depths of the own classes
-abbrev pub ParentsTold : Bytes → ℕ → Bytes → List ℕ → List ℕ → LoadAnswer → Type 0
-ParentsTold s end f homes own (Refused n) = Unit {0}
-ParentsTold s end f homes own (Accepted depth) = ImportHomes f s end homes × OwnDepths f s end own × DepthsFit (depthWidth s) f own
+-- with a yes: the depths of the own classes
+abbrev pub DepthsTold : Bytes → ℕ → Bytes → List ℕ → LoadAnswer → Type 0
+DepthsTold s end f own (Refused n) = Unit {0}
+DepthsTold s end f own (Accepted depth) = OwnDepths f s end own × DepthsFit (depthWidth s) f own
 
 -- 26 of the file that d loads, where b says that it is asked, is the load's: it is not asked only where it is known to be yes
 abbrev pub SubsetTold : Bytes → ℕ → Aid → Bytes → Bool → Type 0
@@ -142,11 +142,6 @@ SubsetIs f b r = (l : Limits) (p : Package) → readFile l f ≡ some p → r �
 abbrev pub InsideAnswer : Bytes → ℕ → Aid → Bytes → LoadAnswer → Type 0
 InsideAnswer s end d f (Refused n) = (es : List Entry) → Over s end es → (0 < n) × (n ≡ firstNo (fileAsks s es d f))
 InsideAnswer s end d f (Accepted depth) = ParentsAnswer s end f (Accepted depth) × ((n : ℕ) → NumberFrom 20 s end d f n → NumberFrom 15 s end d f n)
-
--- with a yes: the depths of the own classes
-abbrev pub DepthsTold : Bytes → ℕ → Bytes → List ℕ → LoadAnswer → Type 0
-DepthsTold s end f own (Refused n) = Unit {0}
-DepthsTold s end f own (Accepted depth) = OwnDepths f s end own × DepthsFit (depthWidth s) f own
 
 -- a load's answer from 10 on, and whole
 abbrev pub FileSays : Bytes → ℕ → Aid → Bytes → LoadAnswer → Type 0

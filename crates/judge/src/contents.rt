@@ -1,6 +1,6 @@
-// What a file holds that passed 14, its names, codes and calls: questions 15 to 17, 24, 26, 18 and 19. `codes_long` calls itself where the
-// store has more than 65,535 bytes, which it never has: so the compiler does not make it a part of its caller, and its large sets stand on
-// the stack only where the store's code limit asks for them.
+// What a file holds that passed 14, its names, codes and calls: questions 15 to 17, 24, 26, 18 and 19. `codes_long` and
+// `codes_short` call themselves where the store has more than 65,535 bytes, which it never has: so the compiler does not make them parts of
+// their caller, and their sets stand on the stack only while they are used.
 use super::LoadingDomain;
 use file_codes::subset::file_keeps;
 use store::openings;
@@ -10,28 +10,31 @@ ghost use Prim.Native.Nat.{_≤_};
 ghost use lib.Dec.{eqb};
 ghost use lib.ListN.{length};
 ghost use Rattle.rules.specs.Bytes.{aid};
+ghost use Rattle.rules.specs.Store.{storeLimits};
 ghost use Rattle.file_codes.specs.Codes.{FileNumberIs};
 ghost use Rattle.calls.specs.Calls.{CodesSplit};
 ghost use Rattle.files.specs.Say.{Readable};
 ghost use Rattle.places.specs.Reads.{Ends};
 ghost use Rattle.homes.specs.Homes.{aidAt};
-ghost use Rattle.homes.specs.Found.{ImportHomes};
-ghost use Rattle.judge.specs.Says.{ReadSome, Asked14Some, NumberBefore, DomainTold, SubsetIs};
+ghost use Rattle.homes.specs.Found.{Indexed};
+ghost use Rattle.judge.specs.Says.{HasRoom, ReadSome, Asked14Some, NumberBefore, DomainTold, SubsetIs};
 
-// 18 and 19 of a file each code of which splits: the number of the first no, or 0.
+// 18 and 19 of a file each code of which splits: the number of the first no, or 0. The table in which 20 has its names has the slots here.
 fn calls_number<'a>(
     s: &'a [u8],
     end: usize,
     domain: usize,
     file: &'a [u8],
-    homes: &[usize; 48],
+    index: &[u16],
+    names: &mut [u16],
+    seen: &mut [u8],
 ) -> u32
     requires { ⌜ Asked14Some (now s) end (aidAt (now s) domain) (now file) × CodesSplit (now file) × Ends aid (now s) domain ⌝ }
-    requires { ⌜ ImportHomes (now file) (now s) end (now homes) ⌝ }
+    requires { ⌜ Indexed (now s) end (now index) × (length (now s) ≤ 65535) × HasRoom (now s) (now names) (now seen) ⌝ }
     ensures { λ r. ⌜ NumberBefore 18 20 (now (s .entry)) end (aidAt (now (s .entry)) domain) (now (file .entry)) r ⌝ }
 {
-    let table = instructions::table();
-    calls::calls_ok(file, s, end, domain, &table, homes) as u32
+    slots::clear(names);
+    calls::calls_ok(file, s, end, domain, index, names, seen) as u32
 }
 
 // 16, 17 and 24 of a file: the number of the first no; 18 where there is none and the file has calls, 0 where it has none. With sets for
@@ -49,7 +52,21 @@ fn codes_long(s: &[u8], file: &[u8]) -> u8
     file_codes::codes_ok(file, &table, &mut starts, &mut targets)
 }
 
-// The same, with smaller sets where the code limit is 4,096 or less.
+// The same with smaller sets, for a code limit of 4,096 or less.
+fn codes_short(s: &[u8], file: &[u8]) -> u8
+    requires { ⌜ ReadSome (now s) (now file) × (length (now s) ≤ 65535) × (storeLimits (now s) .code ≤ 4096) ⌝ }
+    ensures { λ r. ⌜ FileNumberIs (now (file .entry)) r ⌝ }
+{
+    if 65535 < s.len() {
+        return codes_short(s, file);
+    }
+    let table = instructions::table();
+    let mut starts = [0u8; 512];
+    let mut targets = [0u8; 512];
+    file_codes::codes_ok(file, &table, &mut starts, &mut targets)
+}
+
+// The same, with the sets that the code limit asks for.
 fn codes_number(s: &[u8], file: &[u8]) -> u8
     requires { ⌜ ReadSome (now s) (now file) × (length (now s) ≤ 65535) ⌝ }
     ensures { λ r. ⌜ FileNumberIs (now (file .entry)) r ⌝ }
@@ -58,10 +75,7 @@ fn codes_number(s: &[u8], file: &[u8]) -> u8
     if 4096 < limits.code {
         return codes_long(s, file);
     }
-    let table = instructions::table();
-    let mut starts = [0u8; 512];
-    let mut targets = [0u8; 512];
-    file_codes::codes_ok(file, &table, &mut starts, &mut targets)
+    codes_short(s, file)
 }
 
 // Is a number of the codes of a file a refusal: neither 0 nor 18?
@@ -92,10 +106,12 @@ pub fn inside_number<'a>(
     end: usize,
     domain: LoadingDomain,
     file: &'a [u8],
-    homes: &[usize; 48],
+    index: &[u16],
+    names: &mut [u16],
+    seen: &mut [u8],
 ) -> u32
     requires { ⌜ Asked14Some (now s) end (aidAt (now s) (domain .aid)) (now file) × DomainTold (now s) end (now file) domain ⌝ }
-    requires { ⌜ ImportHomes (now file) (now s) end (now homes) × (length (now s) ≤ 65535) ⌝ }
+    requires { ⌜ Indexed (now s) end (now index) × (length (now s) ≤ 65535) × HasRoom (now s) (now names) (now seen) ⌝ }
     ensures { λ r. ⌜ NumberBefore 15 20 (now (s .entry)) end (aidAt (now (s .entry)) (domain .aid)) (now (file .entry)) r ⌝ }
 {
     if !names::names_ok(file) {
@@ -111,5 +127,5 @@ pub fn inside_number<'a>(
     if number == 0 {
         return 0;
     }
-    calls_number(s, end, domain.aid, file, homes)
+    calls_number(s, end, domain.aid, file, index, names, seen)
 }

@@ -3,9 +3,10 @@
 pub mod contents;
 pub mod questions;
 
+use contents::inside_number;
 use fields::u2_at;
 use questions::file_answer;
-use questions::inside_answer;
+use questions::parents_answer;
 use questions::running_number;
 use store::EntryPart;
 use store::Spot;
@@ -100,9 +101,12 @@ fn package_sound(
         subset: false,
     };
     let mut own = [0u8; 32];
-    match inside_answer(s, at, domain, g, index, depths, &mut own) {
+    match parents_answer(s, at, g, index, depths, &mut own) {
         LoadAnswer::Refused(_) => false,
         LoadAnswer::Accepted(_) => {
+            if inside_number(s, at, domain, g, index, names, seen) != 0 {
+                return false;
+            }
             depths::table::keep_depths(s, depths, &own, file, next);
             if running_number(s, at, at + 3, g, index, names, seen) != 0 {
                 return false;

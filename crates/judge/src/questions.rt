@@ -19,29 +19,28 @@ ghost use Rattle.places.specs.Reads.{Ends};
 ghost use Rattle.homes.specs.Homes.{aidAt};
 ghost use Rattle.homes.specs.Found.{Indexed};
 ghost use Rattle.depths.specs.Depths.{DepthsKept};
-ghost use Rattle.judge.specs.Says.{usedAt, HasRoom, ReadSome, Asked14Some, NumberFrom, ParentsAnswer, ParentsTold, DomainTold, InsideAnswer, DepthsTold, FileSays};
+ghost use Rattle.judge.specs.Says.{usedAt, HasRoom, ReadSome, Asked14Some, NumberFrom, ParentsAnswer, DomainTold, DepthsTold, FileSays};
 
-// 12 to 14 of a file that reads: the number of the first no, or the depth of the deepest class; with it the homes of the imports and
-// the depths of the own classes.
+// 12 to 14 of a file that reads: the number of the first no, or the depth of the deepest class; with it the depths of the own classes.
 fn package_answer<'a>(
     s: &'a [u8],
     end: usize,
     file: &'a [u8],
     index: &[u16],
-    homes: &mut [usize; 48],
     depths: &[u8],
     own: &mut [u8],
 ) -> LoadAnswer
     requires { ⌜ OverSome (now s) end × (q10-marked (now file) ≡ true) × ReadSome (now s) (now file) ⌝ }
     requires { ⌜ Indexed (now s) end (now index) × DepthsKept (now s) end (now depths) × (length (now s) ≤ 65535) ⌝ }
-    requires { ⌜ (length (now homes) ≡ 48) × (length (now own) ≡ mostClasses) ⌝ }
+    requires { ⌜ length (now own) ≡ mostClasses ⌝ }
     ensures { λ r. ⌜ ParentsAnswer (now (s .entry)) end (now (file .entry)) r ⌝ }
-    ensures { λ r. ⌜ ParentsTold (now (s .entry)) end (now (file .entry)) (now (homes .exit)) (now (own .exit)) r ⌝ }
+    ensures { λ r. ⌜ DepthsTold (now (s .entry)) end (now (file .entry)) (now (own .exit)) r ⌝ }
 {
     if !imports::package_new(file, s, end, index) {
         return LoadAnswer::Refused(12);
     }
-    if !imports::imports_there(file, s, end, index, homes) {
+    let mut homes = [0usize; 48];
+    if !imports::imports_there(file, s, end, index, &mut homes) {
         return LoadAnswer::Refused(13);
     }
     let mut rows = [0u16; 512];
@@ -50,62 +49,31 @@ fn package_answer<'a>(
         end: end,
         most: limits.depth,
     };
-    match depths::parents_ok(file, s, homes, &mut rows, depths, own, bounds) {
+    match depths::parents_ok(file, s, &homes, &mut rows, depths, own, bounds) {
         Parented::Yes(depth) => LoadAnswer::Accepted(depth),
         Parented::No => LoadAnswer::Refused(14),
     }
 }
 
-// 10 to 14 of a file.
-fn parents_answer<'a>(
+// 10 to 14 of a file: the number of the first no, or the depth of the deepest class; with it the depths of the own classes.
+pub fn parents_answer<'a>(
     s: &'a [u8],
     end: usize,
     file: &'a [u8],
     index: &[u16],
-    homes: &mut [usize; 48],
     depths: &[u8],
     own: &mut [u8],
 ) -> LoadAnswer
     requires { ⌜ OverSome (now s) end ⌝ }
     requires { ⌜ Indexed (now s) end (now index) × DepthsKept (now s) end (now depths) × (length (now s) ≤ 65535) ⌝ }
-    requires { ⌜ (length (now homes) ≡ 48) × (length (now own) ≡ mostClasses) ⌝ }
+    requires { ⌜ length (now own) ≡ mostClasses ⌝ }
     ensures { λ r. ⌜ ParentsAnswer (now (s .entry)) end (now (file .entry)) r ⌝ }
-    ensures { λ r. ⌜ ParentsTold (now (s .entry)) end (now (file .entry)) (now (homes .exit)) (now (own .exit)) r ⌝ }
+    ensures { λ r. ⌜ DepthsTold (now (s .entry)) end (now (file .entry)) (now (own .exit)) r ⌝ }
 {
     match reader::read_package(file, openings::limits_of(s)) {
         Read::Unmarked => LoadAnswer::Refused(10),
         Read::Unreadable => LoadAnswer::Refused(11),
-        Read::Package(_) => package_answer(s, end, file, index, homes, depths, own),
-    }
-}
-
-// 10 to 19 of a file: the number of the first no, or the depth of the deepest class; with it the depths of the own classes. The homes of
-// the imports and the tables of 14 to 19 are gone when 20 is asked.
-pub fn inside_answer<'a>(
-    s: &'a [u8],
-    end: usize,
-    domain: LoadingDomain,
-    file: &'a [u8],
-    index: &[u16],
-    depths: &[u8],
-    own: &mut [u8],
-) -> LoadAnswer
-    requires { ⌜ OverSome (now s) end × DomainTold (now s) end (now file) domain ⌝ }
-    requires { ⌜ Indexed (now s) end (now index) × DepthsKept (now s) end (now depths) × (length (now s) ≤ 65535) ⌝ }
-    requires { ⌜ length (now own) ≡ mostClasses ⌝ }
-    ensures { λ r. ⌜ InsideAnswer (now (s .entry)) end (aidAt (now (s .entry)) (domain .aid)) (now (file .entry)) r ⌝ }
-    ensures { λ r. ⌜ DepthsTold (now (s .entry)) end (now (file .entry)) (now (own .exit)) r ⌝ }
-{
-    let mut homes = [0usize; 48];
-    match parents_answer(s, end, file, index, &mut homes, depths, own) {
-        LoadAnswer::Refused(n) => LoadAnswer::Refused(n),
-        LoadAnswer::Accepted(depth) => {
-            let number = inside_number(s, end, domain, file, &homes);
-            if number != 0 {
-                return LoadAnswer::Refused(number);
-            }
-            LoadAnswer::Accepted(depth)
-        }
+        Read::Package(_) => package_answer(s, end, file, index, depths, own),
     }
 }
 
@@ -150,9 +118,13 @@ pub fn file_answer<'a>(
     let end = u2_at(s, 5);
     let aid = domain.aid;
     let mut own = [0u8; 32];
-    match inside_answer(s, end, domain, file, index, depths, &mut own) {
+    match parents_answer(s, end, file, index, depths, &mut own) {
         LoadAnswer::Refused(n) => LoadAnswer::Refused(n),
         LoadAnswer::Accepted(depth) => {
+            let inside = inside_number(s, end, domain, file, index, names, seen);
+            if inside != 0 {
+                return LoadAnswer::Refused(inside);
+            }
             let later = running_number(s, end, aid, file, index, names, seen);
             if later != 0 {
                 return LoadAnswer::Refused(later);

@@ -42,12 +42,12 @@ calls-begin code ks e c = (to, back)
 
 -- a method calls another exactly where one of its calls does
 pub calls-made : (is : List Installed) (m o : MethodAt) → Calls is m o → (c : Call) × List·Memᴰ c (callsOf (m .method .code)) × MadeBy is m c o
-calls-made is m o (direct c k d x e) = (c, k, names d x e)
-calls-made is m o (dynamic c k d x e b i u o′ r) = (c, k, runs d x e b i u o′ r)
+calls-made is m o (direct c k d x _ e) = (c, k, names d x o e)
+calls-made is m o (dynamic c k d x t e b i u o′ r) = (c, k, runs d x t e b i u o′ r)
 
 pub made-calls : (is : List Installed) (m o : MethodAt) (c : Call) → List·Memᴰ c (callsOf (m .method .code)) → MadeBy is m c o → Calls is m o
-made-calls is m o c k (names d x e) = direct c k d x e
-made-calls is m o c k (runs d x e b i u o′ r) = dynamic c k d x e b i u o′ r
+made-calls is m o c k (names d x _ e) = direct c k d x o e
+made-calls is m o c k (runs d x t e b i u o′ r) = dynamic c k d x t e b i u o′ r
 
 -- of an installed method that has a handler, every call that its code makes anywhere is a call of the method
 pub handler-calls : (l : Limits) (es : List Entry) → Sane l (installed l es) → (m o : InstalledMethod l es) (h : Handler) →

@@ -1,6 +1,6 @@
--- The laws about the definitions. Demand1, Demand2 and Demand3 are the claims of document 01, Request5, Request2, Request7, Request12 and Request9
--- those of document 02; Exact says what single definitions are exactly; Witness, WitnessOwn, WitnessHandlers and WitnessKinds show that demand 3
--- is not empty.
+-- The laws about the definitions. Demand1, Demand2 and Demand3 are the claims of document 01, Request5, Request2, Request7, Request12, Request9 and
+-- Request3 those of document 02; Exact says what single definitions are exactly; Witness, WitnessOwn, WitnessHandlers, WitnessKinds and
+-- WitnessSearch show that demand 3 is not empty.
 pub mod Demand1
 pub mod Demand2
 pub mod Demand3
@@ -9,6 +9,7 @@ pub mod Request2
 pub mod Request7
 pub mod Request12
 pub mod Request9
+pub mod Request3
 pub mod Exact
 pub mod Claims
 pub mod Answers
@@ -18,6 +19,7 @@ pub mod Located
 pub mod WitnessOwn
 pub mod WitnessHandlers
 pub mod WitnessKinds
+pub mod WitnessSearch
 pub mod Whole
 pub mod Paths
 pub mod Ledger
@@ -25,6 +27,13 @@ pub mod Step
 pub mod Less
 pub mod Sound
 pub mod Agree
+pub mod Reached
+pub mod Homes
+pub mod Search
+pub mod Names
+pub mod Meant
+pub mod Above
+pub mod Since
 pub mod Running
 pub mod Called
 pub mod Distinct
@@ -42,6 +51,7 @@ pub mod Back
 pub mod Opens
 pub mod Openings
 pub mod Bounds
+pub mod Searched
 pub mod Lengths
 pub mod Signed
 pub mod Splitting

@@ -28,7 +28,7 @@ allFrom-is p k (x ∷ xs) h =
     and-i (p k x) (allFrom p (suc k) xs) (rw q at (h 0 x refl)) (allFrom-is p (suc k) xs
     (λ i y e. let w : k + suc i ≡ suc k + i = omega arith in rw w at (h (suc i) y e)))
 
-allFrom-zero-is : {A : Type 0} (p : ℕ → A → Bool) (xs : List A) → ((i : ℕ) (x : A) → at xs i ≡ some x → T (p i x)) → T (allFrom p 0 xs)
+pub allFrom-zero-is : {A : Type 0} (p : ℕ → A → Bool) (xs : List A) → ((i : ℕ) (x : A) → at xs i ≡ some x → T (p i x)) → T (allFrom p 0 xs)
 allFrom-zero-is p xs h = allFrom-is p 0 xs (λ i x e. rw zero-add (h i x e))
 
 -- the greatest is at most what all are at most

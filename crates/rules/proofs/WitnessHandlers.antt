@@ -11,13 +11,15 @@ use Rattle.rules.specs.Bytes.{isSome}
 use Rattle.rules.specs.Code.{signed, numbersFrom, lengthOf, lengthAs, instructionLength, splitFrom, split, mayEnd, codeSplits, targetsEach, switchTargets, targetsAt, codeBranches, Handler, codeHandlers, static, Call, callAt, callsOf}
 use Rattle.rules.specs.Package.{edition1, edition2, standard, classNumber, reference, item, items, policy, codeIf, handler, handlersIf, method, class, contents, sized, editionOf, readFile}
 use Rattle.rules.specs.Store.{version1, write, openingOf, entriesOf, storeOpening}
-use Rattle.rules.specs.Questions.{Named, callNames, methodNamed, q1-size, q3-lengths, q4-new, q5-created, q10-marked, q11-reads, q12-new, q13-imports, q14-parents, q15-names, q16-splits, q17-targets, q24-handlers, keepsSubset, q26-subset, q18-calls, q19-allowed, q20-running, q21-fits}
+use Rattle.rules.specs.Questions.{Named, callNames, q1-size, q3-lengths, q4-new, q5-created, q10-marked, q11-reads, q12-new, q13-imports, q14-parents, q15-names, q16-splits, q17-targets, q24-handlers, keepsSubset, q26-subset, q18-calls, q19-allowed, q20-running, q21-fits}
 use Rattle.rules.specs.Operations.{createQuestions, packageQuestions, loadQuestions, soundEntries, sound, number}
 use Rattle.rules.specs.Ledger.{ledgerNumber, ledgerStep, ledgerAfter}
 use Rattle.rules.specs.Classes.{installed}
 use Rattle.rules.specs.Paths.{InstalledMethod, homeOf, located, static-is}
 use Rattle.rules.specs.Splitting.{first, next, Begins, InHandler, MadeBy, names}
 use Rattle.rules.specs.CasesHandlers.{installingHandlers, handlerPackages}
+use Rattle.rules.proofs.Sound.{sound-sane}
+use Rattle.rules.proofs.Paths.{home-installed, found-names}
 use Rattle.rules.proofs.Located.{the, methodBy, found}
 
 -- the ledger of a buffer of 256 bytes after these calls
@@ -67,17 +69,19 @@ abbrev pub callTo : ℕ → Call
 callTo n = record { kind = static; index = n }
 
 -- what they name
-abbrev named : (n : ℕ) → T (isSome (callNames (installed standard handlerPackages) (homeOf caller) (callTo n))) → Named
-named n h = the (callNames (installed standard handlerPackages) (homeOf caller) (callTo n)) h
+abbrev named : (n : ℕ) → T (isSome (callNames standard (installed standard handlerPackages) (homeOf caller) (callTo n))) → Named
+named n h = the (callNames standard (installed standard handlerPackages) (homeOf caller) (callTo n)) h
 
 the-is : {A : Type 0} (o : Option A) (h : T (isSome o)) → o ≡ some (the o h)
 the-is none h = absurd h
 the-is (some a) h = refl
 
--- a call of P2's method calls what it names
-made : (n : ℕ) (h : T (isSome (callNames (installed standard handlerPackages) (homeOf caller) (callTo n)))) →
-    MadeBy (installed standard handlerPackages) (located caller) (callTo n) (methodNamed (named n h))
-made n h = names static-is (named n h) (the-is (callNames (installed standard handlerPackages) (homeOf caller) (callTo n)) h)
+-- a call of P2's method calls what it means
+made : (n : ℕ) (h : T (isSome (callNames standard (installed standard handlerPackages) (homeOf caller) (callTo n)))) →
+    MadeBy (installed standard handlerPackages) (located caller) (callTo n) (named n h .means)
+made n h = names static-is (named n h .class) (named n h .means) (found-names standard (installed standard handlerPackages)
+    (sound-sane version1 256 handlerPackages handlers-sound) (homeOf caller) (home-installed standard handlerPackages caller) (callTo n) (named n h)
+    (the-is (callNames standard (installed standard handlerPackages) (homeOf caller) (callTo n)) h))
 
 made-guarded : MadeBy (installed standard handlerPackages) (located caller) (callTo 0) (located guarded)
 unfolding standard classNumber reference item items policy codeIf handler handlersIf method class contents sized editionOf readFile

@@ -1,6 +1,7 @@
--- Rows of calls: three packages, each loaded after the one before, and which of their methods call which, computed. Assumes nothing.
+-- Rows of calls: packages, each loaded after the one before, and which of their methods call which, computed. Assumes nothing.
 --
--- CallRow        == a name, how many of the three packages are there, a caller and a method by package, class and name, whether it calls
+-- CallRow        == a name, the packages that are there, a caller and a method by package, class and name, whether it calls
+-- two, three     == the first two of the three packages here, and all; searched == those of CasesSearch
 -- failingCalls   == the names of the rows that do not follow from the definitions
 use Prim.Native.Nat.{ℕ}
 use Prim.Native.String.{String}
@@ -17,6 +18,7 @@ use Rattle.rules.specs.Questions.{methodQueried}
 use Rattle.rules.specs.Operations.{Operation, create, load}
 use Rattle.rules.specs.CasesForm.{hex, sameBool}
 use Rattle.rules.specs.CasesFiles.{D1, P1, P2}
+use Rattle.rules.specs.CasesSearch.{searchedPackages}
 use Rattle.rules.specs.Called.{called, callsB}
 
 -- a third package
@@ -45,17 +47,17 @@ abbrev pub threePackages : List Entry
 threePackages = domain full D1 ∷ loaded D1 first ∷ loaded D1 second ∷ loaded D1 third ∷ []
 
 pub data CallRow : Type 0 where
-  calls : String → ℕ → (Aid × ℕ × ℕ) → (Aid × ℕ × ℕ) → Bool → CallRow
+  calls : String → List Installed → (Aid × ℕ × ℕ) → (Aid × ℕ × ℕ) → Bool → CallRow
 
--- among so many of the packages
+-- among these packages
 abbrev callIn : List Installed → (Aid × ℕ × ℕ) → (Aid × ℕ × ℕ) → Bool
 callIn is m o = someAnd (methodQueried is (m .0) (m .1) (m .2)) λ x. someAnd (methodQueried is (o .0) (o .1) (o .2)) λ y. callsB standard is x y
 
 abbrev callHolds : CallRow → Bool
-callHolds (calls name k m o b) = sameBool (callIn (take k (installed standard threePackages)) m o) b
+callHolds (calls name is m o b) = sameBool (callIn is m o) b
 
 abbrev callName : CallRow → String
-callName (calls name k m o b) = name
+callName (calls name is m o b) = name
 
 unfoldable pub failingCalls : List CallRow → List String
 unfolding signed numbersFrom lengthOf lengthAs instructionLength splitFrom split callAt callsOf standard classNumber reference item items policy
@@ -63,22 +65,43 @@ unfolding signed numbersFrom lengthOf lengthAs instructionLength splitFrom split
 failingCalls [] = []
 failingCalls (r ∷ rs) = pick (callHolds r) (failingCalls rs) (callName r ∷ failingCalls rs)
 
+-- the packages of the rows
+abbrev two : List Installed
+two = take 2 (installed standard threePackages)
+
+abbrev three : List Installed
+three = installed standard threePackages
+
+abbrev searched : List Installed
+searched = installed standard searchedPackages
+
 abbrev pub callRows : List CallRow
 callRows =
-    calls "8B calls what runs" 2 (P2, 1, 1) (P1, 0, 7) true
-    ∷ calls "8B calls an overriding method of a later package" 3 (P2, 1, 1) (P3, 0, 7) true
-    ∷ calls "8B calls nothing of another name" 3 (P2, 1, 1) (P1, 0, 9) false
-    ∷ calls "8B calls nothing of a class beside" 3 (P2, 1, 1) (P1, 2, 5) false
-    ∷ calls "8C calls the method named" 3 (P2, 1, 2) (P1, 0, 7) true
-    ∷ calls "8C calls no overriding method" 3 (P2, 1, 2) (P3, 0, 7) false
-    ∷ calls "8D calls the method named" 3 (P2, 1, 3) (P1, 0, 9) true
-    ∷ calls "8D calls no other" 3 (P2, 1, 3) (P1, 0, 7) false
-    ∷ calls "8E calls a method that a class inherits" 2 (P2, 1, 4) (P1, 2, 5) true
-    ∷ calls "8E does not call the interface's method" 3 (P2, 1, 4) (P1, 1, 5) false
-    ∷ calls "a method of a third package calls one of the second" 3 (P3, 1, 8) (P2, 1, 3) true
-    ∷ calls "and not what that one calls" 3 (P3, 1, 8) (P1, 0, 9) false
-    ∷ calls "a method is not called by what it calls" 3 (P1, 0, 9) (P2, 1, 3) false
-    ∷ calls "a code without calls calls nothing" 3 (P1, 0, 7) (P1, 0, 9) false
+    calls "8B calls what runs" two (P2, 1, 1) (P1, 0, 7) true
+    ∷ calls "8B calls an overriding method of a later package" three (P2, 1, 1) (P3, 0, 7) true
+    ∷ calls "8B calls nothing of another name" three (P2, 1, 1) (P1, 0, 9) false
+    ∷ calls "8B calls nothing of a class beside" three (P2, 1, 1) (P1, 2, 5) false
+    ∷ calls "8C calls the method named" three (P2, 1, 2) (P1, 0, 7) true
+    ∷ calls "8C calls no overriding method" three (P2, 1, 2) (P3, 0, 7) false
+    ∷ calls "8D calls the method named" three (P2, 1, 3) (P1, 0, 9) true
+    ∷ calls "8D calls no other" three (P2, 1, 3) (P1, 0, 7) false
+    ∷ calls "8E calls a method that a class inherits" two (P2, 1, 4) (P1, 2, 5) true
+    ∷ calls "8E does not call the interface's method" three (P2, 1, 4) (P1, 1, 5) false
+    ∷ calls "a method of a third package calls one of the second" three (P3, 1, 8) (P2, 1, 3) true
+    ∷ calls "and not what that one calls" three (P3, 1, 8) (P1, 0, 9) false
+    ∷ calls "a method is not called by what it calls" three (P1, 0, 9) (P2, 1, 3) false
+    ∷ calls "a code without calls calls nothing" three (P1, 0, 7) (P1, 0, 9) false
+    ∷ calls "8B calls what the class named inherits from a third package" searched (P3, 0, 1) (P1, 0, 7) true
+    ∷ calls "8B calls an overriding method below the class named" searched (P3, 0, 1) (P2, 1, 7) true
+    ∷ calls "8B calls nothing below the declaration alone" searched (P3, 0, 1) (P1, 1, 7) false
+    ∷ calls "8C calls the inherited declaration" searched (P3, 0, 2) (P1, 0, 7) true
+    ∷ calls "8C calls nothing below the class named" searched (P3, 0, 2) (P2, 1, 7) false
+    ∷ calls "8D calls the inherited declaration" searched (P3, 0, 3) (P1, 0, 9) true
+    ∷ calls "8B of an interface's method calls below the class named" searched (P3, 0, 4) (P2, 1, 5) true
+    ∷ calls "and nothing below the interface alone" searched (P3, 0, 4) (P1, 3, 5) false
+    ∷ calls "8E naming a class calls below it" searched (P3, 0, 6) (P2, 1, 5) true
+    ∷ calls "and nothing below the interface that declares it alone" searched (P3, 0, 6) (P1, 3, 5) false
+    ∷ calls "8E naming a class does not call the interface's method" searched (P3, 0, 6) (P1, 2, 5) false
     ∷ []
 
 pub calls-hold : failingCalls callRows ≡ []

@@ -1,4 +1,4 @@
--- Document 01 and requests 5, 2, 7, 12 and 9 of document 02 as definitions, in document 01's order.
+-- Document 01 and requests 5, 2, 7, 12, 9 and 3 of document 02 as definitions, in document 01's order.
 pub mod Bytes
 pub mod Code
 pub mod Subset
@@ -34,5 +34,6 @@ pub mod CasesHandlers
 pub mod CasesOpening
 pub mod CasesSubset
 pub mod CasesKinds
+pub mod CasesSearch
 pub mod Cases
 pub mod CasesCalls

@@ -21,8 +21,7 @@ use Rattle.rules.specs.Code.{instructionLength, Handler, Call, callAt}
 use Rattle.rules.specs.Package.{Limits, Method, Class, Package}
 use Rattle.rules.specs.Store.{Entry}
 use Rattle.rules.specs.Classes.{Installed, installed, ClassAt, MethodAt, allows}
-use Rattle.rules.specs.Questions.{Named, callNames, methodNamed}
-use Rattle.rules.specs.Paths.{InstalledMethod, located, IsOrBelow, Runs, Direct, Dynamic, CallPath}
+use Rattle.rules.specs.Paths.{InstalledMethod, located, IsOrBelow, Runs, Names, Direct, Dynamic, CallPath}
 
 pub data Reaches (code : Bytes) : ℕ → Type 0 where
   first : Reaches code 0
@@ -49,12 +48,12 @@ Q24 p = (k : Class) → List·Memᴰ k (p .classes) → (m : Method) → List·M
 abbrev pub InHandler : Handler → ℕ → Type 0
 InHandler h k = ((h .start ≤ k) × (k < h .end)) ⊎ (h .target ≤ k)
 
--- 8C and 8D call the method named, 8B and 8E the one that runs for an installed class at or below the one named
+-- 8C and 8D call the declaration meant, 8B and 8E the method that runs for an installed class at or below the one named
 pub data MadeBy (is : List Installed) (m : MethodAt) (c : Call) : MethodAt → Type 0 where
-  names : Direct (c .kind) → (x : Named) → callNames is (m .class .home) c ≡ some x → MadeBy is m c (methodNamed x)
-  runs : Dynamic (c .kind) → (x : Named) → callNames is (m .class .home) c ≡ some x →
-      (b : ClassAt) → List·Memᴰ (b .home) is → IsOrBelow is b (x .class) →
-      (o : MethodAt) → Runs is b (x .method .name) o → MadeBy is m c o
+  names : Direct (c .kind) → (x : ClassAt) (o : MethodAt) → Names is (m .class .home) c x o → MadeBy is m c o
+  runs : Dynamic (c .kind) → (x : ClassAt) (t : MethodAt) → Names is (m .class .home) c x t →
+      (b : ClassAt) → List·Memᴰ (b .home) is → IsOrBelow is b x →
+      (o : MethodAt) → Runs is b (t .method .name) o → MadeBy is m c o
 
 -- a call inside a handler is a call of its method on any path: it makes a path, and one with any path behind it; along it the last method
 -- allows the first one's domain and all that the first one allows

@@ -3,7 +3,6 @@ pub mod Allows
 pub mod Turns
 pub mod Loops
 pub mod Visits
-pub mod Keys
 pub mod Walk
 pub mod Steps
 pub mod Whole

@@ -14,15 +14,16 @@ use Rattle.rules.specs.Questions.{own}
 use Rattle.rules.specs.Running.{runningAllows}
 use Rattle.bits.specs.Bits.{bitAt}
 use Rattle.classes.specs.Say.{Judged}
+use Rattle.classes.specs.Keys.{key, seenLength}
+use Rattle.classes.proofs.Keys.{key-small}
 use Rattle.chains.specs.Say.{Running, RunsIs}
 use Rattle.chains.specs.Names.{Kept, AsStored, RunAlike}
 use Rattle.chains.specs.declared.Names.{Names}
 use Rattle.chains.specs.declared.RunsFound.the-variants.{Nothing}
 use Rattle.chains.proofs.Alike.{runs-alike}
-use Rattle.running.specs.Walk.{key, seenLength, SeenPass, BitsFor}
+use Rattle.running.specs.Walk.{SeenPass, BitsFor}
 use Rattle.running.specs.declared.OwnClass.{OwnClass}
 use Rattle.running.specs.declared.visited.Visit.{Visit}
-use Rattle.running.proofs.Keys.{key-small}
 use Rattle.running.proofs.Whole.{ownVisit, nothing-runs}
 
 -- the test of a method of class a

@@ -9,8 +9,9 @@ use Rattle.rules.specs.Bytes.{Bytes}
 use Rattle.bits.specs.Bits.{bitAt, withBit}
 use Rattle.homes.specs.declared.Home.{Home}
 use Rattle.classes.specs.Say.{CountIs, rank}
+use Rattle.classes.specs.Keys.{key}
 use Rattle.running.specs.Say.{MethodsPass, ClassPasses}
-use Rattle.running.specs.Walk.{visitHome, VisitPlaced, at-place, PlacedIs, ParentPlaced, visitOf, ParentVisit, WalkFrom, key, SeenPass, FirstPass, ParentsPass}
+use Rattle.running.specs.Walk.{visitHome, VisitPlaced, at-place, PlacedIs, ParentPlaced, visitOf, ParentVisit, WalkFrom, SeenPass, FirstPass, ParentsPass}
 use Rattle.running.specs.declared.visited.Visit.{Visit}
 use Rattle.running.proofs.Walk as walk
 

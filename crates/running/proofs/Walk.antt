@@ -28,8 +28,9 @@ use Rattle.homes.proofs.Homes.{home-below}
 use Rattle.classes.specs.Say.{CountIs, rank, NamedAt, ParentIs}
 use Rattle.classes.specs.declared.ClassSpot.{ClassSpot}
 use Rattle.running.specs.Say.{RunningIn, WalkThere, MethodsPass, Passes, ClassPasses}
-use Rattle.running.specs.Walk.{key, seenLength, SeenPass, FirstPass, ParentsPass}
-use Rattle.running.proofs.Keys.{key-small, key-one}
+use Rattle.running.specs.Walk.{SeenPass, FirstPass, ParentsPass}
+use Rattle.classes.specs.Keys.{key, seenLength}
+use Rattle.classes.proofs.Keys.{key-small, key-one}
 use Rattle.classes.proofs.Records.{at-split}
 
 -- a member of a list has a number

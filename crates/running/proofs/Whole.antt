@@ -36,10 +36,9 @@ use Rattle.chains.specs.Names.{namesLength, NamesIs, Room}
 use Rattle.chains.specs.declared.Names.{Names}
 use Rattle.chains.specs.declared.RunsFound.the-variants.{Nothing}
 use Rattle.running.specs.Say.{WalkThere, Passes, Fails, Answers, ClassPasses, OwnClassThere, OwnPasses, JudgedThere, RunningIs}
-use Rattle.running.specs.Walk.{visitFor, SmallNames, WalkFrom, key, seenLength, SeenPass}
+use Rattle.running.specs.Walk.{visitFor, SmallNames, WalkFrom, SeenPass}
 use Rattle.running.specs.declared.OwnClass.{OwnClass}
 use Rattle.running.specs.declared.visited.Visit.{Visit}
-use Rattle.running.proofs.Keys.{key-small}
 use Rattle.slots.specs.Slots.{SmallHome}
 use Rattle.classes.proofs.Records.{at-split}
 use Rattle.classes.proofs.Places.{own-depth}

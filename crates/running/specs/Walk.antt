@@ -7,7 +7,6 @@
 -- NumberedThere, NumberedAt == the package that a number stands for in its file is there, and lies at a home
 -- ParentVisit f s v i w  == w is the visit of its parent with number i, which stands before it
 -- WalkFrom f s index names v == what the walk may use: the class, the names of the own class, the index of the earlier entries
--- key h n                == the number of the bit of class n of the package at home h: c classes, 32 at most, make an entry of 22 + 3 * c bytes or more
 -- SeenPass f s end d b seen == there is a bit for each class, and where it is set the class and all its ancestors pass for own class b
 -- SeenIf f s end d b seen alike == there is room for the bits, and they hold for own class b where the answer is yes
 -- BitsFor x y end alike  == the bits y are x where the answer is yes, else none is set
@@ -28,6 +27,8 @@ use Rattle.homes.specs.Found.{Indexed}
 use Rattle.homes.specs.declared.Home.{Home}
 use Rattle.homes.specs.declared.HomeFound.the-variants.{At, Nothing}
 use Rattle.classes.specs.Say.{ParentIs, RecordAt}
+use Rattle.classes.specs.Keys.{key}
+pub use Rattle.classes.specs.Keys.{seenLength}
 use Rattle.classes.specs.declared.ClassSpot.{ClassSpot}
 use Rattle.chains.specs.Names.{NamesIs}
 use Rattle.chains.specs.declared.Names.{Names}
@@ -117,14 +118,6 @@ pub record WalkFrom (f s : Bytes) (index names : List ℕ) (v : Visit) : Type 0 
   pub chain : NamesIs f s names (visitNames v)
   pub indexed : Indexed s (v .end) index
   pub small : length s ≤ 65535
-
--- the bit of a class
-abbrev pub key : Home → ℕ → ℕ
-key h n = h .before * 3 / 11 + n
-
--- how many bytes the bits take
-abbrev pub seenLength : Bytes → ℕ
-seenLength s = length s * 3 / 88 + 5
 
 -- where a bit is set the class and all its ancestors pass for own class b
 pub record SeenPass (f s : Bytes) (end d b : ℕ) (seen : Bytes) : Type 0 where

@@ -19,12 +19,13 @@ ghost use Prim.Native.Nat.{_+_, _*_, _/_, _≤_};
 ghost use lib.ListN.{length};
 ghost use Rattle.homes.specs.Homes.{ownHome};
 ghost use Rattle.homes.specs.Found.{Indexed};
-ghost use Rattle.classes.specs.Say.{Kind0Is};
+ghost use Rattle.classes.specs.Say.{ClassThere, Kind0Is};
+ghost use Rattle.classes.specs.Keys.{seenLength};
 ghost use Rattle.chains.specs.Names.{namesLength, NamesIs, Kept, AsStored, Room};
 ghost use Rattle.chains.specs.Say.{RunningThere};
 ghost use Rattle.slots.specs.Slots.{SlotsTrue};
 ghost use Rattle.running.specs.Say.{MethodsPass, ClassPasses, OwnClassThere, OwnPasses, JudgedThere, RunningIs};
-ghost use Rattle.running.specs.Walk.{visitHome, visitNames, VisitPlaced, WalkFrom, seenLength, SeenPass, SeenIf, BitsFor, ParentsPass};
+ghost use Rattle.running.specs.Walk.{visitHome, visitNames, VisitPlaced, WalkFrom, SeenPass, SeenIf, BitsFor, ParentsPass};
 
 // An own class of kind 0: its names, where the domain of its package stands in the store, and whether the bits of classes seen, which
 // were set for the own class before, hold for it too.
@@ -179,6 +180,16 @@ fn own_class_passes<'a>(
     class_passes(f, s, index, names, seen, slots, v)
 }
 
+// Is the class of kind 0?
+fn is_kind0<'a>(f: &'a [u8], s: &'a [u8], slots: &mut [u16; 640], x: ClassSpot) -> bool
+    requires { ⌜ ClassThere (now f) (now s) (x .home) (x .number) × (length (now s) ≤ 65535) ⌝ }
+    requires { ⌜ SlotsTrue (now f) (now s) (now slots) ⌝ }
+    ensures { λ r. ⌜ Kind0Is (now (f .entry)) (now (s .entry)) (x .home) (x .number) r ⌝ }
+    ensures { λ _. ⌜ SlotsTrue (now (f .entry)) (now (s .entry)) (now (slots .exit)) ⌝ }
+{
+    parents::is_kind0(f, s, slots, x)
+}
+
 // The names of own class b, found in a frame of its own.
 fn names_apart<'a>(
     f: &'a [u8],
@@ -226,7 +237,7 @@ pub fn running_ok<'a>(
     let mut b = 0;
     while b < count {
         let x = ClassSpot { home: h, number: b };
-        if parents::is_kind0(f, s, &mut slots, x) {
+        if is_kind0(f, s, &mut slots, x) {
             let w = names_apart(f, s, index, &mut *names, &mut slots, kept, b);
             let o = OwnClass {
                 names: w,

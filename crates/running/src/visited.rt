@@ -11,8 +11,9 @@ ghost use lib.ListN.{length};
 ghost use Rattle.homes.specs.Homes.{RecordIs};
 ghost use Rattle.homes.specs.Found.{Indexed};
 ghost use Rattle.classes.specs.Say.{CountIs};
+ghost use Rattle.classes.specs.Keys.{key};
 ghost use Rattle.slots.specs.Slots.{SmallHome, SlotsTrue};
-ghost use Rattle.running.specs.Walk.{visitHome, visitNames, SmallNames, visitFor, VisitThere, VisitPlaced, PlacedIs, key};
+ghost use Rattle.running.specs.Walk.{visitHome, visitNames, SmallNames, visitFor, VisitThere, VisitPlaced, PlacedIs};
 ghost use Rattle.running.specs.Walk.{NumberedThere, NumberedAt, ParentPlaced, ParentVisit};
 
 // A class that is visited for own class `own` over the entries that end at `end`, whose names end at `stored` and at `all`, and whose

@@ -27,7 +27,7 @@ pub record Emptying (t u : List ℕ) (k i : ℕ) : Type 0 where
 pub empty-start : (t : List ℕ) (k : ℕ) → Emptying t t k 0
 empty-start t k = record { few = omega arith; size = refl; zeros = λ j p q. absurd (omega arith); others = λ j n. refl }
 
-pub empty-more : (t u : List ℕ) (k i : ℕ) → i < slotLength → k < slotCount → length t ≡ slotsLength → Emptying t u k i → Emptying t
+pub empty-more : (t u : List ℕ) (k i : ℕ) → i < slotLength → k < slotCount → slotsLength ≤ length t → Emptying t u k i → Emptying t
     (set u (slotLength * k + i) 0) k (i + 1)
 empty-more t u k i b c z e = record {
   few = omega arith;
@@ -77,15 +77,30 @@ import-small f s h (suc p) n t z y g m =
     let w = home-bounds f s (t .0) (t .1) (t .2) g (u .0) (u .2) in
     record { from = omega (arith, w .0, w .1); to = omega (arith, w .1); before = omega (arith, u .3, y .before) }
 
--- where all is 0 nothing is known
-pub slots-start : (f s : Bytes) → SlotsTrue f s (replicate 640 0)
-slots-start f s = record {
-  size = length-replicate {A = ℕ} 640 0;
+-- slots of zeros know nothing
+pub slots-none : (f s : Bytes) (t : List ℕ) → slotsLength ≤ length t → ((j : ℕ) → j < slotsLength → getD t j 0 ≡ 0) → SlotsTrue f s t
+slots-none f s t z e = record {
+  size = z;
   slot = λ k b. record {
-    places = record { room = omega (arith, length-replicate {A = ℕ} 640 0); told = λ c l n. absurd (omega (arith, zeros 640 (slotLength * k + c))) };
-    imports = λ p l n. absurd (n (zeros 640 (slotLength * k + 32 + 3 * suc p + 1)));
+    places = record { room = omega arith; told = λ c l n. absurd (omega (arith, e (slotLength * k + c) (omega arith))) };
+    imports = λ p l n. absurd (n (e (slotLength * k + 32 + 3 * suc p + 1) (omega arith)));
   };
 }
+
+-- so do slots in which the first numbers were set to 0, one by one
+pub record Clearing (t u : List ℕ) (i : ℕ) : Type 0 where
+  pub size : length u ≡ length t
+  pub zeros : (j : ℕ) → j < i → getD u j 0 ≡ 0
+
+pub clear-more : (t u : List ℕ) (i : ℕ) → i < length t → Clearing t u i → Clearing t (set u i 0) (i + 1)
+clear-more t u i b c = record { size = length-set u i 0 ∙ c .size; zeros = λ j q. zeros j q (same-or-not j i) }
+  where
+    zeros : (j : ℕ) → j < i + 1 → (j ≡ i) ⊎ (j ≡ i → ⊥) → getD (set u i 0) j 0 ≡ 0
+    zeros j q (inl w) = rw w (getD-set-same u i 0 0 (omega (arith, c .size)))
+    zeros j q (inr w) = getD-set-other u i j 0 0 w ∙ c .zeros j (omega (arith, w))
+
+pub slots-start : (f s : Bytes) → SlotsTrue f s (replicate 640 0)
+slots-start f s = slots-none f s (replicate 640 0) (omega (arith, length-replicate {A = ℕ} 640 0)) (λ j l. zeros 640 j)
   where
     zeros : (n i : ℕ) → _≡_ {A = ℕ} (getD (replicate n 0) i 0) 0
     zeros zero i = refl

@@ -96,7 +96,7 @@ apart j k n = elim (decLe (j + 1) k) [
 -- a table whose slots are true but for slot k, which is true too
 pub slots-but : (f s : Bytes) (t u : List ℕ) (k : ℕ) → length u ≡ length t → ((j : ℕ) → (j ≡ k → ⊥) → SlotSame t u j) → SlotsTrue f s t → SlotTrue f s u
     k → SlotsTrue f s u
-slots-but f s t u k z e q r = record { size = z ∙ q .size; slot = λ j b. go j b (same-or-not j k) }
+slots-but f s t u k z e q r = record { size = omega (arith, z, q .size); slot = λ j b. go j b (same-or-not j k) }
   where
     go : (j : ℕ) → j < slotCount → (j ≡ k) ⊎ (j ≡ k → ⊥) → SlotTrue f s u j
     go j b (inl w) = subst (SlotTrue f s u) (sym w) r
@@ -112,7 +112,7 @@ slots-filled f s t u k b z e r q = slots-but f s t u k z (λ j n. others j (apar
     others j (inr w) i x y = e .above i (omega arith)
 
 -- slot k was emptied, and stands for the package at another home
-module _ (t u : List ℕ) (k : ℕ) (b : k < slotCount) (z : length t ≡ slotsLength) (y : length u ≡ length t) (e : Emptied t u k) (h : Home) where
+module _ (t u : List ℕ) (k : ℕ) (b : k < slotCount) (z : slotsLength ≤ length t) (y : length u ≡ length t) (e : Emptied t u k) (h : Home) where
   abbrev new : List ℕ
   new = withHome u (slotLength * k + 32) h
 

@@ -49,7 +49,7 @@ pub record SlotTrue (f s : Bytes) (t : List ℕ) (k : ℕ) : Type 0 where
   pub imports : (p : ℕ) → suc p ≤ 15 → (importHome t k (suc p) .to ≡ 0 → ⊥) → NumberedIs f s (slotHome t k) (suc p) (At (importHome t k (suc p)))
 
 pub record SlotsTrue (f s : Bytes) (t : List ℕ) : Type 0 where
-  pub size : length t ≡ slotsLength
+  pub size : slotsLength ≤ length t
   pub slot : (k : ℕ) → k < slotCount → SlotTrue f s t k
 
 -- two tables have the same in a slot

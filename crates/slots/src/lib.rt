@@ -9,7 +9,8 @@ ghost use mathlib.Core.Path.{_≡_};
 ghost use mathlib.Core.Bool.{true};
 ghost use Prim.Native.Nat.{_+_, _*_, _<_, _≤_};
 ghost use lib.ListN.{length, set};
-ghost use Rattle.homes.specs.Homes.{HomeThere, NumberedIs};
+ghost use Rattle.rules.specs.Bytes.{Bytes};
+ghost use Rattle.homes.specs.Homes.{HomeThere, NumberedIs, ClassPlaced};
 ghost use Rattle.homes.specs.Found.{Indexed};
 ghost use Rattle.classes.specs.Say.{ClassThere, RecordAt};
 ghost use Rattle.slots.specs.Slots.{slotCount, slotLength, slotsLength, homeIn, withHome, slotHome, SmallHome, Emptied, SlotsTrue, SlotFor};
@@ -30,7 +31,7 @@ fn number(x: u16) -> usize
 // The home that stands in three numbers of the table.
 fn home_in(slots: &[u16], at: usize) -> Home
     requires { ⌜ at + 2 < length (now slots) ⌝ }
-    requires { ⌜ length (now slots) ≡ slotsLength ⌝ }
+    requires { ⌜ slotsLength ≤ length (now slots) ⌝ }
     ensures { λ r. ⌜ r ≡ homeIn (now (slots .entry)) at ⌝ }
 {
     Home {
@@ -42,7 +43,7 @@ fn home_in(slots: &[u16], at: usize) -> Home
 
 // Writes it there.
 fn put_home(slots: &mut [u16], at: usize, h: Home)
-    requires { ⌜ (at + 2 < length (now slots)) × (length (now slots) ≡ slotsLength) ⌝ }
+    requires { ⌜ (at + 2 < length (now slots)) × (slotsLength ≤ length (now slots)) ⌝ }
     requires { ⌜ SmallHome h ⌝ }
     ensures { λ _. ⌜ now (slots .exit) ≡ withHome (now (slots .entry)) at h ⌝ }
 {
@@ -66,7 +67,7 @@ fn same_home(g: Home, h: Home) -> bool
 
 // Nothing is known in slot k.
 fn empty_slot(slots: &mut [u16], k: usize)
-    requires { ⌜ (k < slotCount) × (length (now slots) ≡ slotsLength) ⌝ }
+    requires { ⌜ (k < slotCount) × (slotsLength ≤ length (now slots)) ⌝ }
     ensures { λ _. ⌜ Emptied (now (slots .entry)) (now (slots .exit)) k ⌝ }
 {
     let base = 80 * k;
@@ -77,9 +78,21 @@ fn empty_slot(slots: &mut [u16], k: usize)
     }
 }
 
+// Nothing is known in any slot.
+pub fn clear(slots: &mut [u16])
+    requires { ⌜ slotsLength ≤ length (now slots) ⌝ }
+    ensures { λ _. ⌜ ((f s : Bytes) → SlotsTrue f s (now (slots .exit))) ⌝ }
+{
+    let mut i = 0;
+    while i < 640 {
+        slots[i] = 0;
+        i += 1;
+    }
+}
+
 // Slot k is that of the package at a home: it is emptied where it was another's.
 fn take_slot(slots: &mut [u16], h: Home, k: usize)
-    requires { ⌜ (k < slotCount) × (length (now slots) ≡ slotsLength) ⌝ }
+    requires { ⌜ (k < slotCount) × (slotsLength ≤ length (now slots)) ⌝ }
     requires { ⌜ SmallHome h ⌝ }
     ensures { λ _. ⌜ SlotFor (now (slots .entry)) (now (slots .exit)) h k ⌝ }
 {
@@ -93,7 +106,7 @@ fn take_slot(slots: &mut [u16], h: Home, k: usize)
 
 // The slot that holds the package at a home, or an empty one, or one by the home's place; slot 0 is the own file's.
 pub fn slot_for(slots: &[u16], h: Home) -> usize
-    requires { ⌜ length (now slots) ≡ slotsLength ⌝ }
+    requires { ⌜ slotsLength ≤ length (now slots) ⌝ }
     ensures { λ r. ⌜ r < slotCount ⌝ }
 {
     if h.from == 0 {
@@ -113,7 +126,22 @@ pub fn slot_for(slots: &[u16], h: Home) -> usize
     1 + h.before / 16 % 7
 }
 
-// The place of the record of class n of a package.
+// The place of the record of class n of a package, if it has that class.
+pub fn class_in<'a>(f: &'a [u8], s: &'a [u8], slots: &mut [u16], x: Site, n: usize) -> Spot
+    requires { ⌜ HomeThere (now f) (now s) (x .home) × (x .slot < slotCount) ⌝ }
+    requires { ⌜ SmallHome (x .home) ⌝ }
+    requires { ⌜ SlotsTrue (now f) (now s) (now slots) ⌝ }
+    ensures { λ r. ⌜ ClassPlaced (now (f .entry)) (now (s .entry)) (x .home) n r ⌝ }
+    ensures { λ _. ⌜ SlotsTrue (now (f .entry)) (now (s .entry)) (now (slots .exit)) ⌝ }
+{
+    let h = x.home;
+    let k = x.slot;
+    take_slot(slots, h, k);
+    let g = homes::file_of(f, s, h);
+    named::class_at(g, slots, 80 * k, n)
+}
+
+// The place of the record of class n of a package that has it.
 pub fn record_in<'a>(f: &'a [u8], s: &'a [u8], slots: &mut [u16], x: Site, n: usize) -> usize
     requires { ⌜ ClassThere (now f) (now s) (x .home) n × (x .slot < slotCount) ⌝ }
     requires { ⌜ SmallHome (x .home) ⌝ }
@@ -121,11 +149,7 @@ pub fn record_in<'a>(f: &'a [u8], s: &'a [u8], slots: &mut [u16], x: Site, n: us
     ensures { λ r. ⌜ RecordAt (now (f .entry)) (now (s .entry)) (x .home) n r ⌝ }
     ensures { λ _. ⌜ SlotsTrue (now (f .entry)) (now (s .entry)) (now (slots .exit)) ⌝ }
 {
-    let h = x.home;
-    let k = x.slot;
-    take_slot(slots, h, k);
-    let g = homes::file_of(f, s, h);
-    match named::class_at(g, slots, 80 * k, n) {
+    match class_in(f, s, slots, x, n) {
         Spot::At(c) => c,
         Spot::Nothing => 0,
     }

@@ -1,5 +1,6 @@
 // A class by the home of its package and its number there, looked for by the slots: the place of its record, its kind, its parents.
 use super::Site;
+use super::import_in;
 use super::record_in;
 use super::slot_for;
 use classes::ClassFound;
@@ -11,7 +12,7 @@ ghost use Prim.Native.Nat.{_≤_};
 ghost use lib.ListN.{length};
 ghost use Rattle.homes.specs.Homes.{RecordIs};
 ghost use Rattle.homes.specs.Found.{Indexed};
-ghost use Rattle.classes.specs.Say.{ClassThere, CountIs, ParentThere, ParentIs, Kind0Is, Kind0ParentIs, FoundNearer, RecordAt};
+ghost use Rattle.classes.specs.Say.{ClassThere, CountIs, ParentThere, ParentIs, Kind0Is, Kind0ParentIs, FoundNearer, FoundBefore, RecordAt};
 ghost use Rattle.slots.specs.Slots.{SlotsTrue};
 
 // The place of the record of a class.
@@ -53,7 +54,7 @@ pub fn is_kind0<'a>(f: &'a [u8], s: &'a [u8], slots: &mut [u16], x: ClassSpot) -
 }
 
 // How many parents it has.
-fn parent_count<'a>(f: &'a [u8], s: &'a [u8], slots: &mut [u16], x: ClassSpot) -> usize
+pub fn parent_count<'a>(f: &'a [u8], s: &'a [u8], slots: &mut [u16], x: ClassSpot) -> usize
     requires { ⌜ ClassThere (now f) (now s) (x .home) (x .number) × (length (now s) ≤ 65535) ⌝ }
     requires { ⌜ SlotsTrue (now f) (now s) (now slots) ⌝ }
     ensures { λ r. ⌜ CountIs (now (f .entry)) (now (s .entry)) (x .home) (x .number) r × (r ≤ 8) ⌝ }
@@ -64,7 +65,7 @@ fn parent_count<'a>(f: &'a [u8], s: &'a [u8], slots: &mut [u16], x: ClassSpot) -
 }
 
 // Its parent with number i, whose package the index of the entries that end at a place finds.
-fn parent_at<'a>(
+pub fn parent_at<'a>(
     f: &'a [u8],
     s: &'a [u8],
     end: usize,
@@ -81,7 +82,10 @@ fn parent_at<'a>(
 {
     let c = record_of(f, s, slots, x);
     let number = wide(c[3 + 2 * i]);
-    match homes::numbered(f, s, end, index, x.home, wide(c[2 + 2 * i])) {
+    let h = x.home;
+    let p = wide(c[2 + 2 * i]);
+    let k = slot_for(slots, h);
+    match import_in(f, s, end, index, slots, Site { home: h, slot: k }, p) {
         HomeFound::At(g) => ClassSpot {
             home: g,
             number: number,
@@ -102,7 +106,7 @@ pub fn kind0_parent<'a>(
     requires { ⌜ ClassThere (now f) (now s) (x .home) (x .number) × (length (now s) ≤ 65535) ⌝ }
     requires { ⌜ Indexed (now s) end (now index) × (x .home .before ≤ end) ⌝ }
     requires { ⌜ SlotsTrue (now f) (now s) (now slots) ⌝ }
-    ensures { λ r. ⌜ Kind0ParentIs (now (f .entry)) (now (s .entry)) (x .home) (x .number) r × FoundNearer (x .home) r ⌝ }
+    ensures { λ r. ⌜ Kind0ParentIs (now (f .entry)) (now (s .entry)) (x .home) (x .number) r × FoundNearer (x .home) r × FoundBefore (x .home) (x .number) r ⌝ }
     ensures { λ _. ⌜ SlotsTrue (now (f .entry)) (now (s .entry)) (now (slots .exit)) ⌝ }
 {
     let count = parent_count(f, s, slots, x);

@@ -19,7 +19,8 @@ use Rattle.index.proofs.Entering.{index-start}
 use Rattle.depths.specs.Depths.{DepthsKept, depthsLength}
 use Rattle.depths.proofs.Kept.{depths-start}
 use Rattle.chains.specs.Names.{namesLength}
-use Rattle.running.specs.Walk.{seenLength}
+use Rattle.classes.specs.Keys.{seenLength}
+use Rattle.slots.specs.Slots.{slotsLength}
 use Rattle.homes.specs.Found.{Indexed}
 use Rattle.judge.proofs.Entry.{indexed}
 use Rattle.judge.specs.Says.{usedAt, PackagesSay, LoadSays}
@@ -47,6 +48,7 @@ pub record Room (s : Bytes) (n m j k : ℕ) : Type 0 where
   pub depths : depthsLength s ≤ m
   pub names : namesLength s ≤ j
   pub seen : seenLength s ≤ k
+  pub slots : slotsLength ≤ j
 
 -- those of each class of lengths and depth limits
 module _ (s : Bytes) where
@@ -57,6 +59,7 @@ module _ (s : Bytes) where
     depths = omega (arith, shallow-length s (p .1), p .0);
     names = omega (arith, p .1);
     seen = omega (arith, p .0);
+    slots = omega arith;
   }
 
   pub large-room : (length s ≤ 65535) × (storeLimits s .depth ≤ 8) → Room s 2428 4917 640 2239
@@ -66,6 +69,7 @@ module _ (s : Bytes) where
     depths = omega (arith, shallow-length s (p .1), p .0);
     names = omega (arith, p .1);
     seen = omega (arith, p .0);
+    slots = omega arith;
   }
 
   pub deep-small-room : length s ≤ 8192 → Room s 304 821 1152 284
@@ -75,6 +79,7 @@ module _ (s : Bytes) where
     depths = omega (arith, deep-length s, p);
     names = omega (arith, (limits-range s) .0);
     seen = omega (arith, p);
+    slots = omega arith;
   }
 
   pub deep-large-room : length s ≤ 65535 → Room s 2428 6556 1152 2239
@@ -84,14 +89,16 @@ module _ (s : Bytes) where
     depths = omega (arith, deep-length s, p);
     names = omega (arith, (limits-range s) .0);
     seen = omega (arith, p);
+    slots = omega arith;
   }
 
 -- tables of zeros are those of no entries
 pub tables-start : (s : Bytes) (u n m j k : ℕ) → StandFrom s (firstEntry s) u → Room s n m j k →
-    (IndexIs s (firstEntry s) (replicate n 0) × DepthsKept s (firstEntry s) (replicate m 0)) × ((length s ≤ 65535) × ((namesLength s ≤ j) × (seenLength s ≤ k)))
+    (IndexIs s (firstEntry s) (replicate n 0) × DepthsKept s (firstEntry s) (replicate m 0))
+    × ((length s ≤ 65535) × ((namesLength s ≤ j) × (seenLength s ≤ k) × (slotsLength ≤ j)))
 tables-start s u n m j k t r =
     let e = entries-to s (firstEntry s) (t .0) u (t .1) in
-    ((index-start s n (omega (arith, e .0, e .1)) (r .index), depths-start s m (r .depths)), (r .size, (r .names, r .seen)))
+    ((index-start s n (omega (arith, e .0, e .1)) (r .index), depths-start s m (r .depths)), (r .size, (r .names, r .seen, r .slots)))
 
 -- the packages were answered b
 module _ (s : Bytes) (u : ℕ) (b : Bool) (h : PackagesSay s u b) where

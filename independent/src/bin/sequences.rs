@@ -1,6 +1,7 @@
 //! `sequences SEED COUNT`: runs generated sequences through the byte operations
 //! and the ledger side by side and prints how often each number was answered, how deep
-//! the accepted files were and how often FE, handlers, limits and kinds of domains decided.
+//! the accepted files were and how often FE, handlers, limits, kinds of domains and searches for
+//! declarations decided.
 
 use independent::depths::DepthCounts;
 use independent::generate::sequences::sequence;
@@ -11,6 +12,7 @@ use independent::limit_counts::LimitCounts;
 use independent::loader::{damage, shrink, Independent, Loader, Sequence, Step};
 use independent::own_domain::OwnCounts;
 use independent::questions::{q2, NUMBERS};
+use independent::search_counts::SearchCounts;
 use std::process::ExitCode;
 
 const GREATEST: u8 = NUMBERS[NUMBERS.len() - 1];
@@ -24,6 +26,7 @@ struct Counts {
     handlers: HandlerCounts,
     limits: LimitCounts,
     int: IntCounts,
+    search: SearchCounts,
     yes: u64,
 }
 
@@ -90,6 +93,7 @@ fn count(counts: &mut Counts, call: &Call, answer: u32, store: &[u8]) {
     counts.handlers.note(call, answer, store);
     counts.limits.note(call, answer, store);
     counts.int.note(call, answer, store);
+    counts.search.note(call, answer, store);
     match call {
         Call::Load { .. } if answer & 0xFF == 0 => counts.depths.note(answer >> 8, store),
         Call::Query { .. } => counts.yes += u64::from(answer >> 8),
@@ -114,7 +118,7 @@ fn print_table(counts: &Counts) {
     println!("{accepted}% of {loads} loads accepted: {}", counts.depths);
     println!("{} queries answered yes", counts.yes);
     println!("{}\n{}\n{}", counts.own, counts.handlers, counts.limits);
-    println!("{}", counts.int);
+    println!("{}\n{}", counts.int, counts.search);
 }
 
 /// A short sequence that shows the difference, in hex.

@@ -1,28 +1,27 @@
 //! Planted faults for questions 18 to 20.
 
 use super::codes::call;
+use super::facts::MethodFacts;
 use super::faults::{add, add_code, BARE, BODY, RETURN, STATIC_BODY};
 use super::model::{FileModel, MethodModel};
 use super::own_meetings::{call_elsewhere, override_elsewhere};
 use super::random::Random;
-use super::scene::{MethodFacts, Scene};
+use super::scene::Scene;
 use crate::policy::OWN;
 
 pub fn plant_18(random: &mut Random, scene: &Scene, model: &mut FileModel) {
     let own = model.classes.len() as u8;
     let past_imports = model.imports.len() as u8 + 1;
-    // Method 1 runs, 2 is static, 3 is not implemented; 4 is an interface's.
-    let held = [(BODY, 1), (STATIC_BODY, 2), (BARE, 3)];
+    // Method 1 runs, 2 is static, 3 is not implemented, 5 runs; 4 is an interface's.
+    let held = [(BODY, 1), (STATIC_BODY, 2), (BARE, 3), (BODY, 5)];
     let held = held.map(|(bits, name)| MethodModel::new(bits, name, None, RETURN));
     add(model, 0, &[], held.to_vec());
     let bare = MethodModel::new(BARE, 4, None, &[]);
     add(model, 1, &[], vec![bare]);
-    add(model, 0, &[(0, own)], vec![]);
-    let cases = [
+    let mut cases = vec![
         (0x8B, (0, own, 2)),
         (0x8B, (0, own + 1, 4)),
         (0x8B, (0, own, 9)),
-        (0x8B, (0, own + 2, 1)),
         (0x8C, (0, own, 3)),
         (0x8C, (0, own + 1, 4)),
         (0x8D, (0, own, 1)),
@@ -32,14 +31,37 @@ pub fn plant_18(random: &mut Random, scene: &Scene, model: &mut FileModel) {
         (0x8E, (0, own + 40, 4)),
         (0x8C, (past_imports, 0, 1)),
     ];
+    let limits = scene.limits();
+    if limits.depth > 1 && limits.parents > 1 {
+        // It inherits all of these, and its static method 5 ends a search.
+        let ends = MethodModel::new(STATIC_BODY, 5, None, RETURN);
+        add(model, 0, &[(0, own), (0, own + 1)], vec![ends]);
+        let below = [
+            (0x8B, 2),
+            (0x8B, 5),
+            (0x8B, 9),
+            (0x8C, 3),
+            (0x8C, 4),
+            (0x8D, 1),
+            (0x8D, 4),
+            (0x8E, 1),
+            (0x8E, 9),
+        ];
+        cases.extend(below.map(|(opcode, name)| (opcode, (0, own + 2, name))));
+    }
     let (opcode, mut reference) = *random.pick(&cases);
     let mut index = model.references.len() as u16;
     if random.chance(10) {
         index += 1 + random.below(3) as u16;
     } else if random.chance(30) {
-        if let Some((aid, class, name)) = hidden_method(scene) {
-            model.imports.push(aid);
-            reference = (past_imports, class, name);
+        if let Some(hidden) = hidden_method(scene) {
+            model.imports.push(hidden.package);
+            reference = (past_imports, hidden.class, hidden.name);
+            // It is hidden where an own class inherits it, too.
+            if hidden.depth < limits.depth && random.chance(50) {
+                reference = (0, model.classes.len() as u8, hidden.name);
+                add(model, hidden.kind, &[(past_imports, hidden.class)], vec![]);
+            }
         }
     }
     model.references.push(reference);
@@ -48,13 +70,28 @@ pub fn plant_18(random: &mut Random, scene: &Scene, model: &mut FileModel) {
     add_code(model, &code);
 }
 
-/// An installed method that is not visible.
-fn hidden_method(scene: &Scene) -> Option<(Vec<u8>, u8, u16)> {
+/// An installed method that is not visible, and its class.
+struct Hidden {
+    package: Vec<u8>,
+    class: u8,
+    kind: u8,
+    depth: u8,
+    name: u16,
+}
+
+/// The first of them.
+fn hidden_method(scene: &Scene) -> Option<Hidden> {
     for package in &scene.packages {
         for (number, class) in package.classes.iter().enumerate() {
             let hidden = |m: &&MethodFacts| m.bits & BARE == 0;
             if let Some(method) = class.methods.iter().find(hidden) {
-                return Some((package.model.aid.clone(), number as u8, method.name));
+                return Some(Hidden {
+                    package: package.model.aid.clone(),
+                    class: number as u8,
+                    kind: u8::from(class.interface),
+                    depth: class.depth,
+                    name: method.name,
+                });
             }
         }
     }
@@ -77,11 +114,16 @@ pub fn plant_19(random: &mut Random, scene: &Scene, domain: &[u8], model: &mut F
         (0x8D, 0, STATIC_BODY),
         (0x8E, 1, BARE),
     ]);
-    let class = model.classes.len() as u8;
+    let mut class = model.classes.len() as u8;
     let index = model.references.len() as u16;
-    model.references.push((0, class, 1));
     let held = MethodModel::new(bits, 1, callee.as_deref(), RETURN);
     add(model, kind, &[], vec![held]);
+    if scene.limits().depth > 1 && random.chance(50) {
+        // The class named inherits it; below an interface it may be of either kind.
+        add(model, kind * random.below(2) as u8, &[(0, class)], vec![]);
+        class += 1;
+    }
+    model.references.push((0, class, 1));
     let mut code = call(random, opcode, index);
     code.push(0x7A);
     let calling = MethodModel::new(STATIC_BODY, 2, caller.as_deref(), &code);

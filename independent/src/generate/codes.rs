@@ -171,13 +171,15 @@ fn put_bounds(random: &mut Random, bytes: &mut Vec<u8>, more: i64) {
     }
 }
 
-/// The call opcodes that question 18 accepts for a method.
-pub fn call_kinds(interface: bool, bits: u8) -> Vec<u8> {
+/// The call opcodes that question 18 accepts for a declaration with these bits, by whether the
+/// class named and the one that declares are interfaces.
+pub fn call_kinds(named: bool, declaring: bool, bits: u8) -> Vec<u8> {
     let mut kinds = Vec::new();
     if bits & STATIC != 0 {
         kinds.push(0x8D);
     } else {
-        kinds.push(if interface { 0x8E } else { 0x8B });
+        kinds.extend((!named).then_some(0x8B));
+        kinds.extend(declaring.then_some(0x8E));
     }
     if bits & IMPLEMENTED != 0 {
         kinds.push(0x8C);

@@ -1,5 +1,5 @@
 //! Damage to one byte of a store: of its opening, of an entry's kind, of a policy, of a
-//! handler, or any.
+//! handler, of what searches for declarations go by, or any.
 
 use super::chosen_limits::number_out;
 use super::model::FileModel;
@@ -7,14 +7,26 @@ use super::own_lists::policy_damage;
 use super::random::Random;
 use crate::handlers::{HANDLER_BYTES, MAX_HANDLERS};
 use crate::limits::{Limit, Limits};
+use crate::package::{STATIC, VISIBLE};
 use crate::store::{self, Body, StoreVersion, HEAD};
 
 /// A byte of a file that reads as laid out, and what to put there.
 pub fn file_damage(random: &mut Random, file: &[u8]) -> Option<(usize, u8)> {
-    match random.chance(50) {
-        true => policy_damage(random, file),
-        false => handler_damage(random, file),
+    match random.below(20) {
+        0..=8 => policy_damage(random, file),
+        9..=16 => handler_damage(random, file),
+        _ => link_damage(random, file),
     }
+}
+
+/// A byte of a reference, of a parent or of a method's form, and what to put there.
+fn link_damage(random: &mut Random, file: &[u8]) -> Option<(usize, u8)> {
+    let model = FileModel::read(file)?;
+    let place = *random.pick_any(&model.link_places())?;
+    let old = file[place];
+    let bit = *random.pick(&[VISIBLE, STATIC]);
+    let values = [old ^ bit, old.wrapping_add(1), old.wrapping_sub(1), 0];
+    Some((place, *random.pick(&values)))
 }
 
 /// A handler count or the low byte of a handler's offset, and what to put there.

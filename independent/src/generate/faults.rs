@@ -84,19 +84,25 @@ pub fn faulty_file(
 
 /// Question 10: another mark or version, or a file too short to have them.
 fn spoil_mark(random: &mut Random, file: &mut Vec<u8>) {
-    const VERSIONS: [[u8; 2]; 8] = [
+    // Those that are nearly read come more often.
+    const VERSIONS: [[u8; 2]; 13] = [
         [0, 0],
+        [0, 0],
+        [0, 3],
+        [0, 3],
         [0, 3],
         [0, 0xFF],
         [1, 0],
         [1, 1],
+        [1, 1],
+        [1, 2],
         [1, 2],
         [2, 0],
         [0x80, 2],
     ];
     match random.below(12) {
         0..=1 => file.truncate(random.below(HEAD)),
-        2..=8 => {
+        2..=9 => {
             let field: [u8; 2] = *random.pick(&VERSIONS);
             file[MARK.len()..HEAD].copy_from_slice(&field);
         }

@@ -5,11 +5,15 @@ use super::damage::file_damage;
 use super::faults::faulty_file;
 use super::handler_limits::handler_limits;
 use super::handlers::{longest_file, to_second};
-use super::limits::{chain, count_limits, ladder, method_limits, plain_code, under_ladder};
+use super::limits::{
+    calling_ladder, chain, count_limits, ladder, method_limits, plain_code, under_ladder,
+};
 use super::model::{set_size, ClassModel, FileModel, MethodModel};
 use super::own_lists::own_limits;
+use super::planned_searches::planned_file;
 use super::random::Random;
 use super::scene::Scene;
+use super::searches::searching_file;
 use super::valid::valid_file;
 use crate::package::{self, Version};
 use crate::questions::OF_A_FILE;
@@ -25,8 +29,20 @@ pub fn any_file(random: &mut Random, scene: &Scene, domain: &[u8]) -> Vec<u8> {
     if random.chance(chosen) {
         return chosen_file(random, scene, scene.kind(domain), &aid).bytes();
     }
+    if random.chance(16) {
+        let made = match random.chance(50) {
+            true => searching_file(random, scene, domain, &aid),
+            false => planned_file(random, scene, domain, &aid),
+        };
+        if let Some(model) = made {
+            return match random.chance(90) {
+                true => model.bytes(),
+                false => changed_file(random, model.bytes()),
+            };
+        }
+    }
     let model = valid_file(random, scene, domain, &aid);
-    if scene.kind(domain) == DomainKind::WithoutInt && random.chance(32) {
+    if scene.kind(domain) == DomainKind::WithoutInt && random.chance(38) {
         if let Some(file) = barred_file(random, scene, domain, &model) {
             return file;
         }
@@ -37,8 +53,8 @@ pub fn any_file(random: &mut Random, scene: &Scene, domain: &[u8]) -> Vec<u8> {
         44..=73 => faulty_file(random, scene, domain, &model, &questions[..1]),
         74..=81 => faulty_file(random, scene, domain, &model, &questions),
         82..=83 => Some(damaged_file(random, model.bytes())),
-        84..=87 => Some(changed_file(random, model.bytes())),
-        88..=92 => Some(limit_file(random, scene, domain, &aid)),
+        84..=88 => Some(changed_file(random, model.bytes())),
+        89..=92 => Some(limit_file(random, scene, domain, &aid)),
         93..=94 => Some(any_bytes(random)),
         95..=96 => Some(hostile_file(random, scene, &aid)),
         _ => filling_file(random, scene, domain, &aid),
@@ -105,7 +121,8 @@ pub fn damaged_file(random: &mut Random, mut file: Vec<u8>) -> Vec<u8> {
     file
 }
 
-/// A byte of a policy or of a handler changed, if there is one.
+/// A byte of a policy, of a handler, of a reference, a parent or a method's form changed, if
+/// there is one.
 fn changed_file(random: &mut Random, mut file: Vec<u8>) -> Vec<u8> {
     if let Some((place, byte)) = file_damage(random, &file) {
         file[place] = byte;
@@ -170,8 +187,13 @@ fn hostile_file(random: &mut Random, scene: &Scene, aid: &[u8]) -> Vec<u8> {
     let ladders = scene.packages.iter().filter(|p| p.classes.len() == 32);
     let ladders: Vec<&[u8]> = ladders.map(|p| p.model.aid.as_slice()).collect();
     let methods = *random.pick(&[0, 0, 1, 4]);
+    let most = scene.limits().code / 5;
     let mut model = match random.pick_any(&ladders) {
-        Some(under) if random.chance(60) => under_ladder(aid, under, random.chance(50)),
+        Some(under) if random.chance(40) => under_ladder(aid, under, random.chance(50)),
+        Some(under) if random.chance(40) => {
+            let count = most.min(*random.pick(&[1, 4, 30]));
+            calling_ladder(aid, under, count, *random.pick(&[0, 1, 99]))
+        }
         _ if random.chance(50) => ladder_of(aid, scene.limits(), methods),
         _ => ladder(aid, methods, random.chance(50)),
     };

@@ -189,3 +189,19 @@ pub fn under_ladder(aid: &[u8], ladder: &[u8], past: bool) -> FileModel {
         ..FileModel::default()
     }
 }
+
+/// An interface below an imported ladder, as above, and a method that calls this name of it so
+/// many times, each by a reference of its own.
+pub fn calling_ladder(aid: &[u8], ladder: &[u8], count: u16, name: u16) -> FileModel {
+    let mut model = under_ladder(aid, ladder, false);
+    model.classes.truncate(1);
+    let call = |index: u16| {
+        let [high, low] = index.to_be_bytes();
+        [0x8E, 0, high, low, 0]
+    };
+    let code: Vec<u8> = (0..count).flat_map(call).chain([0x7A]).collect();
+    model.references = vec![(0, 0, name); count.into()];
+    let caller = MethodModel::new(0xE0, 1, Some(&[]), &code);
+    model.classes.push(ClassModel::new(0, &[], vec![caller]));
+    model
+}

@@ -42,6 +42,9 @@ struct Places {
     policies: Vec<usize>,
     /// Of each handler count.
     handlers: Vec<usize>,
+    /// Of each class number and each low byte of a name in a reference, of each class number of
+    /// a parent, and of each method's bits.
+    links: Vec<usize>,
 }
 
 impl FileModel {
@@ -59,6 +62,11 @@ impl FileModel {
         self.written().1.handlers
     }
 
+    /// The place of each byte by which references, parents and forms of methods are told.
+    pub fn link_places(&self) -> Vec<usize> {
+        self.written().1.links
+    }
+
     fn written(&self) -> (Vec<u8>, Places) {
         let mut places = Places::default();
         let mut file = MARK.to_vec();
@@ -71,6 +79,7 @@ impl FileModel {
         }
         put_u2(&mut file, self.references.len());
         for &(package, class, name) in &self.references {
+            places.links.extend([file.len() + 1, file.len() + 3]);
             file.extend_from_slice(&[package, class]);
             put_u2(&mut file, name.into());
         }
@@ -110,10 +119,12 @@ impl ClassModel {
     fn put(&self, version: Version, file: &mut Vec<u8>, places: &mut Places) {
         file.extend_from_slice(&[self.kind, self.parents.len() as u8]);
         for &(package, class) in &self.parents {
+            places.links.push(file.len() + 1);
             file.extend_from_slice(&[package, class]);
         }
         file.push(self.methods.len() as u8);
         for method in &self.methods {
+            places.links.push(file.len());
             places.policies.push(file.len() + MethodModel::POLICY);
             method.put(file);
             if version == Version::Second && method.bits & IMPLEMENTED != 0 {

@@ -2,10 +2,11 @@
 //! domain: to the rules, or with a fault for question 19 or 20.
 
 use super::codes::{call, call_kinds};
+use super::facts::{ClassFacts, MethodFacts, Policy};
 use super::faults::{add, BODY, RETURN, STATIC_BODY};
 use super::model::{FileModel, MethodModel};
 use super::random::Random;
-use super::scene::{ClassFacts, MethodFacts, Policy, Scene};
+use super::scene::Scene;
 use crate::package::{STATIC, VISIBLE};
 use crate::policy::OWN;
 
@@ -74,7 +75,8 @@ pub fn call_elsewhere(
     let package = model.imports.len() as u8;
     let name = found.method.name;
     model.references.push((package, found.class, name));
-    let opcode = *random.pick(&call_kinds(found.facts.interface, found.method.bits));
+    let interface = found.facts.interface;
+    let opcode = *random.pick(&call_kinds(interface, interface, found.method.bits));
     let mut code = call(random, opcode, index);
     code.push(0x7A);
     let caller = MethodModel::new(STATIC_BODY, 2, Some(&list), &code);

@@ -1,7 +1,8 @@
 //! Policies of generated files, and the lists that say them.
 
+use super::facts::Policy;
 use super::random::Random;
-use super::scene::{Policy, Scene};
+use super::scene::Scene;
 use crate::package::MAX_DOMAINS;
 use crate::policy::{MAX_ALLOWED, OWN};
 

@@ -1,108 +1,12 @@
 //! What a generator knows about the store it builds files for.
 
+use super::facts::{ClassFacts, MethodFacts, Policy};
 use super::model::FileModel;
 use crate::limits::Limits;
-use crate::package::{IMPLEMENTED, STATIC};
 use crate::policy::Item;
 use crate::store::StoreVersion;
 use crate::without_int::DomainKind;
-use std::collections::{BTreeMap, BTreeSet};
-
-/// The domains that a method allows.
-#[derive(Clone, Debug, PartialEq, Eq)]
-pub enum Policy {
-    Every,
-    Only(BTreeSet<Vec<u8>>),
-}
-
-impl Policy {
-    pub fn nobody() -> Self {
-        Policy::Only(BTreeSet::new())
-    }
-
-    pub fn covers(&self, other: &Policy) -> bool {
-        match (self, other) {
-            (Policy::Every, _) => true,
-            (Policy::Only(_), Policy::Every) => false,
-            (Policy::Only(have), Policy::Only(need)) => need.is_subset(have),
-        }
-    }
-
-    pub fn allows(&self, domain: &[u8]) -> bool {
-        match self {
-            Policy::Every => true,
-            Policy::Only(have) => have.contains(domain),
-        }
-    }
-
-    /// Adds what the other allows.
-    pub fn join(&mut self, other: &Policy) {
-        match (&mut *self, other) {
-            (Policy::Only(have), Policy::Only(more)) => have.extend(more.iter().cloned()),
-            _ => *self = Policy::Every,
-        }
-    }
-}
-
-#[derive(Clone, Debug)]
-pub struct MethodFacts {
-    pub bits: u8,
-    pub name: u16,
-    pub policy: Policy,
-}
-
-#[derive(Clone, Debug)]
-pub struct ClassFacts {
-    pub interface: bool,
-    pub depth: u8,
-    pub methods: Vec<MethodFacts>,
-    /// For each name, what non-static methods of the class and its ancestors allow.
-    pub needs: BTreeMap<u16, Policy>,
-    /// For each name, what the method that runs allows, or that none runs.
-    pub runs: BTreeMap<u16, Option<Policy>>,
-}
-
-impl ClassFacts {
-    /// A class without methods yet.
-    pub fn under(interface: bool, parents: &[&ClassFacts]) -> Self {
-        let mut needs: BTreeMap<u16, Policy> = BTreeMap::new();
-        let mut runs = BTreeMap::new();
-        for parent in parents {
-            for (&name, policy) in &parent.needs {
-                needs
-                    .entry(name)
-                    .or_insert_with(Policy::nobody)
-                    .join(policy);
-            }
-            if !parent.interface {
-                runs = parent.runs.clone();
-            }
-        }
-        let deepest = parents.iter().map(|p| p.depth).max().unwrap_or(0);
-        ClassFacts {
-            interface,
-            depth: deepest + 1,
-            methods: Vec::new(),
-            needs,
-            runs,
-        }
-    }
-
-    pub fn declare(&mut self, method: MethodFacts) {
-        if method.bits & STATIC == 0 {
-            self.needs
-                .entry(method.name)
-                .or_insert_with(Policy::nobody)
-                .join(&method.policy);
-            let implemented = method.bits & IMPLEMENTED != 0;
-            if !self.interface {
-                let runs = implemented.then(|| method.policy.clone());
-                self.runs.insert(method.name, runs);
-            }
-        }
-        self.methods.push(method);
-    }
-}
+use std::collections::BTreeSet;
 
 #[derive(Clone, Debug)]
 pub struct PackageFacts {
@@ -181,7 +85,7 @@ impl Scene {
                 }
             };
             let parents: Vec<&ClassFacts> = class.parents.iter().filter_map(parent_of).collect();
-            let mut facts = ClassFacts::under(class.kind == 1, &parents);
+            let mut facts = ClassFacts::under(&model.aid, class.kind == 1, &parents);
             for method in &class.methods {
                 facts.declare(MethodFacts {
                     bits: method.bits,

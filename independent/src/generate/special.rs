@@ -2,7 +2,7 @@
 //! limits, hostile files.
 
 use super::handler_cases::of_version;
-use super::limits::{chain, count_limits, ladder, method_limits, under_ladder};
+use super::limits::{calling_ladder, chain, count_limits, ladder, method_limits, under_ladder};
 use super::model::{ClassModel, FileModel, MethodModel};
 use super::own_lists::own_limits;
 use super::random::Random;
@@ -217,7 +217,7 @@ pub fn own_limit_lists() -> Sequence {
     after_fresh(2048, calls)
 }
 
-/// Deep ladders of parents with many methods.
+/// Deep ladders of parents with many methods, and searches through them.
 pub fn hostile() -> Vec<Sequence> {
     let (first, second) = (Version::First, Version::Second);
     let ladders = [
@@ -232,6 +232,10 @@ pub fn hostile() -> Vec<Sequence> {
         let ladder = ladder(FIRST, methods, last_is_class);
         let mut calls = vec![load(&of_version(version, ladder))];
         calls.push(load(&under_ladder(SECOND, FIRST, true)));
+        for name in [0, 99] {
+            calls.push(load(&calling_ladder(THIRD, FIRST, 800, name)));
+            calls.push(Call::Remove(THIRD.to_vec()));
+        }
         for number in 0..40 {
             let aid = [0xB0, 0, 0, 0, number];
             calls.push(load(&under_ladder(&aid, FIRST, false)));

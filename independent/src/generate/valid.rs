@@ -1,13 +1,14 @@
 //! Files that every question of a load accepts, room apart.
 
 use super::codes::{call, call_kinds, valid_code};
+use super::facts::{ClassFacts, MethodFacts, Policy};
 use super::faults::RETURN;
 use super::handlers::to_second;
 use super::model::{ClassModel, FileModel, MethodModel};
 use super::own_meetings::{call_elsewhere, override_elsewhere};
 use super::policies::{random_policy, Lists};
 use super::random::Random;
-use super::scene::{ClassFacts, MethodFacts, Policy, Scene};
+use super::scene::Scene;
 use crate::package::{IMPLEMENTED, MAX_DOMAINS, STATIC, VISIBLE};
 
 /// Package and class numbers and facts of a class.
@@ -113,7 +114,7 @@ impl Draft<'_> {
         let interface = random.chance(35);
         let parents = self.parents(random, interface, deep);
         let facts: Vec<&ClassFacts> = parents.iter().map(|p| p.2).collect();
-        let mut facts = ClassFacts::under(interface, &facts);
+        let mut facts = ClassFacts::under(&self.model.aid, interface, &facts);
         let numbers: Vec<(u8, u8)> = parents.iter().map(|p| (p.0, p.1)).collect();
         let mut class = ClassModel::new(u8::from(interface), &numbers, Vec::new());
         for (name, forced) in chosen_names(random, &facts) {
@@ -196,20 +197,22 @@ impl Draft<'_> {
 
     /// Some call instructions that a method with this policy may have.
     fn calls(&mut self, random: &mut Random, caller: &Policy) -> Vec<Vec<u8>> {
-        let mut found = Vec::new();
+        let mut found = [Vec::new(), Vec::new()];
         for (package, class, facts) in self.within_reach() {
-            for method in &facts.methods {
-                let visible = package == 0 || method.bits & VISIBLE != 0;
-                let allowed = method.policy.allows(self.domain) && method.policy.covers(caller);
-                if visible && allowed {
-                    let kinds = call_kinds(facts.interface, method.bits);
-                    found.push(((package, class, method.name), kinds));
+            for (&name, declared) in facts.meanings() {
+                let visible = declared.home == self.model.aid || declared.bits & VISIBLE != 0;
+                let policy = &declared.policy;
+                if visible && policy.allows(self.domain) && policy.covers(caller) {
+                    let kinds = call_kinds(facts.interface, declared.interface, declared.bits);
+                    let inherited = facts.methods.iter().all(|m| m.name != name);
+                    found[usize::from(inherited)].push(((package, class, name), kinds));
                 }
             }
         }
         let mut calls = Vec::new();
         for _ in 0..*random.pick(&[0, 1, 2, 3]) {
-            if let Some((reference, kinds)) = random.pick_any(&found) {
+            let among = &found[usize::from(random.chance(40))];
+            if let Some((reference, kinds)) = random.pick_any(among) {
                 let opcode = *random.pick(kinds);
                 let index = self.reference(*reference);
                 calls.push(call(random, opcode, index));
@@ -229,11 +232,8 @@ impl Draft<'_> {
 
 /// Names to declare, those that must be declared first.
 fn chosen_names(random: &mut Random, class: &ClassFacts) -> Vec<(u16, bool)> {
-    let falls_short = |(name, need): (&u16, &Policy)| match class.runs.get(name) {
-        Some(Some(runs)) if !runs.covers(need) => Some((*name, true)),
-        _ => None,
-    };
-    let mut names: Vec<(u16, bool)> = class.needs.iter().filter_map(falls_short).collect();
+    let needed = class.falling_short().into_iter();
+    let mut names: Vec<(u16, bool)> = needed.map(|name| (name, true)).collect();
     for _ in 0..random.below(5) {
         let name = *random.pick(&[0, 1, 2, 3, 4, 5, 6, 7, 0x0100, 0x8D8D, 0xFFFF]);
         if names.iter().all(|n| n.0 != name) {

@@ -1,6 +1,7 @@
 //! Short ways to write packages and stores in tests.
 #![allow(dead_code)]
 
+pub mod calls;
 pub mod misread;
 
 use independent::generate::model::{ClassModel, FileModel, MethodModel};

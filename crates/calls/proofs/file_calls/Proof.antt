@@ -10,7 +10,7 @@ use Rattle.files.proofs.Walks.{classes-there}
 use Rattle.homes.specs.Homes.{aidAt}
 use Rattle.calls.specs.Maps.{TablesTrue}
 use Rattle.calls.specs.Calls.{OwnClass, ClassCallsAre}
-use Rattle.calls.proofs.Rights.{asker-moved, told-at}
+use Rattle.calls.proofs.Rights.{asker-moved, told-at, lent-on}
 use Rattle.calls.proofs.Asked.{class-there}
 use Rattle.calls.proofs.Lookups.{judged-reads}
 use Rattle.calls.proofs.Walked as walked
@@ -18,26 +18,26 @@ use Rattle.calls.proofs.file_calls.Statement.{statement}
 use Rattle.calls.proofs.file_calls.Tie as tie
 
 abbrev Inv-loop : tie.InvT-loop
-Inv-loop f s table a homes rows₀ map₀ start left₀ c₀ number₀ rows map left c number =
-    (length rows ≡ length rows₀) × (length map ≡ length map₀) × TablesTrue f s (a .end) (a .domain) homes rows map
-    × walked.ClassesLoop f s (a .end) (aidAt s (a .domain)) start number left c
+Inv-loop f s packages slots₀ seen₀ map₀ a start left₀ c₀ number₀ slots seen map left c number =
+    (length slots ≡ length slots₀) × (length seen ≡ length seen₀) × (length map ≡ length map₀)
+    × TablesTrue f s (a .end) (aidAt s (a .domain)) slots map × walked.ClassesLoop f s (a .end) (aidAt s (a .domain)) start number left c
 
 abbrev μ-loop : tie.MeasureT-loop
-μ-loop f s table a homes rows₀ map₀ start left₀ c₀ number₀ rows map left c number = left
+μ-loop f s packages slots₀ seen₀ map₀ a start left₀ c₀ number₀ slots seen map left c number = left
 
 -- the start, from where the list is found; that, from where a turn begins; the turn, from where its class is asked; that, from where the
 -- first no is known
 abbrev start : tie.After-classes-at Inv-loop μ-loop → tie.Start Inv-loop μ-loop
-start k = k .before .before .before .before .before
+start k = k .before .before .before .before .before .before .before
 
 abbrev listed : tie.At-loop Inv-loop μ-loop → tie.After-classes-at Inv-loop μ-loop
 listed k = k .before .before .before
 
 abbrev turn : tie.After-class-calls Inv-loop μ-loop → tie.In-loop Inv-loop μ-loop
-turn k = k .before .before .before .before
+turn k = k .before .before .before .before .before
 
 abbrev asked : tie.After-first-no Inv-loop μ-loop → tie.After-class-calls Inv-loop μ-loop
-asked k = k .before .before .before .before .before
+asked k = k .before .before .before .before .before .before .before
 
 -- the list of classes
 classes : (k : tie.After-classes-at Inv-loop μ-loop) → Classes (now (start k .args .f)) (k .classes-at .result)
@@ -47,10 +47,10 @@ classes k = classes-there (k .classes-at .ensures) (judged-reads (start k .pre .
 class : (k : tie.In-loop Inv-loop μ-loop) →
     let a = start (listed (k .before)) .args in
     OwnClass (now (a .f)) (now (a .s)) (a .a .end) (k .before .loop .c)
-class k = walked.classes-one _ _ (k .before .loop .inv .3) (k .loop-test .taken)
+class k = walked.classes-one _ _ (k .before .loop .inv .4) (k .loop-test .taken)
 
 classes-at-requires : tie.Need-classes-at-requires Inv-loop μ-loop
-classes-at-requires c κs = judged-reads (c .before .before .before .before .pre .0 .0)
+classes-at-requires c κs = judged-reads (c .before .before .before .before .before .before .pre .0 .0)
 
 shared-slice-read-wide : tie.Need-shared-slice-read-wide Inv-loop μ-loop
 shared-slice-read-wide c = steps.classes-in (classes (c .before))
@@ -65,17 +65,17 @@ loop-holds : tie.Need-loop-holds Inv-loop μ-loop
 loop-holds c =
     let k = c .before .before in
     let pre = start k .pre in
-    (refl, refl, pre .1 .1, walked.classes-begin (pre .0 .0) (pre .0 .1) (k .classes-at .ensures) (c .wide .ensures .0))
+    (refl, refl, refl, pre .1 .1, walked.classes-begin (pre .0 .0) (pre .0 .1) (k .classes-at .ensures) (c .wide .ensures .0))
 
 asker-at-requires : tie.Need-asker-at-requires Inv-loop μ-loop
 asker-at-requires c κs = search needs
 
 class-calls-requires : tie.Need-class-calls-requires Inv-loop μ-loop
 class-calls-requires c κs =
-    let x = c .before .before in
-    let t = x .before in
+    let t = c .before .before .before .before in
     let pre = start (listed (t .before)) .pre in
-    rw (x .asker-at .ensures) ((class t, pre .0 .2), (asker-moved (pre .1 .0), t .before .loop .inv .2))
+    let inv = t .before .loop .inv in
+    rw (c .asker-at .ensures) ((class t, asker-moved (pre .0 .2)), (lent-on _ (pre .1 .0) (inv .1), inv .3))
 
 first-no-requires : tie.Need-first-no-requires Inv-loop μ-loop
 first-no-requires c κs = search needs
@@ -96,12 +96,13 @@ loop-again c =
     let inv = t .before .loop .inv in
     let a = start (listed (t .before)) .args in
     let calls = k .class-calls in
-    let placed = k .before .before .before .asker-at .ensures in
+    let placed = k .before .asker-at .ensures in
     let e = told-at (a .a) (λ end d i. ClassCallsAre (now (a .f)) (now (a .s)) end d i (calls .result)) placed (calls .ensures) in (
       omega (arith, calls .kept, inv .0),
       omega (arith, calls .kept, inv .1),
+      omega (arith, calls .kept, inv .2),
       e .1,
-      walked.classes-on _ _ (inv .3) _ _ _ (t .loop-test .taken) (e .0) (c .before .first-no .ensures) (c .after-class .ensures),
+      walked.classes-on _ _ (inv .4) _ _ _ (t .loop-test .taken) (e .0) (c .before .first-no .ensures) (c .after-class .ensures),
     )
 
 same-length : tie.Need-same-length Inv-loop μ-loop
@@ -110,11 +111,15 @@ same-length c = c .before .loop .inv .0
 same-length-2 : tie.Need-same-length-2 Inv-loop μ-loop
 same-length-2 c = c .before .loop .inv .1
 
+same-length-3 : tie.Need-same-length-3 Inv-loop μ-loop
+same-length-3 c = c .before .loop .inv .2
+
 returns : tie.Need-returns Inv-loop μ-loop
-returns c = walked.classes-end _ _ (c .before .loop .inv .3) (c .loop-test .left) (listed (c .before) .classes-at .ensures)
+returns c = walked.classes-end _ _ (c .before .loop .inv .4) (c .loop-test .left) (listed (c .before) .classes-at .ensures)
 
 pub file-calls-spec : {M : Type 1} → statement M
 file-calls-spec =
     tie.close
     (tie.spec Inv-loop μ-loop classes-at-requires shared-slice-read-wide wide-requires add-c loop-holds asker-at-requires class-calls-requires
-    first-no-requires after-class-requires sub-left loop-less loop-again same-length same-length-2 returns)
+    first-no-requires after-class-requires sub-left loop-less loop-again same-length same-length-2
+    same-length-3 returns)

@@ -104,11 +104,7 @@ same-length c =
     omega (arith, c2 .find-part .ensures .0 .size, c1 .stored-names .ensures .0 .2, c .before .before .before .gather .ensures .size)
 
 same-length-2 : tie.Need-same-length-2
-same-length-2 c =
-    let c1 = c .before .before .before .before .before .before .before .before .before in
-    let c2 = c1 .before .before .before .before .before .before .before .before .before .before .before .before .before .before .before .before in
-    let c3 = c2 .before .before .before in
-    omega (arith, c1 .stored-names .ensures .1 .size, c3 .pre .1 .1 .1 .size)
+same-length-2 c = search needs
 
 returns : tie.Need-returns
 returns c =
@@ -147,10 +143,7 @@ same-length-3 c =
     omega (arith, c1 .find-part .ensures .0 .size, c .before .before .before .gather2 .ensures .size)
 
 same-length-4 : tie.Need-same-length-4
-same-length-4 c =
-    let c1 = c .before .before .before .before .before .before .before .before .before .before .before in
-    let c2 = c1 .before .before .before .before .before .before .before .before .before in
-    omega (arith, c1 .find-part .ensures .1 .size, c2 .pre .1 .1 .1 .size)
+same-length-4 c = search needs
 
 returns-2 : tie.Need-returns-2
 returns-2 c =

@@ -52,10 +52,7 @@ same-length c =
     omega (arith, c1 .find-part .ensures .0 .size, c .before .before .gather .ensures .size)
 
 same-length-2 : tie.Need-same-length-2
-same-length-2 c =
-    let c1 = c .before .before .before .before .before .before .before .before in
-    let c2 = c1 .before .before .before .before .before .before .before .before .before .before .before in
-    omega (arith, c1 .find-part .ensures .1 .size, c2 .pre .1 .1 .1 .size)
+same-length-2 c = search needs
 
 returns-2 : tie.Need-returns-2
 returns-2 c =

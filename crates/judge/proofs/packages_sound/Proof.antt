@@ -126,9 +126,10 @@ package-sound-requires : tie.Need-package-sound-requires Inv-loop μ-loop
 package-sound-requires c κs =
     let k = c .before .before .before .before .before in
     let inv = at-package k .loop .inv in
-    let pre = start (at-package k) .pre in (
+    let pre = start (at-package k) .pre in
+    let room = pre .1 .1 .1 in (
       (packages.going-over _ _ _ (inv .0) (pre .0 .0), packages.package-there _ _ _ (inv .0) _ _ _ (package-here k) (pre .0 .1) (pre .0 .0)),
-      ((inv .1, inv .2), (pre .1 .1 .0, (omega (arith, pre .1 .1 .1 .0, inv .3 .2), omega (arith, pre .1 .1 .1 .1, inv .3 .3)))),
+      ((inv .1, inv .2), (pre .1 .1 .0, (omega (arith, room .0, inv .3 .2), omega (arith, room .1, inv .3 .3), omega (arith, room .2, inv .3 .2)))),
     )
 
 same-length : tie.Need-same-length Inv-loop μ-loop

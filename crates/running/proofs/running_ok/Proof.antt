@@ -47,7 +47,7 @@ abbrev turn : tie.After-is-kind0 Inv-loop μ-loop → tie.In-loop Inv-loop μ-lo
 turn k = k .before .before
 
 abbrev told : tie.After-names-apart Inv-loop μ-loop → tie.After-is-kind0 Inv-loop μ-loop
-told k = k .before .before .before .before .before
+told k = k .before .before .before .before
 
 abbrev named : tie.After-own-class-passes Inv-loop μ-loop → tie.After-names-apart Inv-loop μ-loop
 named k = k .before .before .before .before .before .before .before
@@ -133,9 +133,6 @@ loop-holds c =
       seen-of.kept-none f s (a .end) (a .domain) (k .no-names .result) _ (none .1),
     )
 
-slice-aggregate-is-kind0 : tie.Need-slice-aggregate-is-kind0 Inv-loop μ-loop
-slice-aggregate-is-kind0 c = search needs
-
 is-kind0-requires : tie.Need-is-kind0-requires Inv-loop μ-loop
 is-kind0-requires c κs =
     let l = c .before .before in
@@ -150,7 +147,7 @@ is-kind0-requires c κs =
 
 names-apart-requires : tie.Need-names-apart-requires Inv-loop μ-loop
 names-apart-requires c κs =
-    let k = c .before .before .before .before in
+    let k = c .before .before .before in
     let l = turn k .before in
     let b = start (begun l) in
     let a = b .args in
@@ -240,15 +237,15 @@ loop-again c =
 
 add-b-2 : tie.Need-add-b-2 Inv-loop μ-loop
 add-b-2 c =
-    let t = turn (c .before .before) in
+    let t = turn (c .before) in
     omega (arith, t .loop-test .taken, t .before .before .wide .ensures .1)
 
 loop-less-2 : tie.Need-loop-less-2 Inv-loop μ-loop
-loop-less-2 c = omega (arith, turn (c .before .before) .loop-test .taken)
+loop-less-2 c = omega (arith, turn (c .before) .loop-test .taken)
 
 loop-again-2 : tie.Need-loop-again-2 Inv-loop μ-loop
 loop-again-2 c =
-    let k = c .before .before in
+    let k = c .before in
     let l = turn k .before in
     let inv = l .loop .inv in
     let a = start (begun l) .args in
@@ -283,7 +280,6 @@ running-ok-spec =
     shared-slice-read-wide
     wide-requires
     loop-holds
-    slice-aggregate-is-kind0
     is-kind0-requires
     names-apart-requires
     run-alike-requires

@@ -90,7 +90,8 @@ load-answer-requires t c κs =
     let r = k .packages-sound in
     let over = tables.over-all _ _ _ (r .ensures .0) (not-false _ (e .if2 .left)) (p .2) (p .0) _ _ (r .ensures .1) in
     let kept = r .kept .1 .1 .1 .1 in
-    (over .0, (over .1, (room t b .size, (omega (arith, room t b .names, kept .0), omega (arith, room t b .seen, kept .1 .0)))))
+    let r = room t b in
+    (over .0, (over .1, (r .size, (omega (arith, r .names, kept .0), omega (arith, r .seen, kept .1 .0), omega (arith, r .slots, kept .0)))))
 
 returns-3 : (t : ℕ) → lts.Need-returns-3 (claims t) (here t) reads.Post
 returns-3 t c =

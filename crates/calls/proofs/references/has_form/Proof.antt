@@ -12,10 +12,10 @@ use Rattle.calls.proofs.references.has_form.Tie as tie
 
 -- the answer r, by kind k; whether the method is static is r
 abbrev Form : tie.Start → Calling → Bool → Type 0
-Form b k r = FormIs (now (b .args .g)) (b .args .c) (b .args .m) k r
+Form b k r = FormIs (now (b .args .g)) (b .args .x) k r
 
 abbrev Static : tie.Start → Bool → Type 0
-Static b r = StaticIs (now (b .args .g)) (b .args .m) r
+Static b r = StaticIs (now (b .args .g)) (b .args .x .method) r
 
 -- an answer by the kind that was told is one by the kind asked
 by-kind : (b : tie.Start) (k : Calling) (r : Bool) → b .args .kind ≡ k → Form b k r → Form b (b .args .kind) r
@@ -31,10 +31,7 @@ returns : tie.Need-returns
 returns c =
     let t = c .before .before in
     let b = t .before .before .before in
-    by-kind b _ _ (t .enum-told .given .1) (forms.virtual-static (subst (Static b) (c .if1 .taken) (c .before .is-static .ensures)))
-
-is-interface-requires : tie.Need-is-interface-requires
-is-interface-requires c κs = search needs
+    by-kind b _ _ (t .enum-told .given .1) (forms.virtual-static (b .args .x) (subst (Static b) (c .if1 .taken) (c .before .is-static .ensures)))
 
 enum-told-2 : tie.Need-enum-told-2
 enum-told-2 c = search needs
@@ -58,37 +55,37 @@ returns-2 : tie.Need-returns-2
 returns-2 c =
     let t = c .before .before in
     let b = t .before .before .before in
-    by-kind b _ _ (t .enum-told4 .given .1) (forms.interface-static (subst (Static b) (c .if2 .taken) (c .before .is-static3 .ensures)))
+    by-kind b _ _ (t .enum-told4 .given .1) (forms.interface-static (b .args .x) (subst (Static b) (c .if2 .taken) (c .before .is-static3 .ensures)))
 
-is-interface-requires-2 : tie.Need-is-interface-requires-2
-is-interface-requires-2 c κs = search needs
+is-interface-requires : tie.Need-is-interface-requires
+is-interface-requires c κs = search needs
 
 returns-3 : tie.Need-returns-3
 returns-3 c =
-    let s = c .before .before in
+    let s = c .before in
     let b = s .before .before .before .before in
-    let non-static = subst (Static b) (c .before .if1 .left) (s .is-static .ensures) in
-    by-kind b _ _ (s .before .enum-told .given .1) (forms.virtual-is non-static (c .is-interface .ensures))
+    let non-static = subst (Static b) (c .if1 .left) (s .is-static .ensures) in
+    by-kind b _ _ (s .before .enum-told .given .1) (forms.virtual-is (b .args .x) non-static)
 
 returns-4 : tie.Need-returns-4
 returns-4 c =
     let t = c .before in
-    by-kind (t .before .before .before) _ _ (t .enum-told2 .given .1) (forms.special-is (c .is-implemented .ensures))
+    by-kind (t .before .before .before) _ _ (t .enum-told2 .given .1) (forms.special-is (t .before .before .before .args .x) (c .is-implemented .ensures))
 
 returns-5 : tie.Need-returns-5
 returns-5 c =
     let t = c .before in
-    by-kind (t .before .before .before) _ _ (t .enum-told3 .given .1) (forms.static-is (c .is-static2 .ensures))
+    by-kind (t .before .before .before) _ _ (t .enum-told3 .given .1) (forms.static-is (t .before .before .before .args .x) (c .is-static2 .ensures))
 
 returns-6 : tie.Need-returns-6
 returns-6 c =
     let s = c .before .before in
     let b = s .before .before .before .before in
     let non-static = subst (Static b) (c .before .if2 .left) (s .is-static3 .ensures) in
-    by-kind b _ _ (s .before .enum-told4 .given .1) (forms.interface-is non-static (c .is-interface2 .ensures))
+    by-kind b _ _ (s .before .enum-told4 .given .1) (forms.interface-is (b .args .x) non-static (c .is-interface .ensures))
 
 pub has-form-spec : {M : Type 1} → statement M
 has-form-spec =
     tie.close
-    (tie.spec enum-told is-static-requires returns is-interface-requires enum-told-2 is-implemented-requires enum-told-3 is-static-requires-2 enum-told-4
-    is-static-requires-3 returns-2 is-interface-requires-2 returns-3 returns-4 returns-5 returns-6)
+    (tie.spec enum-told is-static-requires returns enum-told-2 is-implemented-requires enum-told-3 is-static-requires-2 enum-told-4 is-static-requires-3
+    returns-2 is-interface-requires returns-3 returns-4 returns-5 returns-6)

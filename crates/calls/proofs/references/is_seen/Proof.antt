@@ -8,7 +8,7 @@ is-visible-requires : tie.Need-is-visible-requires
 is-visible-requires c κs = search needs
 
 returns : tie.Need-returns
-returns c = forms.seen-imported (c .before .if1 .taken) (c .is-visible .ensures)
+returns c = forms.seen-outside (c .before .if1 .taken) (c .is-visible .ensures)
 
 returns-2 : tie.Need-returns-2
 returns-2 c = forms.seen-own (c .if1 .left)

@@ -12,48 +12,52 @@ use Rattle.calls.proofs.references.name_reference.Tie as tie
 
 -- the start, from where the reference is read; that, from where it is one; that, from where what it names is known
 abbrev start : tie.After-reference-at → tie.Start
-start k = k .before .before .before .before
+start k = k .before .before .before .before .before .before
 
 abbrev read : tie.After-p → tie.After-reference-at
 read k = k .before .before
 
 abbrev known : tie.After-named-by → tie.After-p
-known k = k .before .before .before
+known k = k .before .before .before .before
 
 -- r is the reference
 abbrev Nth : tie.Start → Referenced → Type 0
-Nth b r = ReferenceNth (now (b .args .f)) (b .args .a .references) (b .args .index) r
+Nth b r = ReferenceNth (now (b .args .f)) (b .args .a .references) (b .args .k) r
 
 reference-at-requires : tie.Need-reference-at-requires
-reference-at-requires c κs = let pre = c .before .before .before .pre in references-there (pre .0 .1 .1) (look.judged-reads (pre .0 .0))
+reference-at-requires c κs = let pre = c .before .before .before .before .before .pre in references-there (pre .0 .1) (look.judged-reads (pre .0 .0))
 
 enum-known-p : tie.Need-enum-known-p
 enum-known-p c = search needs
 
 named-by-requires : tie.Need-named-by-requires
-named-by-requires c κs = let pre = start (read (c .before .before)) .pre in (pre .0, pre .1)
+named-by-requires c κs = let pre = start (read (c .before .before .before)) .pre in (pre .0 .0, pre .1)
 
 enum-told : tie.Need-enum-told
 enum-told c = search needs
 
 same-length : tie.Need-same-length
-same-length c = omega (arith, c .before .before .named-by .kept)
+same-length c = search needs
+
+same-length-2 : tie.Need-same-length-2
+same-length-2 c = search needs
 
 returns : tie.Need-returns
 returns c =
-    let n = c .before .before in
+    let n = c .before .before .before .before in
     let k = known n in
     let q = read k in
     let b = start q in
     let r = subst (Nth b) (k .p .given .1) (q .reference-at .ensures) in
-    (look.reference-named (now (b .args .homes)) _ _ (b .pre .0 .1 .1) _ _ _ r (n .named-by .result) (n .named-by .ensures .0), n .named-by .ensures .1)
+    (look.reference-named _ _ (b .pre .0 .1) _ _ _ r (n .named-by .result) (n .named-by .ensures .0), n .named-by .ensures .1)
 
 returns-2 : tie.Need-returns-2
 returns-2 c =
     let q = c .before .before in
     let b = start q in
     let r = subst (Nth b) (c .enum-told .given .1) (q .reference-at .ensures) in
-    (look.reference-none (now (b .args .homes)) _ _ (b .pre .0 .1 .1) r, b .pre .1 .1)
+    (look.reference-none _ _ (b .pre .0 .1) r, b .pre .1 .1)
 
 pub name-reference-spec : {M : Type 1} → statement M
-name-reference-spec = tie.close (tie.spec reference-at-requires enum-known-p named-by-requires enum-told same-length returns returns-2)
+name-reference-spec =
+    tie.close (tie.spec reference-at-requires enum-known-p named-by-requires enum-told same-length same-length-2 returns returns-2)

@@ -1,7 +1,8 @@
 -- `chains::linked::find_part` meets its contract: the classes so far are written, and the next one is known to have room. Assumes nothing.
 use native.Mathlib.Omega.{arith}
 use Prim.Native.Nat.{ℕ, _+_, _-_}
-use mathlib.Core.Path.{sym, subst}
+use mathlib.Core.Path.{_≡_, sym, subst}
+use lib.ListN.{length}
 use denote.Ref.{now}
 use Rattle.classes.specs.Say.{Kind0ParentIs, FoundNearer}
 use Rattle.classes.specs.declared.ClassFound.{ClassFound}
@@ -17,7 +18,8 @@ use Rattle.chains.proofs.linked.find_part.Tie as tie
 
 abbrev Inv-loop : tie.InvT-loop
 Inv-loop f s end index names₀ slots₀ i₀ x₀ names slots i x =
-    parts.Finding f s end names₀ names x₀ (firstLink (x₀ .home)) i (x .home) (x .number) × SlotsTrue f s slots
+    parts.Finding f s end names₀ names x₀ (firstLink (x₀ .home)) i (x .home) (x .number) × SlotsTrue f s slots ×
+    (length slots ≡ length slots₀)
 
 abbrev μ-loop : tie.MeasureT-loop
 μ-loop f s end index names₀ slots₀ i₀ x₀ names slots i x = 32 - i
@@ -37,6 +39,7 @@ loop-holds c =
       subst (λ (k : ℕ). parts.Finding f s end l l start first k (start .home) (start .number)) (sym (c .first-link .ensures))
           (parts.finding-start f s end l start first (b .pre .0)),
       b .pre .1 .0 .1,
+      omega arith,
     )
 
 place-of-requires : tie.Need-place-of-requires Inv-loop μ-loop
@@ -119,9 +122,8 @@ same-length c =
 same-length-2 : tie.Need-same-length-2 Inv-loop μ-loop
 same-length-2 c =
     let c1 = c .before .before .before .before .before .before .before .before in
-    let c2 = c1 .before .before .before .before .before .before .before .before .before .before .before .before .before .before .before .before in
-    let c3 = c2 .before .before in
-    omega (arith, c1 .kind0-parent .ensures .1 .size, c3 .pre .1 .0 .1 .size)
+    let c2 = c1 .before .before .before .before .before .before .before .before in
+    omega (arith, c2 .before .before .before .loop .inv .2)
 
 returns : tie.Need-returns Inv-loop μ-loop
 returns c =
@@ -143,7 +145,8 @@ returns c =
     let set = c3 .set-link in
     let d = c1 .n .given .0 .0 in
     let told = c1 .n .given .1 in
-    let parent = subst (λ (o : ClassFound). Kind0ParentIs f s (x .home) (x .number) o × FoundNearer (x .home) o) told (c2 .kind0-parent .ensures .0) in
+    let parent = subst (λ (o : ClassFound). Kind0ParentIs f s (x .home) (x .number) o × FoundNearer (x .home) o) told
+    (c2 .kind0-parent .ensures .0 .0, c2 .kind0-parent .ensures .0 .1) in
     let leaves = parts.finding-leaves f s end (now (b .args .names)) start first (loop .names) (loop .i) (x .home) (x .number) inv small
     (b .pre .1 .0 .0) (at .result) (at .ensures .0) (set .last .0) (set .ensures) d (parent .0) (parent .1) (c .if1 .taken) in
     (leaves, c2 .kind0-parent .ensures .1)
@@ -174,10 +177,11 @@ loop-again c =
     let set = c3 .set-link in
     let d = c1 .n .given .0 .0 in
     let told = c1 .n .given .1 in
-    let parent = subst (λ (o : ClassFound). Kind0ParentIs f s (x .home) (x .number) o × FoundNearer (x .home) o) told (c2 .kind0-parent .ensures .0) in
+    let parent = subst (λ (o : ClassFound). Kind0ParentIs f s (x .home) (x .number) o × FoundNearer (x .home) o) told
+    (c2 .kind0-parent .ensures .0 .0, c2 .kind0-parent .ensures .0 .1) in
     let more = parts.finding-more f s end (now (b .args .names)) start first (loop .names) (loop .i) (x .home) (x .number) inv small
     (b .pre .1 .0 .0) (at .result) (at .ensures .0) (set .last .0) (set .ensures) d (parent .0) (parent .1) (c .if1 .left) in
-    (more, c2 .kind0-parent .ensures .1)
+    (more, c2 .kind0-parent .ensures .1, omega (arith, loop .inv .2, c4 .place-of .kept .1 .1 .0, c2 .kind0-parent .kept .1 .1 .1 .1 .0))
 
 enum-told : tie.Need-enum-told Inv-loop μ-loop
 enum-told c = search needs
@@ -204,9 +208,8 @@ same-length-3 c =
 same-length-4 : tie.Need-same-length-4 Inv-loop μ-loop
 same-length-4 c =
     let c1 = c .before .before .before .before in
-    let c2 = c1 .before .before .before .before .before .before .before .before .before .before .before .before .before .before .before .before in
-    let c3 = c2 .before .before in
-    omega (arith, c1 .kind0-parent .ensures .1 .size, c3 .pre .1 .0 .1 .size)
+    let c2 = c1 .before .before .before .before .before .before .before .before in
+    omega (arith, c2 .before .before .before .loop .inv .2)
 
 returns-2 : tie.Need-returns-2 Inv-loop μ-loop
 returns-2 c =
@@ -237,9 +240,7 @@ same-length-5 : tie.Need-same-length-5 Inv-loop μ-loop
 same-length-5 c = c .before .loop .inv .0 .size
 
 same-length-6 : tie.Need-same-length-6 Inv-loop μ-loop
-same-length-6 c =
-    let c1 = c .before .before .before .before .before .before .before .before in
-    omega (arith, c .before .loop .inv .1 .size, c1 .pre .1 .0 .1 .size)
+same-length-6 c = c .before .loop .inv .2
 
 returns-3 : tie.Need-returns-3 Inv-loop μ-loop
 returns-3 c =

@@ -17,13 +17,13 @@ names-ok-requires c κs = search needs
 
 returns : tie.Need-returns
 returns c =
-    let a = c .before .before .before .before .args in
+    let a = c .before .before .before .before .before .before .before .args in
     let no = subst (NamesIs (now (a .file))) (not-true _ (c .if1 .taken)) (c .before .names-ok .ensures) in
     stages.names-before (now (a .s)) (a .end) (aidAt (now (a .s)) (a .domain .aid)) (now (a .file)) no
 
 codes-number-requires : tie.Need-codes-number-requires
 codes-number-requires c κs =
-    let start = c .before .before .before .before in
+    let start = c .before .before .before .before .before .before .before in
     let a = start .args in
     (settings.read-some (now (a .s)) (a .end) (aidAt (now (a .s)) (a .domain .aid)) (now (a .file)) (start .pre .0 .0), start .pre .1 .1)
 
@@ -32,7 +32,7 @@ is-refusal-requires c κs = search needs
 
 -- the function's start, and that 15 was answered yes, where the number of the codes is known
 abbrev start : tie.After-codes-number → tie.Start
-start k = k .before .before .before .before .before
+start k = k .before .before .before .before .before .before .before .before
 
 fifteen : (k : tie.After-codes-number) → NamesIs (now (start k .args .file)) true
 fifteen k = let asked = k .before in subst (NamesIs (now (start k .args .file))) (not-false _ (asked .if1 .left)) (asked .before .names-ok .ensures)
@@ -84,30 +84,37 @@ returns-4 c =
 
 calls-number-requires : tie.Need-calls-number-requires
 calls-number-requires c κs =
-    let told = c .before .before .before in
+    let told = c .before .before .before .before .before in
     let k = told .before .before in
     let b = start k in
     let a = b .args in
     let codes = k .codes-number in
     let d = aidAt (now (a .s)) (a .domain .aid) in
-    let is-18 = stages.is-18 (now (a .s)) (a .end) d (now (a .file)) (fifteen k) (codes .result) (codes .ensures) (passed told) (c .if4 .left) in
+    let is-18 = stages.is-18 (now (a .s)) (a .end) d (now (a .file)) (fifteen k) (codes .result) (codes .ensures) (passed told) (c .before .before .if4 .left) in
     let split = stages.codes-split (now (a .s)) (a .end) d (now (a .file)) (fifteen k) (codes .result) (codes .ensures) (b .pre .0 .0) is-18 in
-    ((b .pre .0 .0, split, b .pre .0 .1 .there), b .pre .1 .0)
+    ((b .pre .0 .0, split, b .pre .0 .1 .there), b .pre .1)
+
+same-length : tie.Need-same-length
+same-length c = search needs
+
+same-length-2 : tie.Need-same-length-2
+same-length-2 c = search needs
 
 returns-5 : tie.Need-returns-5
 returns-5 c =
-    let kept = c .before .before in
+    let number = c .before .before .before .before .calls-number in
+    let kept = c .before .before .before .before .before .before .before .before in
     let told = kept .before .before in
     let k = told .before .before in
     let a = start k .args in
     let codes = k .codes-number in
     let subset = kept .before .subset-ok in
     stages.calls-behind (now (a .s)) (a .end) (aidAt (now (a .s)) (a .domain .aid)) (now (a .file)) (fifteen k) (codes .result) (codes .ensures)
-    (passed told) (a .domain .subset) (subset .result) (subset .ensures) (start k .pre .0 .1 .asked) (not-false _ (kept .if3 .left)) (c .calls-number .result)
-    (c .calls-number .ensures)
+    (passed told) (a .domain .subset) (subset .result) (subset .ensures) (start k .pre .0 .1 .asked) (not-false _ (kept .if3 .left)) (number .result)
+    (number .ensures)
 
 pub inside-number-spec : {M : Type 1} → statement M
 inside-number-spec =
     tie.close
     (tie.spec names-ok-requires returns codes-number-requires is-refusal-requires cast-result returns-2 subset-ok-requires returns-3 returns-4
-    calls-number-requires returns-5)
+    calls-number-requires same-length same-length-2 returns-5)

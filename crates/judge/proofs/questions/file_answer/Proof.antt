@@ -1,34 +1,40 @@
--- `judge::questions::file_answer` meets its contract: 10 to 19, then 20 and 21, over the entries up to the used field. Assumes nothing.
+-- `judge::questions::file_answer` meets its contract: 10 to 14, 15 to 19, then 20 and 21, over the entries up to the used field. Assumes nothing.
 use Prim.Native.Nat.{ℕ}
-use mathlib.Core.Path.{refl, sym, subst}
+use native.Mathlib.Omega.{arith}
+use mathlib.Core.Path.{_≡_, refl, sym, subst}
 use denote.Ref.{now}
 use borrow.Author.Needs.{needs}
 use Rattle.store.specs.Sound.{OverSome}
 use Rattle.homes.specs.Homes.{aidAt}
 use Rattle.homes.specs.Found.{Indexed}
 use Rattle.depths.specs.Depths.{DepthsKept}
-use Rattle.judge.specs.Says.{usedAt, DomainTold, FileSays}
+use Rattle.judge.specs.Says.{usedAt, Asked14Some, InsideAnswer, DomainTold, FileSays}
 use Rattle.judge.specs.declared.LoadAnswer.{LoadAnswer}
+use Rattle.judge.specs.declared.LoadAnswer.the-variants.{Accepted}
 use Rattle.judge.proofs.Loading as stage
 use Rattle.judge.proofs.Settings as settings
 use Rattle.judge.proofs.questions.file_answer.Statement.{statement}
 use Rattle.judge.proofs.questions.file_answer.Tie as tie
 
--- the start, from where the used field was read; that, from the answer to 10 to 19; that, from a yes and from a no; the yes, from the number of 20
+-- the start, from where the used field was read; that, from the answer to 10 to 14; that, from a yes and from a no; the yes, from the number of
+-- 15 to 19; that, from the number of 20
 abbrev start : tie.After-u2-at → tie.Start
 start k = k .before .before .before .before .before .before .before
 
-abbrev read : tie.After-inside-answer → tie.After-u2-at
+abbrev read : tie.After-parents-answer → tie.After-u2-at
 read k = k .before .before
 
-abbrev passed : tie.After-depth → tie.After-inside-answer
+abbrev passed : tie.After-depth → tie.After-parents-answer
 passed k = k .before .before .before
 
-abbrev refused : tie.After-n → tie.After-inside-answer
+abbrev refused : tie.After-n → tie.After-parents-answer
 refused k = k .before .before .before
 
-abbrev yes : tie.After-running-number → tie.After-depth
+abbrev yes : tie.After-inside-number → tie.After-depth
 yes k = k .before .before .before .before
+
+abbrev inner : tie.After-running-number → tie.After-inside-number
+inner k = k .before .before .before .before .before .before .before .before
 
 -- the entries, the tables and the domain, over the entries up to the place that was read
 over : (k : tie.After-u2-at) → OverSome (now (start k .args .s)) (k .u2-at .result)
@@ -55,17 +61,31 @@ told k r h =
     let a = start k .args in
     subst (λ (i : ℕ). FileSays (now (a .s)) i (aidAt (now (a .s)) (a .domain .aid)) (now (a .file)) r) (k .u2-at .ensures .0) h
 
+-- 10 to 14 were answered yes
+asked : (k : tie.After-depth) →
+    let r = read (passed k) in
+    let a = start r .args in
+    Asked14Some (now (a .s)) (r .u2-at .result) (aidAt (now (a .s)) (a .domain .aid)) (now (a .file))
+asked k = stage.asked-14 _ _ _ _ _ (passed k .parents-answer .ensures .0) _ (k .depth .given .1) (over (read (passed k)))
+
+-- 10 to 19, where 15 to 19 were answered yes
+inside : (k : tie.After-inside-number) → k .inside-number .result ≡ 0 →
+    let r = read (passed (yes k)) in
+    let a = start r .args in
+    InsideAnswer (now (a .s)) (r .u2-at .result) (aidAt (now (a .s)) (a .domain .aid)) (now (a .file)) (Accepted (yes k .depth .given .0 .0))
+inside k z = stage.inside-yes _ _ _ _ _ (passed (yes k) .parents-answer .ensures .0) _ (yes k .depth .given .1) _ (k .inside-number .ensures) z
+
 u2-at-requires : tie.Need-u2-at-requires
 u2-at-requires c κs = settings.used-inside _ (c .before .before .before .before .before .before .pre .0 .0)
 
-slice-aggregate-inside-answer : tie.Need-slice-aggregate-inside-answer
-slice-aggregate-inside-answer c = search needs
+slice-aggregate-parents-answer : tie.Need-slice-aggregate-parents-answer
+slice-aggregate-parents-answer c = search needs
 
-inside-answer-requires : tie.Need-inside-answer-requires
-inside-answer-requires c κs =
+parents-answer-requires : tie.Need-parents-answer-requires
+parents-answer-requires c κs =
     let k = c .before in
     let t = tables k in
-    ((over k, loading k), ((t .0, t .1, start k .pre .1 .1 .0), refl))
+    (over k, ((t .0, t .1, start k .pre .1 .1 .0), refl))
 
 enum-known-n : tie.Need-enum-known-n
 enum-known-n c = search needs
@@ -73,12 +93,11 @@ enum-known-n c = search needs
 enum-known-depth : tie.Need-enum-known-depth
 enum-known-depth c = search needs
 
-running-number-requires : tie.Need-running-number-requires
-running-number-requires c κs =
+inside-number-requires : tie.Need-inside-number-requires
+inside-number-requires c κs =
     let y = c .before .before .before in
     let k = read (passed y) in
-    let asked = stage.asked-inside _ _ _ _ _ (passed y .inside-answer .ensures .0) _ (y .depth .given .1) (over k) in
-    ((asked, tables k .0, start k .pre .0 .1 .there), start k .pre .1 .1)
+    ((asked y, loading k), (tables k .0, start k .pre .1 .1 .0, start k .pre .1 .1 .1))
 
 same-length : tie.Need-same-length
 same-length c = search needs
@@ -90,12 +109,18 @@ returns : tie.Need-returns
 returns c =
     let n = c .before .before .before .before .before in
     let a = passed (yes n) in
-    told (read a) _ (stage.later-refused _ _ _ _ _ (a .inside-answer .ensures .0) _ (yes n .depth .given .1) _ (n .running-number .ensures) (c .if1 .taken))
+    let no = stage.inside-refused _ _ _ _ _ (a .parents-answer .ensures .0) _ (yes n .depth .given .1) _ (n .inside-number .ensures) (c .if1 .taken) in
+    told (read a) _ (stage.file-inside _ _ _ _ _ no _ refl)
 
-returns-2 : tie.Need-returns-2
-returns-2 c =
-    let a = refused (c .before) in
-    told (read a) _ (stage.file-inside _ _ _ _ _ (a .inside-answer .ensures .0) _ (c .before .n .given .1))
+running-number-requires : tie.Need-running-number-requires
+running-number-requires c κs =
+    let n = c .before .before .before .before .before .before .before in
+    let k = read (passed (yes n)) in
+    let room = start k .pre .1 .1 .1 in
+    let kept = n .inside-number .kept in (
+      (asked (yes n), tables k .0, start k .pre .0 .1 .there),
+      (start k .pre .1 .1 .0, (omega (arith, room .0, kept), omega (arith, room .1, kept), omega (arith, room .2, kept))),
+    )
 
 same-length-3 : tie.Need-same-length-3
 same-length-3 c = search needs
@@ -103,14 +128,34 @@ same-length-3 c = search needs
 same-length-4 : tie.Need-same-length-4
 same-length-4 c = search needs
 
+returns-2 : tie.Need-returns-2
+returns-2 c =
+    let q = c .before .before .before .before .before in
+    let n = inner q in
+    let a = read (passed (yes n)) in
+    told a _ (stage.later-refused _ _ _ _ _ (inside n (q .before .before .before .if1 .left)) _ refl _ (q .running-number .ensures) (c .if2 .taken))
+
 returns-3 : tie.Need-returns-3
 returns-3 c =
-    let n = c .before .before .before .before .before in
-    let a = passed (yes n) in
-    told (read a) _ (stage.later-done _ _ _ _ _ (a .inside-answer .ensures .0) _ (yes n .depth .given .1) _ (n .running-number .ensures) (c .if1 .left))
+    let a = refused (c .before) in
+    let no = stage.inside-first _ _ _ _ _ (a .parents-answer .ensures .0) _ (c .before .n .given .1) in
+    told (read a) _ (stage.file-inside _ _ _ _ _ no _ refl)
+
+same-length-5 : tie.Need-same-length-5
+same-length-5 c = search needs
+
+same-length-6 : tie.Need-same-length-6
+same-length-6 c = search needs
+
+returns-4 : tie.Need-returns-4
+returns-4 c =
+    let q = c .before .before .before .before .before in
+    let n = inner q in
+    let a = read (passed (yes n)) in
+    told a _ (stage.later-done _ _ _ _ _ (inside n (q .before .before .before .if1 .left)) _ refl _ (q .running-number .ensures) (c .if2 .left))
 
 pub file-answer-spec : {M : Type 1} → statement M
 file-answer-spec =
     tie.close
-    (tie.spec u2-at-requires slice-aggregate-inside-answer inside-answer-requires enum-known-n enum-known-depth running-number-requires same-length
-    same-length-2 returns returns-2 same-length-3 same-length-4 returns-3)
+    (tie.spec u2-at-requires slice-aggregate-parents-answer parents-answer-requires enum-known-n enum-known-depth inside-number-requires same-length
+    same-length-2 returns running-number-requires same-length-3 same-length-4 returns-2 returns-3 same-length-5 same-length-6 returns-4)

@@ -1,7 +1,8 @@
 -- `slots::parents::kind0_parent` meets its contract: the loop goes on while no parent passed is of kind 0. Assumes nothing.
 use Prim.Native.Nat.{_-_}
 use native.Mathlib.Omega.{arith}
-use mathlib.Core.Path.{subst}
+use mathlib.Core.Path.{_≡_, subst}
+use lib.ListN.{length}
 use denote.Ref.{now}
 use Rattle.classes.specs.Say.{Kind0Is}
 use Rattle.classes.proofs.Parents as parents
@@ -10,7 +11,7 @@ use Rattle.slots.proofs.parents.kind0_parent.Statement.{statement}
 use Rattle.slots.proofs.parents.kind0_parent.Tie as tie
 
 abbrev Inv-loop : tie.InvT-loop
-Inv-loop f s end index slots₀ x count i₀ slots i = parents.Kind0From f s (x .home) (x .number) i × SlotsTrue f s slots
+Inv-loop f s end index slots₀ x count i₀ slots i = parents.Kind0From f s (x .home) (x .number) i × SlotsTrue f s slots × (length slots ≡ length slots₀)
 
 abbrev μ-loop : tie.MeasureT-loop
 μ-loop f s end index slots₀ x count i₀ slots i = count - i
@@ -36,7 +37,7 @@ parent-count-requires : tie.Need-parent-count-requires Inv-loop μ-loop
 parent-count-requires c κs = let pre = c .before .before .before .before .before .pre in (pre .0, pre .1 .1)
 
 loop-holds : tie.Need-loop-holds Inv-loop μ-loop
-loop-holds c = (parents.kind0-start _ _ _ _, c .before .before .parent-count .ensures .1)
+loop-holds c = (parents.kind0-start _ _ _ _, c .before .before .parent-count .ensures .1, omega arith)
 
 parent-at-requires : tie.Need-parent-at-requires Inv-loop μ-loop
 parent-at-requires c κs =
@@ -61,7 +62,7 @@ same-length : tie.Need-same-length Inv-loop μ-loop
 same-length c =
     let k = asked (c .before) in
     let t = turn (read (k .before)) in
-    omega (arith, t .before .loop .inv .1 .size, k .is-kind0 .ensures .1 .size, start (counted (t .before)) .pre .1 .1 .size)
+    omega (arith, t .before .loop .inv .2)
 
 returns : tie.Need-returns Inv-loop μ-loop
 returns c =
@@ -78,6 +79,7 @@ returns c =
       (
         parents.kind0-hit _ _ _ _ _ _ count inv (t .loop-test .taken) _ is kind,
         parents.kind0-nearer _ _ _ _ _ _ count inv (t .loop-test .taken) _ is (b .pre .0 .0),
+        parents.kind0-before _ _ _ _ _ _ count inv (t .loop-test .taken) _ is (b .pre .0 .0),
       ),
       k .is-kind0 .ensures .1,
     )
@@ -100,16 +102,17 @@ loop-again c =
     let x = p .parent-at .result in
     let kind = subst (Kind0Is (now (a .f)) (now (a .s)) (x .home) (x .number)) (c .if1 .left) (k .is-kind0 .ensures .0) in
     let count = n .parent-count .ensures .0 .0 in
-    (parents.kind0-miss _ _ _ _ _ _ count (t .before .loop .inv .0) (t .loop-test .taken) _ (p .parent-at .ensures .0) kind, k .is-kind0 .ensures .1)
+    let left = parents.kind0-miss _ _ _ _ _ _ count (t .before .loop .inv .0) (t .loop-test .taken) _ (p .parent-at .ensures .0) kind in
+    (left, k .is-kind0 .ensures .1, omega (arith, t .before .loop .inv .2))
 
 same-length-2 : tie.Need-same-length-2 Inv-loop μ-loop
-same-length-2 c = omega (arith, c .before .loop .inv .1 .size, start (counted (c .before)) .pre .1 .1 .size)
+same-length-2 c = omega (arith, c .before .loop .inv .2)
 
 returns-2 : tie.Need-returns-2 Inv-loop μ-loop
 returns-2 c =
     let inv = c .before .loop .inv in
     let count = counted (c .before) .parent-count .ensures .0 .0 in
-    ((parents.kind0-none _ _ _ _ _ _ count (inv .0) (c .loop-test .left), tt {0}), inv .1)
+    ((parents.kind0-none _ _ _ _ _ _ count (inv .0) (c .loop-test .left), tt {0}, tt {0}), inv .1)
 
 pub kind0-parent-spec : {M : Type 1} → statement M
 kind0-parent-spec =

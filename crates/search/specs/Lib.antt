@@ -1,0 +1,3 @@
+-- What the functions of the search require and ensure.
+pub mod Search
+pub mod Walk
