@@ -136,12 +136,12 @@
  *                                  8,192   longer      8,192   longer
  *     loader_fresh                   300      300        300      300
  *     loader_fresh_limits            300      300        300      300
- *     loader_create                8,640   19,140     16,270   28,210
- *     loader_create_without_int    8,640   19,140     16,270   28,210
- *     loader_delete                8,640   19,140     16,270   28,210
- *     loader_load                  8,640   19,140     16,270   28,210
- *     loader_remove                8,640   19,140     16,270   28,210
- *     loader_query                 8,640   19,140     16,270   28,210
+ *     loader_create                7,920   18,430     14,490   26,430
+ *     loader_create_without_int    7,920   18,430     14,490   26,430
+ *     loader_delete                7,920   18,430     14,490   26,430
+ *     loader_load                  7,920   18,430     14,490   26,430
+ *     loader_remove                7,920   18,430     14,490   26,430
+ *     loader_query                 7,920   18,430     14,490   26,430
  *
  * Linking. libloader.a is for x86-64 Linux. It needs one function from outside:
  * memset, as C99 has it. This header compiles where int has 16 bits or more, and

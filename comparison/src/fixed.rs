@@ -8,6 +8,7 @@ use independent::generate::kind_cases;
 use independent::generate::limit_cases;
 use independent::generate::lineages::lineages;
 use independent::generate::own_pairs::own_pairs;
+use independent::generate::reference_cases;
 use independent::generate::search_cases;
 use independent::generate::special;
 use independent::loader::Sequence;
@@ -128,6 +129,10 @@ fn of_searches() -> Vec<Group> {
         group(
             "inherited declarations and callers with lists in every way",
             search_cases::lists().into_iter(),
+        ),
+        group(
+            "one or two of many references name what the others do not",
+            reference_cases::many().into_iter(),
         ),
     ]
 }

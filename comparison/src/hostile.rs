@@ -41,6 +41,7 @@ pub const DOMAINS: &str = "domains in the order that costs most";
 pub const SHUFFLED: &str = "domains in no order";
 pub const UNUSED: &str = "1,024 unused references a file";
 pub const CALLED: &str = "700 references a file, each called";
+pub const ONE_CALLED: &str = "1,024 references a file, one of them called";
 pub const MAPS: &str = "15 imports of 32 domains each";
 pub const MAPS_CALLED: &str = "the same, each import called";
 pub const PACKAGES: &str = "packages of chosen AIDs, 15 imports each";
@@ -74,6 +75,8 @@ pub const SEARCH_NAMES: &str = "the same through fewer interfaces, 8 other names
 pub const SEARCH_CHAIN: &str =
     "1,024 references a file, each called, up a kind-0 chain of 8 × 64 names";
 pub const SEARCH_TWO: &str = "thousands of calls of two references by turns, through the 7 levels";
+pub const SEARCH_MANY: &str = "thousands of calls of 96 references by turns, through the 7 levels";
+pub const SEARCH_ONE: &str = "1,024 references a file through the 7 levels, one of them called";
 pub const SEARCH_NONE: &str = "load 1,024 references, each called, the last of them naming nothing";
 pub const SEARCH_DEEP: &str =
     "limits 16 and 8: 1,024 references a file, each called, through 15 levels";
@@ -126,8 +129,9 @@ pub fn all() -> Vec<Workload> {
     found.push(crossing(&levels(CROSSING, 6), 32));
     found.push(domains(DOMAINS, |numbers| numbers.reverse()));
     found.push(domains(SHUFFLED, shuffle));
-    found.push(references(UNUSED, 1_024, false));
-    found.push(references(CALLED, 700, true));
+    found.push(references(UNUSED, 1_024, 0));
+    found.push(references(CALLED, 700, 700));
+    found.push(references(ONE_CALLED, 1_024, 1));
     found.push(maps(MAPS, false));
     found.push(maps(MAPS_CALLED, true));
     found.push(packages());
@@ -157,7 +161,7 @@ fn with_handlers() -> [Workload; 5] {
         long_codes(LONG_HANDLERS, false),
         long_codes(WIDE_HANDLERS, true),
         in_second(CHAIN_SECOND, &chain(64), 0),
-        in_second(CALLED_SECOND, &references(CALLED, 700, true), 16),
+        in_second(CALLED_SECOND, &references(CALLED, 700, 700), 16),
     ]
 }
 

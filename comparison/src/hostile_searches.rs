@@ -5,8 +5,8 @@
 use crate::hostile::{aid, filled, packed, start, workload, LARGEST};
 use crate::hostile::{
     SEARCH_CHAIN, SEARCH_CROSSING, SEARCH_DEEP, SEARCH_DEEP_CHAIN, SEARCH_DEEP_CROSSING,
-    SEARCH_DEEP_NONE, SEARCH_DEEP_TWO, SEARCH_LADDER, SEARCH_NAMES, SEARCH_NONE, SEARCH_TREE,
-    SEARCH_TWO,
+    SEARCH_DEEP_NONE, SEARCH_DEEP_TWO, SEARCH_LADDER, SEARCH_MANY, SEARCH_NAMES, SEARCH_NONE,
+    SEARCH_ONE, SEARCH_TREE, SEARCH_TWO,
 };
 use crate::ordinary::domain;
 use crate::ordinary_limits::limited;
@@ -39,14 +39,16 @@ pub(crate) fn with_searches() -> Vec<Workload> {
         crossing.searched(SEARCH_CROSSING),
         names.searched(SEARCH_NAMES),
         chain(SEARCH_CHAIN, standard),
-        ladder.called(SEARCH_TWO),
+        ladder.called(SEARCH_TWO, 2),
+        ladder.called(SEARCH_MANY, 96),
+        ladder.named(SEARCH_ONE),
         Ladder::of(standard, BESIDE_ONE).refused(SEARCH_NONE),
     ];
     let of_greatest = [
         deep.searched(SEARCH_DEEP),
         deep_crossing.searched(SEARCH_DEEP_CROSSING),
         chain(SEARCH_DEEP_CHAIN, greatest),
-        deep.called(SEARCH_DEEP_TWO),
+        deep.called(SEARCH_DEEP_TWO, 2),
         Ladder::of(greatest, BESIDE_ONE).refused(SEARCH_DEEP_NONE),
     ];
     found.extend(of_greatest.map(|workload| limited(greatest, workload)));
@@ -78,14 +80,24 @@ impl Ladder {
         })
     }
 
-    /// Callers of two references by turns, as many calls as fit in two of the longest codes.
-    fn called(&self, name: &'static str) -> Workload {
+    /// Callers of so many references by turns, as many calls as fit in two of the longest codes.
+    fn called(&self, name: &'static str, count: u16) -> Workload {
         let most = (STANDARD_CODE as u16 - 1) / 3;
-        let code = calls((0..most).map(|k| k % 2));
+        let code = calls((0..most).map(|k| k % count));
         let codes = [code.clone(), code];
+        let names: Vec<u16> = (0..count).map(|k| k % NAMES).collect();
         let class = self.class();
         with_callers(name, self.entries(NAMES), |number| {
-            class.caller(number, &[0, 1], &codes)
+            class.caller(number, &names, &codes)
+        })
+    }
+
+    /// Callers of one of as many references as a file may have.
+    fn named(&self, name: &'static str) -> Workload {
+        let names: Vec<u16> = (0..MAX_REFERENCES as u16).map(|k| k % NAMES).collect();
+        let class = self.class();
+        with_callers(name, self.entries(NAMES), |number| {
+            class.caller(number, &names, &[calls(0..1)])
         })
     }
 

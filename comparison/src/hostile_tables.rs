@@ -109,8 +109,9 @@ pub(crate) fn shuffle(numbers: &mut Vec<u32>) {
     }
 }
 
-/// References to the last method of the last class of a package of 32 × 60 methods.
-pub(crate) fn references(name: &'static str, count: u16, called: bool) -> Workload {
+/// So many references to the last method of the last class of a package of 32 × 60 methods, the
+/// first of them called.
+pub(crate) fn references(name: &'static str, count: u16, called: u16) -> Workload {
     let last = MethodModel::new(0xE0, 59, None, &[0x7A]);
     let methods = |_| {
         (0..59)
@@ -128,14 +129,18 @@ pub(crate) fn references(name: &'static str, count: u16, called: bool) -> Worklo
         ..FileModel::default()
     }));
     let call = |index: u16| [&[0x8D][..], &index.to_be_bytes()].concat();
-    let code: Vec<u8> = (0..count).flat_map(call).chain([0x7A]).collect();
+    let code: Vec<u8> = (0..called).flat_map(call).chain([0x7A]).collect();
     let caller = ClassModel::new(0, &[], vec![MethodModel::new(0xE0, 1, Some(&[]), &code)]);
     let entries = filled(entries, LARGEST, |k| {
         packed(FileModel {
             aid: aid(100 + k),
             imports: vec![aid(1)],
             references: vec![(1, 31, 59); usize::from(count)],
-            classes: if called { vec![caller.clone()] } else { vec![] },
+            classes: if called > 0 {
+                vec![caller.clone()]
+            } else {
+                vec![]
+            },
             ..FileModel::default()
         })
     });

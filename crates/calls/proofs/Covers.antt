@@ -27,13 +27,13 @@ use Rattle.homes.specs.Homes.{HomeIs, own, ownHome, fileOf, aidAt, domainPlace,
 use Rattle.homes.specs.declared.Home.{Home}
 use Rattle.homes.proofs.Homes.{home-reads}
 use Rattle.homes.proofs.Domains.{domain-is}
-use Rattle.calls.specs.Setting.{Loading, importsOf, settingOf, Judged}
-use Rattle.calls.specs.Named.{ReferenceIs}
+use Rattle.references.specs.Setting.{Loading, importsOf, settingOf, Judged}
+use Rattle.references.specs.Named.{ReferenceIs}
 use Rattle.calls.specs.Maps.{listed, domainsOf, packageDomains, packageDomain, rowsNumber, mapLength, LoadingIs, MapTrue}
 use Rattle.calls.specs.Rights.{Stands, RightsAt, CallSays, MayCall, CallAllowedIs, Callee, CalleeAllows}
 use Rattle.calls.specs.declared.Asker.{Asker}
-use Rattle.calls.specs.declared.Meant.{Meant}
-use Rattle.calls.specs.declared.NamedFound.the-variants as found
+use Rattle.references.specs.declared.Meant.{Meant}
+use Rattle.references.specs.declared.NamedFound.the-variants as found
 
 -- what stands at the place of a file's domains are its domains
 domains-are : (s g : Bytes) (u : ℕ) (p : Package) → readFile (storeLimits s) g ≡ some p → DomainsAt g u → (ds : List Aid) (j : ℕ) →

@@ -21,10 +21,11 @@ use Rattle.codes.specs.declared.Calling.{Calling}
 use Rattle.codes.specs.declared.Calling.the-variants as kinds
 use Rattle.homes.specs.Homes.{fileOf, HomeIs, own, stored, Stored, HomeThere}
 use Rattle.homes.specs.declared.Home.{Home}
-use Rattle.calls.specs.Setting.{Loading, importsOf, Judged}
-use Rattle.calls.specs.Named.{OfNamed, SeenIs, FormIs, WellIs, ReferenceIs, CallNamedIs}
-use Rattle.calls.specs.declared.Meant.{Meant}
-use Rattle.calls.specs.declared.NamedFound.the-variants as found
+use Rattle.references.specs.Setting.{Loading, importsOf, Judged}
+use Rattle.references.specs.Named.{ReferenceIs}
+use Rattle.calls.specs.Named.{OfNamed, SeenIs, FormIs, WellIs, CallNamedIs}
+use Rattle.references.specs.declared.Meant.{Meant}
+use Rattle.references.specs.declared.NamedFound.the-variants as found
 
 -- visible where it lies outside the file
 pub seen-outside : {g : Bytes} {m : ℕ} {o b : Bool} → o ≡ true → VisibleIs g m b → SeenIs g m o b

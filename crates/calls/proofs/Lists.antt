@@ -14,7 +14,7 @@ use Rattle.places.proofs.Steady.{Steady, steady-u1}
 use Rattle.places.proofs.Inverse.{reads-left, reads-counted, reads-u1}
 use Rattle.refusals.specs.Order.{firstOf, Asks, noOf, noOfAll, numbers, rising}
 use Rattle.refusals.proofs.Walks.{NumberLoop, numbers-start, numbers-on, numbers-done}
-use Rattle.calls.specs.Setting.{Loading}
+use Rattle.references.specs.Setting.{Loading}
 use Rattle.calls.specs.Calls.{Asking}
 use Rattle.calls.specs.Calls.{Reading}
 

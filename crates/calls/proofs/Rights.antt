@@ -1,5 +1,5 @@
 -- What a method allows where it stands: its policy, the domains that this counts, the domain of its package. Assumes nothing.
-use Prim.Native.Nat.{ℕ}
+use Prim.Native.Nat.{ℕ, _≤_}
 use native.Mathlib.Omega.{arith}
 use mathlib.Core.Path.{_≡_, refl, sym, _∙_, subst}
 use mathlib.Core.List.{List}
@@ -19,12 +19,14 @@ use Rattle.homes.specs.Homes.{Setting, HomeIs, ownHome, fileOf, formatAt, aidAt
 use Rattle.homes.specs.declared.Home.{Home}
 use Rattle.homes.proofs.Homes.{home-reads}
 use Rattle.homes.proofs.Domains.{aid-at, domain-there}
-use Rattle.calls.specs.Setting.{Loading, importsOf, settingOf, Judged}
+use Rattle.references.specs.Setting.{Loading, importsOf, settingOf, Judged}
 use Rattle.calls.specs.Rights.{Stands, StandsThere, RightsAt, Callee}
 use Rattle.calls.specs.Calls.{OwnMethod}
-use Rattle.calls.specs.Maps.{askerAt, AskerTrue, Lent, TablesTrue}
+use Rattle.calls.specs.Maps.{askerAt, groupFrom, askerFrom, AskerTrue, MapTrue}
 use Rattle.calls.specs.declared.Asker.{Asker}
-use Rattle.calls.specs.declared.Meant.{Meant}
+use Rattle.references.specs.Named.{GroupTrue}
+use Rattle.references.specs.declared.Group.{Group}
+use Rattle.references.specs.declared.Meant.{Meant}
 
 module _ {f s : Bytes} {h : Home} {m : ℕ} where
   pub stands-home : StandsThere f s h m → HomeThere f s h
@@ -94,13 +96,16 @@ callee-stands {end = end} x q g =
 pub asker-moved : {f s : Bytes} {a : Asker} {i : ℕ} → AskerTrue f s a → AskerTrue f s (askerAt a i)
 asker-moved t = record { file = t .file; domain = t .domain; loading = t .loading }
 
--- what is told of the place that a walk was moved to, and the tables with it
-pub told-at : {f s : Bytes} {x : Asker} {i : ℕ} {u v : List ℕ} (a : Asker) (P : ℕ → Aid → ℕ → Type 0) → x ≡ askerAt a i →
-    P (x .end) (aidAt s (x .domain)) (x .at) × TablesTrue f s (x .end) (aidAt s (x .domain)) u v →
-    P (a .end) (aidAt s (a .domain)) i × TablesTrue f s (a .end) (aidAt s (a .domain)) u v
-told-at {f} {s} {u = u} {v} a P e p =
-    subst (λ (y : Asker). P (y .end) (aidAt s (y .domain)) (y .at) × TablesTrue f s (y .end) (aidAt s (y .domain)) u v) e p
+-- what is told of the place that a walk was moved to, and the table with it
+pub told-at : {f s : Bytes} {x : Asker} {i : ℕ} {v : List ℕ} (a : Asker) (P : Group → Aid → ℕ → Type 0) → x ≡ askerAt a i →
+    P (x .group) (aidAt s (x .domain)) (x .at) × MapTrue f s (x .group .end) (aidAt s (x .domain)) v →
+    P (a .group) (aidAt s (a .domain)) i × MapTrue f s (a .group .end) (aidAt s (a .domain)) v
+told-at {f} {s} {v = v} a P e p =
+    subst (λ (y : Asker). P (y .group) (aidAt s (y .domain)) (y .at) × MapTrue f s (y .group .end) (aidAt s (y .domain)) v) e p
 
--- what is lent serves on where the bits keep their length
-pub lent-on : {s : Bytes} {end : ℕ} {packages x : List ℕ} (y : List ℕ) → Lent s end packages x → length y ≡ length x → Lent s end packages y
-lent-on y t e = record { indexed = t .indexed; room = omega (arith, t .room, e); small = t .small }
+-- what is told of the file serves for every group of its references
+pub group-from : {f : Bytes} {n : ℕ} (g : Group) → GroupTrue f g → n ≤ 65535 → GroupTrue f (groupFrom g n)
+group-from g t l = record { stand = t .stand; count = t .count; first = l }
+
+pub asker-from : {f s : Bytes} {a : Asker} {n : ℕ} → AskerTrue f s a → n ≤ 65535 → AskerTrue f s (askerFrom a n)
+asker-from {a = a} t l = record { file = group-from (a .group) (t .file) l; domain = t .domain; loading = t .loading }

@@ -1,15 +1,12 @@
 -- What a walk over the calls of a file carries. Assumes nothing.
 --
--- askerAt a i              == the same at another place
--- FileIs f a               == a tells where the file's references stand
+-- askerAt a i              == the same at another place; askerFrom a n == with the group of references from number n on
 -- domainsOf s g            == the domains that the file g lists, read within the limits of the store s
 -- rowsNumber self of k     == the number, in the domains of self and its own domain behind them, of slot k % 33 of package number k / 33, which is `of`
 -- LoadingIs f s a          == a tells the number of the loading domain
 -- AskerTrue f s a          == all that a tells of the file being judged
--- Lent s end packages seen == what is lent: the index of the earlier entries, and room for a bit of each class
 -- MapTrue f s end d m      == each number in the table m is true, where it is known, for the file loaded in d
--- TablesTrue f s end d t m == the slots and the table of numbers are true
-use Prim.Native.Nat.{ℕ, _/_, _%_, _≤_}
+use Prim.Native.Nat.{ℕ, _/_, _%_}
 use mathlib.Core.Path.{_≡_}
 use mathlib.Core.List.{List, [], _∷_, _++_}
 use mathlib.Core.Option.{Option, none, some}
@@ -19,22 +16,23 @@ use Rattle.rules.specs.Package.{Package, readFile}
 use Rattle.rules.specs.Store.{Entry, storeLimits}
 use Rattle.rules.specs.Classes.{Installed, installed, packageNumbered}
 use Rattle.places.specs.Reads.{Ends}
-use Rattle.files.specs.Say.{ReferencesAt}
 use Rattle.policies.specs.Say.{slotAid}
 use Rattle.policies.specs.Numbers.{numberIn}
 use Rattle.policies.specs.Rows.{rowLength, Known}
 use Rattle.homes.specs.Homes.{aidAt}
-use Rattle.homes.specs.Found.{Indexed}
-use Rattle.slots.specs.Slots.{SlotsTrue}
-use Rattle.classes.specs.Keys.{seenLength}
-use Rattle.calls.specs.Setting.{Loading}
+use Rattle.references.specs.Setting.{Loading}
+use Rattle.references.specs.Named.{GroupTrue}
+use Rattle.references.specs.declared.Group.{Group}
 use Rattle.calls.specs.declared.Asker.{Asker}
 
 abbrev pub askerAt : Asker → ℕ → Asker
-askerAt a i = record { end = a .end; domain = a .domain; references = a .references; loading = a .loading; at = i }
+askerAt a i = record { group = a .group; domain = a .domain; loading = a .loading; at = i }
 
-abbrev pub FileIs : Bytes → Asker → Type 0
-FileIs f a = ReferencesAt f (a .references)
+abbrev pub groupFrom : Group → ℕ → Group
+groupFrom g n = record { end = g .end; at = g .at; count = g .count; first = n }
+
+abbrev pub askerFrom : Asker → ℕ → Asker
+askerFrom a n = record { group = groupFrom (a .group) n; domain = a .domain; loading = a .loading; at = a .at }
 
 -- the domains of what is read
 abbrev pub listed : Option Package → List Aid
@@ -62,14 +60,9 @@ abbrev pub LoadingIs : Bytes → Bytes → Asker → Type 0
 LoadingIs f s a = let d = aidAt s (a .domain) in a .loading ≡ numberIn (domainsOf s f ++ d ∷ []) d
 
 pub record AskerTrue (f s : Bytes) (a : Asker) : Type 0 where
-  pub file : FileIs f a
+  pub file : GroupTrue f (a .group)
   pub domain : Ends aid s (a .domain)
   pub loading : LoadingIs f s a
-
-pub record Lent (s : Bytes) (end : ℕ) (packages seen : List ℕ) : Type 0 where
-  pub indexed : Indexed s end packages
-  pub room : seenLength s ≤ length seen
-  pub small : length s ≤ 65535
 
 -- 16 packages
 abbrev pub mapLength : ℕ
@@ -79,7 +72,3 @@ pub record MapTrue (f s : Bytes) (end : ℕ) (d : Aid) (m : List ℕ) : Type 0 w
   pub size : length m ≡ mapLength
   pub known : (es : List Entry) (self : Installed) → Loading f s end es self → self .domain ≡ d →
       Known (rowsNumber self (packageNumbered (installed (storeLimits s) es) self)) m
-
-pub record TablesTrue (f s : Bytes) (end : ℕ) (d : Aid) (t m : List ℕ) : Type 0 where
-  pub slots : SlotsTrue f s t
-  pub map : MapTrue f s end d m

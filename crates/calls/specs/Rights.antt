@@ -24,11 +24,11 @@ use Rattle.policies.specs.Rows.{Known}
 use Rattle.policies.specs.declared.RightsPlace.{RightsPlace}
 use Rattle.homes.specs.Homes.{Imports, ownHome, fileOf, formatAt, HomeIs}
 use Rattle.homes.specs.declared.Home.{Home}
-use Rattle.calls.specs.Setting.{Loading, OfJudged}
-use Rattle.calls.specs.Named.{referenceNamed, ReferenceIs}
+use Rattle.references.specs.Setting.{Loading, OfJudged}
+use Rattle.references.specs.Named.{referenceNamed, ReferenceIs}
 use Rattle.calls.specs.Maps.{rowsNumber}
-use Rattle.calls.specs.declared.Meant.{Meant}
-use Rattle.calls.specs.declared.NamedFound.the-variants as found
+use Rattle.references.specs.declared.Meant.{Meant}
+use Rattle.references.specs.declared.NamedFound.the-variants as found
 
 -- a method stands at place m of the file at home h
 pub record Stands (f s : Bytes) (end : ℕ) (es : List Entry) (self : Installed) (h : Home) (m : ℕ) (x : MethodAt) : Type 0 where

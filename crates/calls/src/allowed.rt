@@ -1,18 +1,20 @@
 // The rights of methods, and question 19 of a call by the numbers of domains.
 use super::Asker;
-use super::Meant;
-use super::NamedFound;
+use super::CallOf;
+use super::naming::named_well;
 use coverage::Asked;
 use homes::Home;
 use policies::RightsPlace;
 use policies::TwoLists;
+use references::Meant;
 ghost use Prim.Native.Nat.{_+_, _*_, _≤_};
 ghost use lib.ListN.{length};
 ghost use Rattle.homes.specs.Homes.{aidAt};
-ghost use Rattle.calls.specs.Named.{CalledThere};
+ghost use Rattle.references.specs.Named.{ReferenceIs};
+ghost use Rattle.references.specs.declared.NamedFound.the-variants as found;
 ghost use Rattle.calls.specs.Maps.{AskerTrue, MapTrue};
 ghost use Rattle.calls.specs.Rights.{StandsThere, RightsAt, MayCall, Callee, CalleeAllows};
-ghost use Rattle.calls.specs.Calls.{OwnMethod, FoundNumberIs};
+ghost use Rattle.calls.specs.Calls.{OwnMethod, everyCall, CallNumberIs};
 
 // Where the policy of the method at place m of the file at a home stands, and the list of domains that its indexes count.
 pub fn rights_of<'a>(f: &'a [u8], s: &'a [u8], h: Home, m: usize) -> RightsPlace
@@ -37,12 +39,13 @@ fn may_call<'a>(
     p: usize,
     map: &mut [u8],
 ) -> bool
-    requires { ⌜ OwnMethod (now f) (now s) (a .end) (a .at) × StandsThere (now f) (now s) h m ⌝ }
+    requires { ⌜ OwnMethod (now f) (now s) (a .group .end) (a .at) × StandsThere (now f) (now s) h m ⌝ }
     requires { ⌜ AskerTrue (now f) (now s) a ⌝ }
     requires { ⌜ (33 * p + 33 ≤ length (now map)) × (length (now map) ≤ 528) ⌝ }
-    ensures { λ r. ⌜ MayCall (now (f .entry)) (now (s .entry)) (a .end) (aidAt (now (s .entry)) (a .domain)) (a .at) h m p (now (map .entry)) (now (map .exit)) r ⌝ }
+    ensures { λ r. ⌜ MayCall (now (f .entry)) (now (s .entry)) (a .group .end) (aidAt (now (s .entry)) (a .domain)) (a .at) h m p
+        (now (map .entry)) (now (map .exit)) r ⌝ }
 {
-    let own = homes::own_home(a.end);
+    let own = homes::own_home(a.group.end);
     let q = rights_of(f, s, own, a.at);
     let r = rights_of(f, s, h, m);
     let l = TwoLists {
@@ -63,9 +66,9 @@ fn may_call<'a>(
 
 // The same by a table of its own, for a method that the class named does not declare itself.
 fn may_call_above<'a>(f: &'a [u8], s: &'a [u8], a: Asker, x: Meant) -> bool
-    requires { ⌜ OwnMethod (now f) (now s) (a .end) (a .at) × Callee (now f) (now s) (a .end) x ⌝ }
+    requires { ⌜ OwnMethod (now f) (now s) (a .group .end) (a .at) × Callee (now f) (now s) (a .group .end) x ⌝ }
     requires { ⌜ AskerTrue (now f) (now s) a ⌝ }
-    ensures { λ r. ⌜ CalleeAllows (now (f .entry)) (now (s .entry)) (a .end) (aidAt (now (s .entry)) (a .domain)) (a .at) x r ⌝ }
+    ensures { λ r. ⌜ CalleeAllows (now (f .entry)) (now (s .entry)) (a .group .end) (aidAt (now (s .entry)) (a .domain)) (a .at) x r ⌝ }
 {
     let mut map = [255u8; 66];
     may_call(f, s, a, x.home, x.method, 1, &mut map)
@@ -73,11 +76,11 @@ fn may_call_above<'a>(f: &'a [u8], s: &'a [u8], a: Asker, x: Meant) -> bool
 
 // Question 19 of a call that calls the declaration.
 fn callee_allows<'a>(f: &'a [u8], s: &'a [u8], a: Asker, map: &mut [u8], x: Meant) -> bool
-    requires { ⌜ OwnMethod (now f) (now s) (a .end) (a .at) × Callee (now f) (now s) (a .end) x ⌝ }
+    requires { ⌜ OwnMethod (now f) (now s) (a .group .end) (a .at) × Callee (now f) (now s) (a .group .end) x ⌝ }
     requires { ⌜ AskerTrue (now f) (now s) a ⌝ }
-    requires { ⌜ MapTrue (now f) (now s) (a .end) (aidAt (now s) (a .domain)) (now map) ⌝ }
-    ensures { λ r. ⌜ CalleeAllows (now (f .entry)) (now (s .entry)) (a .end) (aidAt (now (s .entry)) (a .domain)) (a .at) x r ⌝ }
-    ensures { λ _. ⌜ MapTrue (now (f .entry)) (now (s .entry)) (a .end) (aidAt (now (s .entry)) (a .domain)) (now (map .exit)) ⌝ }
+    requires { ⌜ MapTrue (now f) (now s) (a .group .end) (aidAt (now s) (a .domain)) (now map) ⌝ }
+    ensures { λ r. ⌜ CalleeAllows (now (f .entry)) (now (s .entry)) (a .group .end) (aidAt (now (s .entry)) (a .domain)) (a .at) x r ⌝ }
+    ensures { λ _. ⌜ MapTrue (now (f .entry)) (now (s .entry)) (a .group .end) (aidAt (now (s .entry)) (a .domain)) (now (map .exit)) ⌝ }
 {
     if x.pack < 16 {
         return may_call(f, s, a, x.home, x.method, x.pack, map);
@@ -85,21 +88,30 @@ fn callee_allows<'a>(f: &'a [u8], s: &'a [u8], a: Asker, map: &mut [u8], x: Mean
     may_call_above(f, s, a, x)
 }
 
-// Questions 18 and 19 of a call in the method at a place of the file being judged, by what it calls: the number of the first no, or 0.
-pub fn call_number<'a>(f: &'a [u8], s: &'a [u8], a: Asker, map: &mut [u8], found: NamedFound) -> u8
-    requires { ⌜ OwnMethod (now f) (now s) (a .end) (a .at) × CalledThere (now f) (now s) (a .end) found ⌝ }
-    requires { ⌜ AskerTrue (now f) (now s) a ⌝ }
-    requires { ⌜ MapTrue (now f) (now s) (a .end) (aidAt (now s) (a .domain)) (now map) ⌝ }
-    ensures { λ r. ⌜ FoundNumberIs (now (f .entry)) (now (s .entry)) (a .end) (aidAt (now (s .entry)) (a .domain)) (a .at) found r ⌝ }
-    ensures { λ _. ⌜ MapTrue (now (f .entry)) (now (s .entry)) (a .end) (aidAt (now (s .entry)) (a .domain)) (now (map .exit)) ⌝ }
+// Questions 18 and 19 of a call in the method at a place of the file being judged, whose reference means a declaration: the number of the first
+// no, or 0.
+pub fn meant_answer<'a>(
+    f: &'a [u8],
+    s: &'a [u8],
+    map: &mut [u8],
+    a: Asker,
+    x: Meant,
+    c: CallOf,
+) -> u8
+    requires { ⌜ OwnMethod (now f) (now s) (a .group .end) (a .at) × AskerTrue (now f) (now s) a ⌝ }
+    requires { ⌜ ReferenceIs (now f) (now s) (a .group .end) (c .reference) (found.Method x) ⌝ }
+    requires { ⌜ MapTrue (now f) (now s) (a .group .end) (aidAt (now s) (a .domain)) (now map) ⌝ }
+    ensures { λ r. ⌜ CallNumberIs (now (f .entry)) (now (s .entry)) (a .group .end) (aidAt (now (s .entry)) (a .domain)) everyCall
+        (a .at) (c .kind) (c .reference) r ⌝ }
+    ensures { λ _. ⌜ MapTrue (now (f .entry)) (now (s .entry)) (a .group .end) (aidAt (now (s .entry)) (a .domain)) (now (map .exit)) ⌝ }
 {
-    match found {
-        NamedFound::Method(x) => {
-            if !callee_allows(f, s, a, map, x) {
-                return 19;
-            }
-            0
-        }
-        NamedFound::Nothing => 18,
+    let kind = c.kind;
+    let g = homes::file_of(f, s, x.home);
+    if !named_well(g, x, kind) {
+        return 18;
     }
+    if !callee_allows(f, s, a, map, x) {
+        return 19;
+    }
+    0
 }

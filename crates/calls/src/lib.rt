@@ -1,60 +1,34 @@
-// The calls of a file: what a reference names, questions 18 and 19.
+// The calls of a file, by what its references name: questions 18 and 19.
 mod allowed;
-mod references;
+mod naming;
+mod walk;
 
-use allowed::call_number;
 use codes::Calling;
-use codes::CodeOffset;
-use codes::NextCall;
-use fields::wide;
-use homes::Home;
-use references::called;
+use fields::u2_at;
+use references::Group;
+use references::groups;
 use refusals::first_no;
+use walk::group_calls;
 ghost use Prim.Native.Nat.{_≤_};
 ghost use mathlib.Core.Path.{_≡_};
 ghost use lib.ListN.{length};
 ghost use Rattle.rules.specs.Bytes.{aid};
 ghost use Rattle.places.specs.Reads.{Ends};
 ghost use Rattle.homes.specs.Homes.{aidAt};
-ghost use Rattle.homes.specs.Found.{Indexed};
 ghost use Rattle.slots.specs.Slots.{SlotsTrue};
-ghost use Rattle.classes.specs.Keys.{seenLength};
-ghost use Rattle.calls.specs.Setting.{Judged};
-ghost use Rattle.calls.specs.Maps.{askerAt, AskerTrue, Lent, TablesTrue};
-ghost use Rattle.calls.specs.Calls.{OwnMethod, OwnClass, CodesSplit, MethodCallsAre, ClassCallsAre, FileCallsAre, CallsNumberIs};
+ghost use Rattle.references.specs.Setting.{Judged};
+ghost use Rattle.references.specs.Named.{Lent};
+ghost use Rattle.references.specs.Kept.{keptLength};
+ghost use Rattle.calls.specs.Maps.{askerAt, askerFrom, AskerTrue};
+ghost use Rattle.calls.specs.Calls.{withGroup, CodesSplit, FileCallsAre, CallsNumberIs};
 
-// The declaration that a reference means: the home of its package, the places of its class record and of its method in the file there;
-// whether the class named is of kind 0; and the number of the package where the class named declares it itself, else 16.
-pub struct Meant {
-    pub home: Home,
-    pub class: usize,
-    pub method: usize,
-    pub kind0: bool,
-    pub pack: usize,
-}
-
-// What a reference names, or nothing.
-pub enum NamedFound {
-    Method(Meant),
-    Nothing,
-}
-
-// What a walk over the calls of the file being judged carries: where the earlier entries end, where in the store the loading domain
-// stands, where the file's references stand, the number of the loading domain among its domains, and the place of the method or class at
-// hand.
+// What a walk over the calls of the file being judged carries: the group of references whose calls are asked, where in the store the loading
+// domain stands, its number among the file's domains, and the place of the method or class at hand.
 pub struct Asker {
-    pub end: usize,
+    pub group: Group,
     pub domain: usize,
-    pub references: usize,
     pub loading: usize,
     pub at: usize,
-}
-
-// A package number, a class number and a name.
-pub struct Naming {
-    pub pack: usize,
-    pub class: usize,
-    pub name: usize,
 }
 
 // A call: its kind, and the number of its reference.
@@ -67,133 +41,92 @@ pub struct CallOf {
 fn asker_at(a: Asker, at: usize) -> Asker
     ensures { λ r. ⌜ r ≡ askerAt a at ⌝ }
 {
+    let group = a.group;
     Asker {
-        end: a.end,
+        group,
         domain: a.domain,
-        references: a.references,
         loading: a.loading,
         at,
     }
 }
 
-// Questions 18 and 19 of the calls of the method at a place: the number of the first no, or 0.
-fn method_calls<'a>(
-    f: &'a [u8],
-    s: &'a [u8],
-    packages: &[u16],
-    slots: &mut [u16],
-    seen: &mut [u8],
-    map: &mut [u8],
-    a: Asker,
-) -> u8
-    requires { ⌜ OwnMethod (now f) (now s) (a .end) (a .at) × AskerTrue (now f) (now s) a ⌝ }
-    requires { ⌜ Lent (now s) (a .end) (now packages) (now seen) ⌝ }
-    requires { ⌜ TablesTrue (now f) (now s) (a .end) (aidAt (now s) (a .domain)) (now slots) (now map) ⌝ }
-    ensures { λ r. ⌜ MethodCallsAre (now (f .entry)) (now (s .entry)) (a .end) (aidAt (now (s .entry)) (a .domain)) (a .at) r ⌝ }
-    ensures { λ _. ⌜ TablesTrue (now (f .entry)) (now (s .entry)) (a .end) (aidAt (now (s .entry)) (a .domain)) (now (slots .exit)) (now (map .exit)) ⌝ }
+// The same, with the group of references from another one on.
+fn asker_from(a: Asker, first: usize) -> Asker
+    ensures { λ r. ⌜ r ≡ askerFrom a first ⌝ }
 {
-    let table = instructions::table();
-    let code = files::code_of(f, a.at);
-    let mut from = 0;
-    let mut number = 0;
-    loop {
-        match codes::next_call(&table, code, CodeOffset(from)) {
-            NextCall::Call { kind, index, next } => {
-                let c = CallOf {
-                    kind,
-                    reference: index,
-                };
-                let found = called(f, s, packages, slots, seen, a, c);
-                number = first_no(number, call_number(f, s, a, map, found));
-                from = next.0;
-            }
-            NextCall::Nothing => {
-                return number;
-            }
-        }
+    let g = a.group;
+    let group = Group {
+        end: g.end,
+        at: g.at,
+        count: g.count,
+        first,
+    };
+    Asker {
+        group,
+        domain: a.domain,
+        loading: a.loading,
+        at: a.at,
     }
-}
-
-// Of the calls of the class at a place.
-fn class_calls<'a>(
-    f: &'a [u8],
-    s: &'a [u8],
-    packages: &[u16],
-    slots: &mut [u16],
-    seen: &mut [u8],
-    map: &mut [u8],
-    a: Asker,
-) -> u8
-    requires { ⌜ OwnClass (now f) (now s) (a .end) (a .at) × AskerTrue (now f) (now s) a ⌝ }
-    requires { ⌜ Lent (now s) (a .end) (now packages) (now seen) ⌝ }
-    requires { ⌜ TablesTrue (now f) (now s) (a .end) (aidAt (now s) (a .domain)) (now slots) (now map) ⌝ }
-    ensures { λ r. ⌜ ClassCallsAre (now (f .entry)) (now (s .entry)) (a .end) (aidAt (now (s .entry)) (a .domain)) (a .at) r ⌝ }
-    ensures { λ _. ⌜ TablesTrue (now (f .entry)) (now (s .entry)) (a .end) (aidAt (now (s .entry)) (a .domain)) (now (slots .exit)) (now (map .exit)) ⌝ }
-{
-    let start = files::methods_of(f, a.at);
-    let mut left = wide(f[start]);
-    let mut c = start + 1;
-    let mut number = 0;
-    while 0 < left {
-        number = first_no(
-            number,
-            method_calls(f, s, packages, slots, seen, map, asker_at(a, c)),
-        );
-        c = files::after_method(f, c);
-        left -= 1;
-    }
-    number
-}
-
-// Of the calls of the file.
-fn file_calls<'a>(
-    f: &'a [u8],
-    s: &'a [u8],
-    packages: &[u16],
-    slots: &mut [u16],
-    seen: &mut [u8],
-    map: &mut [u8],
-    a: Asker,
-) -> u8
-    requires { ⌜ Judged (now f) (now s) (a .end) × CodesSplit (now f) × AskerTrue (now f) (now s) a ⌝ }
-    requires { ⌜ Lent (now s) (a .end) (now packages) (now seen) ⌝ }
-    requires { ⌜ TablesTrue (now f) (now s) (a .end) (aidAt (now s) (a .domain)) (now slots) (now map) ⌝ }
-    ensures { λ r. ⌜ FileCallsAre (now (f .entry)) (now (s .entry)) (a .end) (aidAt (now (s .entry)) (a .domain)) r ⌝ }
-{
-    let start = files::classes_at(f);
-    let mut left = wide(f[start]);
-    let mut c = start + 1;
-    let mut number = 0;
-    while 0 < left {
-        number = first_no(
-            number,
-            class_calls(f, s, packages, slots, seen, map, asker_at(a, c)),
-        );
-        c = files::after_class(f, c);
-        left -= 1;
-    }
-    number
 }
 
 // What is told of the file being judged, loaded in the domain at a place of the store.
 fn told_of(f: &[u8], s: &[u8], end: usize, domain: usize) -> Asker
     requires { ⌜ Judged (now f) (now s) end ⌝ }
     requires { ⌜ Ends aid (now s) domain ⌝ }
-    ensures { λ r. ⌜ (r .end ≡ end) × (r .domain ≡ domain) × AskerTrue (now (f .entry)) (now (s .entry)) r ⌝ }
+    ensures { λ r. ⌜ (r .group .end ≡ end) × (r .domain ≡ domain) × (r .group .count ≤ 65535) × AskerTrue (now (f .entry)) (now (s .entry)) r ⌝ }
 {
     let loading = files::aid_bytes(s, domain);
-    Asker {
+    let at = files::references_at(f);
+    let group = Group {
         end,
+        at,
+        count: u2_at(f, at),
+        first: 0,
+    };
+    Asker {
+        group,
         domain,
-        references: files::references_at(f),
         loading: policies::number_of(f, files::domains_at(f), loading, loading),
         at: 0,
     }
 }
 
+// Questions 18 and 19 of the calls that are asked with a group of references: the number of the first no, or 0. First no class above the
+// class named is asked; where a call asks for what is then open, that is searched, and the calls are asked again; all of the group is searched
+// where 18 is answered once more. What `kept` and `seen` hold before and after is of no account.
+fn group_answer<'a>(
+    f: &'a [u8],
+    s: &'a [u8],
+    packages: &[u16],
+    slots: &mut [u16],
+    seen: &mut [u8],
+    kept: &mut [u16],
+    a: Asker,
+) -> u8
+    requires { ⌜ Judged (now f) (now s) (a .group .end) × CodesSplit (now f) × AskerTrue (now f) (now s) a × (length (now kept) ≡ keptLength) ⌝ }
+    requires { ⌜ Lent (now s) (a .group .end) (now packages) (now seen) ⌝ }
+    requires { ⌜ SlotsTrue (now f) (now s) (now slots) ⌝ }
+    ensures { λ r. ⌜ FileCallsAre (now (f .entry)) (now (s .entry)) (a .group .end) (aidAt (now (s .entry)) (a .domain)) (withGroup (a .group)) r ⌝ }
+    ensures { λ _. ⌜ SlotsTrue (now (f .entry)) (now (s .entry)) (now (slots .exit)) ⌝ }
+{
+    let g = a.group;
+    groups::tell_group(f, s, packages, slots, kept, g);
+    let told = group_calls(f, s, kept, a);
+    if told != 18 {
+        return told;
+    }
+    groups::search_group(f, s, packages, slots, seen, kept, g);
+    let searched = group_calls(f, s, kept, a);
+    if searched != 18 {
+        return searched;
+    }
+    groups::name_group(f, s, packages, slots, seen, kept, g);
+    group_calls(f, s, kept, a)
+}
+
 // Questions 18 and 19 of a file loaded in the domain at a place of the store and judged over the entries that end at a place, each code
-// of which splits: the number of the first no, or 0. The index of these entries is lent, and slots and bits; what `seen` holds before and
-// after is of no account.
+// of which splits: the number of the first no, or 0, asked for a group of references after the other. The index of these entries is lent, and
+// slots and bits; what `seen` holds before and after is of no account.
 pub fn calls_ok<'a>(
     f: &'a [u8],
     s: &'a [u8],
@@ -209,7 +142,18 @@ pub fn calls_ok<'a>(
     requires { ⌜ SlotsTrue (now f) (now s) (now slots) ⌝ }
     ensures { λ r. ⌜ CallsNumberIs (now (f .entry)) (now (s .entry)) end (aidAt (now (s .entry)) domain) r ⌝ }
 {
-    let mut map = [255u8; 528];
-    let a = told_of(f, s, end, domain);
-    file_calls(f, s, packages, slots, seen, &mut map, a)
+    let mut kept = [0u16; 192];
+    let told = told_of(f, s, end, domain);
+    let mut first = 0;
+    let mut number = 0;
+    loop {
+        let a = asker_from(told, first);
+        let g = a.group;
+        let n = group_answer(f, s, packages, &mut *slots, &mut *seen, &mut kept, a);
+        number = first_no(number, n);
+        first += 32;
+        if g.count <= first {
+            return number;
+        }
+    }
 }

@@ -16,7 +16,7 @@ use Rattle.store.proofs.Stand.{entries-to}
 use Rattle.imports.specs.Say.{SettingThere}
 use Rattle.files.specs.Say.{Readable}
 use Rattle.homes.specs.Homes.{Setting, Imports, Parents}
-use Rattle.calls.specs.Setting.{Loading, Judged}
+use Rattle.references.specs.Setting.{Loading, Judged}
 use Rattle.judge.specs.Says.{usedAt, FileRead, Asked14, ReadSome, Asked14Some}
 
 -- a package in the domain that loads it

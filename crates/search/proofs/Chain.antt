@@ -17,10 +17,10 @@ use Rattle.classes.specs.declared.ClassFound.the-variants as classes
 use Rattle.search.specs.Search.{DeclaredIs}
 use Rattle.search.specs.Walk.{SpotThere, Seeking, above, alongUp, itself, searched, MeantAt, MeantIs, DeclaredHere, DeclaresIs}
 use Rattle.search.specs.declared.Declared.{Declared}
-use Rattle.search.specs.declared.Declared.the-variants.{Nothing}
 use Rattle.rules.proofs.Searched.{along-one, search-one}
 use Rattle.search.proofs.Within.{class-depth}
-use Rattle.search.proofs.Steps.{first-there, second-there, none-itself}
+use Rattle.search.proofs.Firsts.{first-there, second-there}
+use Rattle.search.proofs.Steps.{none-itself}
 
 -- what is sought along the kind-0 parents of class a is what is sought along those of class c, which is there
 pub record Along (f s : Bytes) (end : ℕ) (a : ClassSpot) (n : ℕ) (g : Seeking) (es : List Entry) (self x : Installed) (c : ClassSpot) : Type 0 where

@@ -1,31 +1,34 @@
--- A class where it stands: its numbers fit a visit, and its declaration of a name is found in its record. Assumes nothing.
-use Prim.Native.Nat.{ℕ, _≤_}
+-- A class where it stands: its numbers fit a visit, its record is a part of its file, and its declaration of a name is found there. Assumes nothing.
+use Prim.Native.Nat.{ℕ, _+_, _≤_, _<_}
 use native.Mathlib.Omega.{arith}
-use mathlib.Core.Path.{_≡_, sym, ap, subst}
-use mathlib.Core.Bool.{true, false}
+use mathlib.Core.Path.{_≡_, refl, sym, _∙_, subst}
+use mathlib.Core.Bool.{Bool, true, false}
 use mathlib.Core.Option.{none, some}
-use lib.ListN.{length}
-use Rattle.rules.specs.Bytes.{Bytes, isSome}
+use lib.Dec.{eqb}
+use lib.ListN.{length, drop, getD, length-drop}
+use lib.Seq.{getD-drop}
+use Rattle.rules.specs.Bytes.{Bytes, pick}
 use Rattle.rules.specs.Package.{Method, Class}
 use Rattle.rules.specs.Store.{storeLimits}
 use Rattle.rules.specs.Classes.{ClassAt, recordOf, declared, declaredAt}
 use Rattle.rules.proofs.Lists.{at-below}
+use Rattle.places.proofs.Parts.{file-parts}
 use Rattle.places.proofs.Track.{placed-at, placed-none}
+use Rattle.store.specs.Entries.{part}
+use Rattle.store.proofs.Parts.{part-length}
 use Rattle.files.specs.Say.{DeclaredPlaced}
 use Rattle.files.specs.declared.Spot.the-variants as spots
-use Rattle.homes.specs.Homes.{fileOf}
-use Rattle.homes.specs.declared.Home.{Home}
+use Rattle.homes.specs.Homes.{fileOf, RecordIs}
 use Rattle.homes.proofs.Homes.{home-reads, home-below}
-use Rattle.classes.specs.Say.{ClassThere, ParentThere, ParentIs, RecordAt}
+use Rattle.classes.specs.Say.{ClassThere, CountIs, RecordAt}
 use Rattle.classes.specs.declared.ClassSpot.{ClassSpot}
 use Rattle.classes.proofs.Keys.{classes-room}
-use Rattle.classes.proofs.Places.{class-at}
-use Rattle.classes.proofs.Records.{at-split}
+use Rattle.classes.proofs.Places.{there-bounds, class-at}
+use Rattle.classes.proofs.Records as records
 use Rattle.slots.specs.Slots.{SmallHome}
-use Rattle.slots.proofs.Standing.{class-small}
-use Rattle.search.specs.Walk.{spotOf, SpotThere, ParentInside, DeclaredHere, DeclaresIs}
+use Rattle.slots.proofs.Standing.{class-small, record-inside, record-part}
+use Rattle.search.specs.Walk.{SpotThere, DeclaredHere}
 use Rattle.search.specs.declared.Declared.the-variants.{At, Nothing}
-use Rattle.search.specs.declared.visited.Visit.{Visit}
 
 module _ (f s : Bytes) (end : ℕ) (c : ClassSpot) (t : SpotThere f s end c) where
   pub spot-class : ClassThere f s (c .home) (c .number)
@@ -48,18 +51,34 @@ module _ (f s : Bytes) (end : ℕ) (c : ClassSpot) (t : SpotThere f s end c) whe
   pub spot-below : c .home .before ≤ end
   spot-below = home-below f s end (t .entries) (t .self) (t .asked .parents .imported .setting) (c .home) (t .pack) (t .home)
 
--- a parent of a class that is visited
-pub parent-inside : (f s : Bytes) (v : Visit) (i : ℕ) → ParentInside f s v i → ParentThere f s (spotOf v .home) (v .number) i
-parent-inside f s v i t = record { class = (v .end, t .there); inside = t .inside }
+  -- its record stands inside its file, and the place fits two bytes
+  pub place-small : (i : ℕ) → RecordAt f s (c .home) (c .number) i → length s ≤ 65535 → getD f 5 0 < 256 → getD f 6 0 < 256 → i ≤ 65535
+  place-small i p z a b = go (eqb (c .home .from) 0) refl
+    where
+      inside : i ≤ length (fileOf f s (c .home))
+      inside = record-inside f s (c .home) (c .number) spot-class (fileOf f s (c .home)) refl i p
 
--- where it stands
-pub parent-spot : (f s : Bytes) (v : Visit) (i : ℕ) → ParentInside f s v i → (d : ClassSpot) → ParentIs f s (spotOf v .home) (v .number) i d → SpotThere f s
-    (v .end) d
-parent-spot f s v i u d p =
-    let t = u .there in
-    let m = at-split (t .class .parents) i (u .inside) in
-    let w = (p (v .end) (t .entries) (t .self) (t .asked) (t .pack) (t .home) (t .class) (t .is) (m .0) (m .1)) .0 in
-    record { entries = t .entries; self = t .self; asked = t .asked; pack = w .pack; home = w .home; class = w .class; is = w .is }
+      go : (own : Bool) → eqb (c .home .from) 0 ≡ own → i ≤ 65535
+      go true e =
+          let own : i ≤ length f = subst (λ (o : Bool). i ≤ length (pick o f (part s (c .home .from) (c .home .to)))) e inside in
+          omega (arith, (file-parts (storeLimits s) f (t .self .pack) (t .asked .parents .imported .setting .reads)) .size)
+      go false e =
+          let stored : i ≤ length (part s (c .home .from) (c .home .to)) =
+          subst (λ (o : Bool). i ≤ length (pick o f (part s (c .home .from) (c .home .to)))) e inside in
+          let end = (there-bounds f s (c .home) (c .number) spot-class) .1 in
+          omega (arith, end, part-length s (c .home .from) (c .home .to) end)
+
+-- the number of its parents stands behind its kind
+module _ (f s : Bytes) (c : ClassSpot) (t : ClassThere f s (c .home) (c .number)) (g : Bytes) (e : g ≡ fileOf f s (c .home)) (i : ℕ)
+    (p : RecordAt f s (c .home) (c .number) i) where
+  record-is : RecordIs f s (c .home) (c .number) (drop i g)
+  record-is = record-part f s (c .home) (c .number) t g e i p (drop i g) refl
+
+  pub count-inside : i + 1 < length g
+  count-inside = omega (arith, records.record-inside f s (c .home) (c .number) (drop i g) record-is t, length-drop i g)
+
+  pub count-at : (m : ℕ) → m ≡ getD g (i + 1) 0 → CountIs f s (c .home) (c .number) m
+  count-at m z = records.count-is f s (c .home) (c .number) (drop i g) record-is m (z ∙ sym (getD-drop i g 1 0))
 
 -- the declaration of a class, by its record
 declared-some : (c : ClassAt) (k : Class) (n : ℕ) (m : Method) → recordOf c ≡ some k → declared k n ≡ some m → declaredAt n c ≡ some
@@ -87,10 +106,3 @@ module _ (f s : Bytes) (c : ClassSpot) (n : ℕ) (i : ℕ) (p : RecordAt f s (c 
       let q′ : DeclaredPlaced (fileOf f s (c .home)) i n spots.Nothing = subst (λ (b : Bytes). DeclaredPlaced b i n spots.Nothing) eg q in
       let w = placed-none (q′ (storeLimits s) (x .pack .domains) k (y .0) (y .1)) in
       declared-nothing (record { home = x; number = c .number }) k n e w
-
--- whether there is one
-pub declares-yes : (f s : Bytes) (c : ClassSpot) (n : ℕ) (h : Home) (k m : ℕ) → DeclaredHere f s c n (At h k m) → DeclaresIs f s c n true
-declares-yes f s c n h a m q end es self j x o k e = let y = q end es self j x o k e in sym (ap isSome (y .1))
-
-pub declares-no : (f s : Bytes) (c : ClassSpot) (n : ℕ) → DeclaredHere f s c n Nothing → DeclaresIs f s c n false
-declares-no f s c n q end es self j x o k e = let y = q end es self j x o k e in sym (ap isSome y)

@@ -4,13 +4,13 @@ use native.Mathlib.Omega.{arith}
 use native.Mathlib.Numerals.{add-one}
 use mathlib.Core.Path.{_≡_, refl, sym, _∙_, ap, subst}
 use mathlib.Core.Bool.{Bool, true, false, not}
-use mathlib.Core.List.{List, [], _∷_}
+use mathlib.Core.List.{List, []}
 use mathlib.Core.Option.{Option, none, some}
 use lib.ListN.{drop, drop-of-length-le}
 use Rattle.rules.specs.Bytes.{Bytes, pick, at, isSome, orElse, keep, firstOf, listOf}
 use Rattle.rules.specs.Package.{ClassNumber, Class}
 use Rattle.rules.specs.Store.{Entry, storeLimits}
-use Rattle.rules.specs.Classes.{Installed, installed, ClassAt, recordOf, classNamed, parentsNamed, isKind0, isInterface, MethodAt, declaredAt}
+use Rattle.rules.specs.Classes.{Installed, installed, parentsNamed, isInterface, MethodAt, declaredAt}
 use Rattle.rules.proofs.Tests.{of-true}
 use Rattle.rules.proofs.Lists.{some-is}
 use Rattle.homes.specs.Homes.{HomeIs}
@@ -19,6 +19,7 @@ use Rattle.classes.specs.declared.ClassSpot.{ClassSpot}
 use Rattle.classes.proofs.Records.{at-split}
 use Rattle.search.specs.Walk.{SpotThere, above, whole, MeantAt, MeantIs, DeclaresIs}
 use Rattle.rules.proofs.Searched.{above-one}
+use Rattle.search.proofs.Firsts.{first-there, second-there, none-there, interface-is, first-named}
 use Rattle.search.proofs.Within.{class-depth}
 
 -- of the interfaces among the parents from i on, and theirs, the first gives what the class's interfaces give
@@ -27,29 +28,6 @@ AboveFrom f s end c n i = OfClass (Judged f s end) f s end (c .home) (c .number)
     above (installed (storeLimits s) es) (storeLimits s .depth) n (record { home = x; number = c .number }) ≡ firstOf
     (whole (installed (storeLimits s) es) (storeLimits s .depth) n)
     (keep isInterface (parentsNamed (installed (storeLimits s) es) x (drop i (k .parents))))
-
--- the first of two, where the one is there, and where it is not
-pub first-there : {A : Type 0} (o p : Option A) (a : A) → o ≡ some a → orElse o p ≡ some a
-first-there o p a e = rw e
-
-pub second-there : {A : Type 0} (o p : Option A) → o ≡ none → orElse o p ≡ p
-second-there o p e = rw e
-
--- an interface is there, and is not of kind 0
-interface-is : (c : ClassAt) (k : Class) → recordOf c ≡ some k → (b : Bool) → b ≡ isKind0 c → isInterface c ≡ not b
-interface-is c k e b z = go (k .interface) refl
-  where
-    go : (i : Bool) → k .interface ≡ i → isInterface c ≡ not b
-    go true i = let w : b ≡ false = z ∙ rw (e, i) in rw (w, e, i)
-    go false i = let w : b ≡ true = z ∙ rw (e, i) in rw (w, e, i)
-
--- the first of the parents that are interfaces
-first-named : (is : List Installed) (x : Installed) (p : ClassNumber) (ps : List ClassNumber) (c : ClassAt) (b : Bool) (g : ClassAt → Option MethodAt) →
-    classNamed is x p ≡ some c → isInterface c ≡ b →
-    firstOf g (keep isInterface (parentsNamed is x (p ∷ ps))) ≡ pick b (orElse (g c) (firstOf g (keep isInterface (parentsNamed is x ps))))
-    (firstOf g (keep isInterface (parentsNamed is x ps)))
-first-named is x p ps c true g e i = rw (e, i)
-first-named is x p ps c false g e i = rw (e, i)
 
 module _ (f s : Bytes) (end : ℕ) (c : ClassSpot) (n : ℕ) where
   -- the class itself declares the name
@@ -100,44 +78,52 @@ module _ (f s : Bytes) (end : ℕ) (c : ClassSpot) (n : ℕ) where
         (p end (t .entries) (t .self) (t .asked) (t .pack) (t .home) (t .class) (t .is) (m .0) (m .1)) .1
 
     module _ (w : AboveFrom f s end c n i) where
+      -- what it gives where it lies in package y, and what those behind it give
+      abbrev gives : List Entry → Installed → Option MethodAt
+      gives es y = whole (installed (storeLimits s) es) (storeLimits s .depth) n (record { home = y; number = d .number })
+
+      abbrev behind : List Entry → Installed → Class → Option MethodAt
+      behind es x k = firstOf (whole (installed (storeLimits s) es) (storeLimits s .depth) n)
+          (keep isInterface (parentsNamed (installed (storeLimits s) es) x (drop (suc i) (k .parents))))
+
       -- what it gives, with those behind it
-      parent-gives : (b : Bool) → Kind0Is f s (d .home) (d .number) b → (es : List Entry) (self : Installed) → Judged f s end es self → (x : Installed) →
-          HomeIs f s end es self (c .home) x → (k : Class) → at (x .pack .classes) (c .number) ≡ some k → (y : Installed) × HomeIs f s end es self (d .home) y ×
-          (l : Class) × (at (y .pack .classes) (d .number) ≡ some l) ×
-          (above (installed (storeLimits s) es) (storeLimits s .depth) n (record { home = x; number = c .number }) ≡ pick (not b)
-          (orElse (whole (installed (storeLimits s) es) (storeLimits s .depth) n (record { home = y; number = d .number }))
-          (firstOf (whole (installed (storeLimits s) es) (storeLimits s .depth) n)
-          (keep isInterface (parentsNamed (installed (storeLimits s) es) x (drop (suc i) (k .parents))))))
-          (firstOf (whole (installed (storeLimits s) es) (storeLimits s .depth) n)
-          (keep isInterface (parentsNamed (installed (storeLimits s) es) x (drop (suc i) (k .parents))))))
-      parent-gives b v es self j x o k e =
+      parent-gives : (es : List Entry) (self : Installed) → Judged f s end es self → (x : Installed) → HomeIs f s end es self (c .home) x → (k : Class) →
+          at (x .pack .classes) (c .number) ≡ some k → (y : Installed) × HomeIs f s end es self (d .home) y × (l : Class) ×
+          (at (y .pack .classes) (d .number) ≡ some l) ×
+          (above (installed (storeLimits s) es) (storeLimits s .depth) n (record { home = x; number = c .number }) ≡ pick
+          (isInterface (record { home = y; number = d .number })) (orElse (gives es y) (behind es x k)) (behind es x k))
+      parent-gives es self j x o k e =
           let m = at-split (k .parents) i (omega (arith, q end es self j x o k e)) in
           let u = (p end es self j x o k e (m .0) (m .1)) .0 in
-          let is = installed (storeLimits s) es in
-          let kind = interface-is (record { home = u .pack; number = d .number }) (u .class) (u .is) b
-          (v end es self j (u .pack) (u .home) (u .class) (u .is)) in (
+          let is = installed (storeLimits s) es in (
             u .pack,
             u .home,
             u .class,
             u .is,
             w es self j x o k e ∙ ap (λ (ps : List ClassNumber). firstOf (whole is (storeLimits s .depth) n) (keep isInterface (parentsNamed is x ps))) (m .2) ∙
-                first-named is x (m .0) (drop (suc i) (k .parents)) (record { home = u .pack; number = d .number }) (not b) (whole is (storeLimits s .depth) n)
-                (u .named) kind,
+                first-named is x (m .0) (drop (suc i) (k .parents)) (record { home = u .pack; number = d .number }) _ (whole is (storeLimits s .depth) n)
+                (u .named) refl,
           )
 
       -- it is not an interface
       pub above-kind0 : Kind0Is f s (d .home) (d .number) true → AboveFrom f s end c n (i + 1)
-      above-kind0 v es self j x o k e = rw (add-one i) ((parent-gives true v es self j x o k e) .4)
+      above-kind0 v es self j x o k e =
+          let u = parent-gives es self j x o k e in
+          let kind = interface-is (record { home = u .0; number = d .number }) (u .2) (u .3) true (v end es self j (u .0) (u .1) (u .2) (u .3)) in
+          rw (add-one i) (u .4 ∙ ap (λ (b : Bool). pick b (orElse (gives es (u .0)) (behind es x k)) (behind es x k)) kind)
 
-      -- it is one, and leads to none
-      pub above-miss : Kind0Is f s (d .home) (d .number) false → MeantIs f s end d n whole none → AboveFrom f s end c n (i + 1)
-      above-miss v m es self j x o k e =
-          let u = parent-gives false v es self j x o k e in
-          rw (add-one i) (u .4 ∙ second-there _ _ (m es self j (u .0) (u .1) (u .2) (u .3)))
+      -- whatever it is, it leads to none
+      pub above-miss : MeantIs f s end d n whole none → AboveFrom f s end c n (i + 1)
+      above-miss m es self j x o k e =
+          let u = parent-gives es self j x o k e in
+          rw (add-one i) (u .4 ∙ none-there (isInterface (record { home = u .0; number = d .number })) (gives es (u .0)) (behind es x k)
+          (m es self j (u .0) (u .1) (u .2) (u .3)))
 
-      -- or to a class that declares the name
+      -- it is an interface, and leads to a class that declares the name
       pub above-hit : Kind0Is f s (d .home) (d .number) false → (r : ClassSpot) → MeantIs f s end d n whole (some r) → MeantIs f s end c n above (some r)
       above-hit v r m es self j x o k e =
-          let u = parent-gives false v es self j x o k e in
+          let u = parent-gives es self j x o k e in
           let t = m es self j (u .0) (u .1) (u .2) (u .3) in
-          (t .0, t .1, t .2, t .3, t .4, u .4 ∙ first-there _ _ (t .4) (t .5), t .6)
+          let kind = interface-is (record { home = u .0; number = d .number }) (u .2) (u .3) false (v end es self j (u .0) (u .1) (u .2) (u .3)) in
+          let first = ap (λ (b : Bool). pick b (orElse (gives es (u .0)) (behind es x k)) (behind es x k)) kind ∙ first-there _ _ (t .4) (t .5) in
+          (t .0, t .1, t .2, t .3, t .4, u .4 ∙ first, t .6)

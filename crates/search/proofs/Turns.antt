@@ -1,85 +1,104 @@
--- A turn of the walk over the parents of a class that is visited: the interface at hand, and what was found from it on. Assumes nothing.
-use Prim.Native.Nat.{ℕ, _+_, _/_, _<_}
+-- A turn of the walk over the parents of a class that is visited: the parent at hand, its visit, and what was found from it on. Assumes nothing.
+use Prim.Native.Nat.{ℕ, zero, suc, _+_, _-_, _/_, _<_}
 use native.Mathlib.Omega.{arith}
-use mathlib.Core.Path.{_≡_, sym, subst}
-use mathlib.Core.List.{List}
-use mathlib.Core.Option.{some}
+use mathlib.Core.Path.{_≡_, refl, sym, ap, subst}
+use mathlib.Core.Bool.{true, false}
+use mathlib.Core.Option.{Option, none, some}
 use lib.ListN.{length}
 use Rattle.rules.specs.Bytes.{Bytes}
 use Rattle.bits.specs.Bits.{bitAt, withBit}
-use Rattle.homes.specs.Found.{Indexed}
-use Rattle.classes.specs.Say.{CountIs, rank}
+use Rattle.classes.specs.Say.{rank, ParentIs, Kind0Is}
 use Rattle.classes.specs.Keys.{key}
-use Rattle.search.specs.Walk.{spotOf, VisitThere, SpotThere, above, whole, MeantIs, visitFound, ParentInside, InterfaceIs, SeenNone}
+use Rattle.classes.specs.declared.ClassSpot.{ClassSpot}
+use Rattle.search.specs.Walk.{spotIn, classIn, visitSpot, SpotThere, VisitPlaced, VisitOf, above, whole, MeantIs}
+use Rattle.search.specs.Walk.{ParentInside, InterfaceIs, SeenNone}
 use Rattle.search.specs.declared.visited.Visit.{Visit}
-use Rattle.search.specs.declared.visited.VisitFound.{VisitFound}
-use Rattle.search.specs.declared.visited.VisitFound.the-variants as visits
+use Rattle.search.proofs.Codes.{class-in}
 use Rattle.search.proofs.Steps.{AboveFrom}
 use Rattle.search.proofs.Steps as steps
 use Rattle.search.proofs.Seen as seen-of
+use Rattle.search.proofs.Visits as visits
 
--- a turn: parent i of class v is the interface w
-pub record Turn (f s : Bytes) (v : Visit) (i : ℕ) (w : Visit) : Type 0 where
-  pub count : ℕ
-  pub counted : CountIs f s (spotOf v .home) (v .number) count
-  pub inside : i < count
-  pub interface : InterfaceIs f s v i (visits.At w)
-  pub from : VisitThere f s v
+-- what is said of a visit: nothing was found among its first i parents; the bits are good for it
+abbrev pub Above : Bytes → Bytes → Visit → ℕ → Type 0
+Above f s v i = AboveFrom f s (v .end) (visitSpot v) (v .name) i
 
-module _ (f s : Bytes) (v : Visit) (n count i : ℕ) (q : CountIs f s (spotOf v .home) (v .number) count) (z : i < count) where
-  pub turn-inside : VisitThere f s v → ParentInside f s v i
-  turn-inside t = record {
-    there = t;
-    inside = omega (arith, q (v .end) (t .entries) (t .self) (t .asked) (t .pack) (t .home) (t .class) (t .is));
-  }
+abbrev pub Seen : Bytes → Bytes → Visit → Bytes → Type 0
+Seen f s v x = SeenNone f s (v .end) (v .name) x
 
-  -- the parent is not an interface
-  pub turn-past : InterfaceIs f s v i visits.Nothing → AboveFrom f s (v .end) (spotOf v) n i → AboveFrom f s (v .end) (spotOf v) n (i + 1)
-  turn-past p w = steps.above-kind0 f s (v .end) (spotOf v) n count i q z (p .0) (p .1) w (p .2)
+-- a turn: parent i of class v is the class told by c
+pub record Turn (f s : Bytes) (v : Visit) (i c : ℕ) : Type 0 where
+  pub placed : VisitPlaced f s v
+  pub inside : i < v .parents
+  pub is : ParentIs f s (visitSpot v .home) (visitSpot v .number) i (spotIn c)
 
-module _ {f s : Bytes} {v : Visit} {i : ℕ} {w : Visit} (k : Turn f s v i w) where
-  same : w .end ≡ v .end
-  same = k .interface .0
+pub turn-inside : (f s : Bytes) (v : Visit) (i : ℕ) → VisitPlaced f s v → i < v .parents → ParentInside f s v i
+turn-inside f s v i p z =
+    let t = p .there in
+    record { placed = p; inside = omega (arith, p .count (v .end) (t .entries) (t .self) (t .asked) (t .pack) (t .home) (t .class) (t .is)) }
 
-  spot-there : SpotThere f s (v .end) (spotOf w)
-  spot-there = steps.parent-there f s (v .end) (spotOf v) 0 (k .count) i (k .counted) (k .inside) (spotOf w) (k .interface .1) (k .from)
+-- what an answer other than none says
+interface-of : (f s : Bytes) (v : Visit) (c : ℕ) (w : Visit) (n : ℕ) → (n ≡ 0 → ⊥) → InterfaceIs f s v c w n → Kind0Is f s (spotIn c .home)
+    (spotIn c .number) false × VisitOf f s (v .end) (v .name) (spotIn c) w
+interface-of f s v c w zero z q = absurd (z refl)
+interface-of f s v c w (suc n) z q = q
 
-  pub turn-there : VisitThere f s w
-  turn-there = subst (λ (end : ℕ). SpotThere f s end (spotOf w)) (sym same) spot-there
+-- what makes one
+pub interface-told : (f s : Bytes) (v : Visit) (c : ℕ) (w : Visit) → Kind0Is f s (spotIn c .home) (spotIn c .number) false →
+    VisitOf f s (v .end) (v .name) (spotIn c) w → InterfaceIs f s v c w (w .class)
+interface-told f s v c w q o = go (w .class) (o .placed .told)
+  where
+    go : (n : ℕ) → 0 < n → InterfaceIs f s v c w n
+    go zero z = absurd (omega arith)
+    go (suc n) z = (q, o)
 
-  pub turn-less : rank (spotOf w .home) (w .number) < rank (spotOf v .home) (v .number)
-  turn-less = steps.parent-rank f s (v .end) (spotOf v) 0 (k .count) i (k .counted) (k .inside) (spotOf w) (k .interface .1) (k .from)
+module _ {f s : Bytes} {v : Visit} {i c : ℕ} (k : Turn f s v i c) where
+  pub turn-there : SpotThere f s (v .end) (spotIn c)
+  turn-there = steps.parent-there f s (v .end) (visitSpot v) 0 (v .parents) i (k .placed .count) (k .inside) (spotIn c) (k .is) (k .placed .there)
 
-  pub turn-indexed : (index : List ℕ) → Indexed s (v .end) index → Indexed s (w .end) index
-  turn-indexed index x = subst (λ (end : ℕ). Indexed s end index) (sym same) x
+  pub turn-room : (x : Bytes) → Seen f s v x → key (spotIn c .home) (spotIn c .number) / 8 < length x
+  turn-room x m = seen-of.key-inside f s (v .end) (spotIn c) turn-there (length x) (m .room)
 
-  module _ (n : ℕ) (x : Bytes) where
-    pub turn-seen : SeenNone f s (v .end) n x → SeenNone f s (w .end) n x
-    turn-seen m = subst (λ (end : ℕ). SeenNone f s end n x) (sym same) m
+  -- it leads to none
+  turn-none : MeantIs f s (v .end) (spotIn c) (v .name) whole none → Above f s v i → Above f s v (i + 1)
+  turn-none m a = steps.above-miss f s (v .end) (visitSpot v) (v .name) (v .parents) i (k .placed .count) (k .inside) (spotIn c) (k .is) a m
 
-    pub seen-turn : SeenNone f s (w .end) n x → SeenNone f s (v .end) n x
-    seen-turn m = subst (λ (end : ℕ). SeenNone f s end n x) same m
+  -- it was seen
+  pub turn-seen : (x : Bytes) → Seen f s v x → bitAt x (key (spotIn c .home) (spotIn c .number)) ≡ true → Above f s v i → Above f s v (i + 1)
+  turn-seen x m e a = turn-none (m .hold (spotIn c) e) a
 
-    pub turn-room : SeenNone f s (w .end) n x → key (spotOf w .home) (w .number) / 8 < length x
-    turn-room m = seen-of.key-inside f s (w .end) (spotOf w) turn-there (length x) (m .room)
+  -- the answer w: none, if it is of kind 0
+  module _ (w : Visit) (q : InterfaceIs f s v c w (w .class)) where
+    pub turn-kind0 : w .class ≡ 0 → Above f s v i → Above f s v (i + 1)
+    turn-kind0 z a = steps.above-kind0 f s (v .end) (visitSpot v) (v .name) (v .parents) i (k .placed .count) (k .inside) (spotIn c) (k .is) a
+        (subst (InterfaceIs f s v c w) z q)
 
-  -- what was found from the interface on
-  module _ (n : ℕ) (r : VisitFound) (m : MeantIs f s (w .end) (spotOf w) n whole (visitFound r)) where
-    told : (o : VisitFound) → r ≡ o → MeantIs f s (v .end) (spotOf w) n whole (visitFound o)
-    told o e = subst (λ (end : ℕ). MeantIs f s end (spotOf w) n whole (visitFound o)) same
-        (subst (λ (a : VisitFound). MeantIs f s (w .end) (spotOf w) n whole (visitFound a)) e m)
+    -- else its visit
+    module _ (z : w .class ≡ 0 → ⊥) where
+      pub walk-of : VisitOf f s (v .end) (v .name) (spotIn c) w
+      walk-of = (interface-of f s v c w (w .class) z q) .1
 
-    pub turn-hit : (u : Visit) → r ≡ visits.At u → AboveFrom f s (v .end) (spotOf v) n i → MeantIs f s (v .end) (spotOf v) n above (some (spotOf u))
-    turn-hit u e a = steps.above-hit f s (v .end) (spotOf v) n (k .count) i (k .counted) (k .inside) (spotOf w) (k .interface .1) a (k .interface .2)
-        (spotOf u) (told (visits.At u) e)
+      pub walk-less : rank (visitSpot w .home) (visitSpot w .number) < rank (visitSpot v .home) (visitSpot v .number)
+      walk-less =
+          let less = steps.parent-rank f s (v .end) (visitSpot v) 0 (v .parents) i (k .placed .count) (k .inside) (spotIn c) (k .is) (k .placed .there) in
+          omega (arith, visits.visit-rank walk-of, less)
 
-    module _ (e : r ≡ visits.Nothing) where
-      pub turn-miss : AboveFrom f s (v .end) (spotOf v) n i → AboveFrom f s (v .end) (spotOf v) n (i + 1)
-      turn-miss a = steps.above-miss f s (v .end) (spotOf v) n (k .count) i (k .counted) (k .inside) (spotOf w) (k .interface .1) a (k .interface .2)
-          (told visits.Nothing e)
+      -- what was found from it on
+      module _ (r : ℕ) (m : MeantIs f s (w .end) (visitSpot w) (w .name) whole (classIn r)) where
+        found : (o : Option ClassSpot) → classIn r ≡ o → MeantIs f s (v .end) (spotIn c) (v .name) whole o
+        found o e = subst (MeantIs f s (v .end) (spotIn c) (v .name) whole) e (visits.visit-meant walk-of whole (classIn r) m)
 
-      -- its bit is set
-      pub turn-bit : (x y : Bytes) → SeenNone f s (w .end) n x → length y ≡ length x → (b : ℕ) → b ≡ key (spotOf w .home) (w .number) →
-          ((j : ℕ) → bitAt y j ≡ withBit (bitAt x) b j) → SeenNone f s (v .end) n y
-      turn-bit x y a l b eb g =
-          seen-of.seen-more f s (v .end) (spotOf w) spot-there n x (seen-turn n x a) (told visits.Nothing e) y l b eb g
+        pub walk-hit : (r ≡ 0 → ⊥) → Above f s v i → MeantIs f s (v .end) (visitSpot v) (v .name) above (classIn r)
+        walk-hit y a = subst (MeantIs f s (v .end) (visitSpot v) (v .name) above) (sym (class-in r y))
+            (steps.above-hit f s (v .end) (visitSpot v) (v .name) (v .parents) i (k .placed .count) (k .inside) (spotIn c) (k .is) a
+            ((interface-of f s v c w (w .class) z q) .0) (spotIn r) (found (some (spotIn r)) (class-in r y)))
+
+        module _ (y : r ≡ 0) where
+          pub walk-miss : Above f s v i → Above f s v (i + 1)
+          walk-miss a = turn-none (found none (ap classIn y)) a
+
+          -- its bit is set
+          pub walk-bit : (x new : Bytes) → Seen f s w x → length new ≡ length x → (b : ℕ) → b ≡ key (spotIn c .home) (spotIn c .number) →
+              ((j : ℕ) → bitAt new j ≡ withBit (bitAt x) b j) → Seen f s v new
+          walk-bit x new a l b eb g = seen-of.seen-more f s (v .end) (spotIn c) turn-there (v .name) x (visits.visit-seen walk-of x a)
+              (found none (ap classIn y)) new l b eb g

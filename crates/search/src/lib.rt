@@ -9,7 +9,6 @@ use files::Spot;
 use homes::Home;
 use slots::parents;
 use visited::Visit;
-use visited::VisitFound;
 ghost use mathlib.Core.Path.{_≡_};
 ghost use mathlib.Core.Bool.{false};
 ghost use Prim.Native.Nat.{ℕ, _+_, _*_, _/_, _<_, _≤_};
@@ -20,8 +19,8 @@ ghost use Rattle.classes.specs.Say.{ClassThere};
 ghost use Rattle.classes.specs.Keys.{seenLength};
 ghost use Rattle.slots.specs.Slots.{SlotsTrue};
 ghost use Rattle.search.specs.Search.{SoughtThere, SearchIs};
-ghost use Rattle.search.specs.Walk.{spotOf, VisitThere, above, whole, alongUp, itself, searched, MeantIs};
-ghost use Rattle.search.specs.Walk.{classFound, visitFound, DeclaredHere, DeclaresIs, SeenNone, soughtSpot, SoughtFrom};
+ghost use Rattle.search.specs.Walk.{visitSpot, VisitPlaced, above, whole, alongUp, itself, searched, MeantIs};
+ghost use Rattle.search.specs.Walk.{classFound, classIn, DeclaredHere, DeclaresIs, SeenNone, soughtSpot, SoughtFrom};
 
 // A class by the home of its package and its number there, and a name that is sought from it on, over the entries that end at a place.
 pub struct Sought {
@@ -60,34 +59,8 @@ fn declared_in<'a>(
     }
 }
 
-// Does the class itself declare the name?
-fn declares<'a>(f: &'a [u8], s: &'a [u8], slots: &mut [u16], c: ClassSpot, name: usize) -> bool
-    requires { ⌜ ClassThere (now f) (now s) (c .home) (c .number) × (length (now s) ≤ 65535) ⌝ }
-    requires { ⌜ SlotsTrue (now f) (now s) (now slots) ⌝ }
-    ensures { λ r. ⌜ DeclaresIs (now (f .entry)) (now (s .entry)) c name r ⌝ }
-    ensures { λ _. ⌜ SlotsTrue (now (f .entry)) (now (s .entry)) (now (slots .exit)) ⌝ }
-{
-    match declared_in(f, s, slots, c, name) {
-        Declared::At(h, k, m) => true,
-        Declared::Nothing => false,
-    }
-}
-
-// The same of a class that is visited, in a frame of its own.
-fn declares_apart<'a>(f: &'a [u8], s: &'a [u8], slots: &mut [u16], v: Visit, name: usize) -> bool
-    requires { ⌜ VisitThere (now f) (now s) v × (length (now s) ≤ 65535) ⌝ }
-    requires { ⌜ SlotsTrue (now f) (now s) (now slots) ⌝ }
-    ensures { λ r. ⌜ DeclaresIs (now (f .entry)) (now (s .entry)) (spotOf v) name r ⌝ }
-    ensures { λ _. ⌜ SlotsTrue (now (f .entry)) (now (s .entry)) (now (slots .exit)) ⌝ }
-{
-    if 65535 < s.len() {
-        return declares_apart(f, s, slots, v, name);
-    }
-    declares(f, s, slots, visited::spot_of(v), name)
-}
-
-// The first class that declares the name: an interface, those among its parents and theirs. None is above one that was seen, or one without
-// parents, so that the walks nest once less than classes lie above each other.
+// The first class that declares the name, as one number, 0 for none: an interface, those among its parents and theirs. None is above one
+// without parents, so that the walks nest once less than classes lie above each other.
 fn class_declares<'a>(
     f: &'a [u8],
     s: &'a [u8],
@@ -95,28 +68,25 @@ fn class_declares<'a>(
     slots: &mut [u16],
     seen: &mut [u8],
     v: Visit,
-    name: usize,
-) -> VisitFound
-    requires { ⌜ VisitThere (now f) (now s) v × (length (now s) ≤ 65535) × Indexed (now s) (v .end) (now index) ⌝ }
-    requires { ⌜ SeenNone (now f) (now s) (v .end) name (now seen) ⌝ }
+) -> usize
+    requires { ⌜ VisitPlaced (now f) (now s) v × (length (now s) ≤ 65535) × Indexed (now s) (v .end) (now index) ⌝ }
+    requires { ⌜ SeenNone (now f) (now s) (v .end) (v .name) (now seen) ⌝ }
     requires { ⌜ SlotsTrue (now f) (now s) (now slots) ⌝ }
-    ensures { λ r. ⌜ MeantIs (now (f .entry)) (now (s .entry)) (v .end) (spotOf v) name whole (visitFound r) ⌝ }
-    ensures { λ _. ⌜ SeenNone (now (f .entry)) (now (s .entry)) (v .end) name (now (seen .exit)) ⌝ }
+    ensures { λ r. ⌜ MeantIs (now (f .entry)) (now (s .entry)) (v .end) (visitSpot v) (v .name) whole (classIn r) ⌝ }
+    ensures { λ _. ⌜ SeenNone (now (f .entry)) (now (s .entry)) (v .end) (v .name) (now (seen .exit)) ⌝ }
     ensures { λ _. ⌜ SlotsTrue (now (f .entry)) (now (s .entry)) (now (slots .exit)) ⌝ }
 {
-    if bits::get(seen, visited::bit_of(v)) {
-        return VisitFound::Nothing;
+    if visited::declares_apart(f, s, v) {
+        return v.class;
     }
-    if declares_apart(f, s, slots, v, name) {
-        return VisitFound::At(v);
+    if v.parents == 0 {
+        return 0;
     }
-    if visited::parents_apart(f, s, slots, v) == 0 {
-        return VisitFound::Nothing;
-    }
-    parents_declare(f, s, index, slots, seen, v, name)
+    parents_declare(f, s, index, slots, seen, v)
 }
 
-// The first of the interfaces among the class's parents, and theirs. One that leads to none is seen from then on.
+// The first of the interfaces among the class's parents, and theirs. One that leads to none is seen from then on, and passed over before
+// its record is looked for.
 fn parents_declare<'a>(
     f: &'a [u8],
     s: &'a [u8],
@@ -124,34 +94,35 @@ fn parents_declare<'a>(
     slots: &mut [u16],
     seen: &mut [u8],
     v: Visit,
-    name: usize,
-) -> VisitFound
-    requires { ⌜ VisitThere (now f) (now s) v × (length (now s) ≤ 65535) × Indexed (now s) (v .end) (now index) ⌝ }
-    requires { ⌜ SeenNone (now f) (now s) (v .end) name (now seen) ⌝ }
+) -> usize
+    requires { ⌜ VisitPlaced (now f) (now s) v × (length (now s) ≤ 65535) × Indexed (now s) (v .end) (now index) ⌝ }
+    requires { ⌜ SeenNone (now f) (now s) (v .end) (v .name) (now seen) ⌝ }
     requires { ⌜ SlotsTrue (now f) (now s) (now slots) ⌝ }
-    ensures { λ r. ⌜ MeantIs (now (f .entry)) (now (s .entry)) (v .end) (spotOf v) name above (visitFound r) ⌝ }
-    ensures { λ _. ⌜ SeenNone (now (f .entry)) (now (s .entry)) (v .end) name (now (seen .exit)) ⌝ }
+    ensures { λ r. ⌜ MeantIs (now (f .entry)) (now (s .entry)) (v .end) (visitSpot v) (v .name) above (classIn r) ⌝ }
+    ensures { λ _. ⌜ SeenNone (now (f .entry)) (now (s .entry)) (v .end) (v .name) (now (seen .exit)) ⌝ }
     ensures { λ _. ⌜ SlotsTrue (now (f .entry)) (now (s .entry)) (now (slots .exit)) ⌝ }
 {
-    let count = visited::parents_apart(f, s, slots, v);
+    let count = v.parents as usize;
     let mut i = 0;
     while i < count {
-        match visited::interface_apart(f, s, index, slots, v, i) {
-            VisitFound::At(w) => match class_declares(f, s, index, slots, seen, w, name) {
-                VisitFound::At(u) => {
-                    return VisitFound::At(u);
+        let c = visited::parent_apart(f, s, index, slots, v, i);
+        if bits::get(seen, visited::bit_of(c)) {
+            i += 1;
+        } else {
+            let w = visited::interface_apart(f, s, slots, v, c);
+            if w.class == 0 {
+                i += 1;
+            } else {
+                let r = class_declares(f, s, index, slots, seen, w);
+                if r != 0 {
+                    return r;
                 }
-                VisitFound::Nothing => {
-                    bits::set(seen, visited::bit_of(w));
-                    i += 1;
-                }
-            },
-            VisitFound::Nothing => {
+                bits::set(seen, visited::bit_of(c));
                 i += 1;
             }
         }
     }
-    VisitFound::Nothing
+    0
 }
 
 // The first class that declares the name: the class itself, or one along its kind-0 parents.
@@ -173,7 +144,8 @@ fn chain_declares<'a>(
         number: x.number,
     };
     loop {
-        if declares(f, s, slots, c, x.name) {
+        let v = visited::visit_of(f, s, slots, x.end, x.name, c);
+        if visited::declares(f, s, v) {
             return ClassFound::At(c);
         }
         match parents::kind0_parent(f, s, x.end, index, slots, c) {
@@ -216,19 +188,18 @@ fn interfaces_declare<'a>(
         number: x.number,
     };
     loop {
-        let v = visited::visit_of(x.end, c);
-        match parents_declare(f, s, index, slots, seen, v, x.name) {
-            VisitFound::At(w) => {
-                return ClassFound::At(visited::spot_of(w));
+        let v = visited::visit_of(f, s, slots, x.end, x.name, c);
+        let r = parents_declare(f, s, index, slots, seen, v);
+        if r != 0 {
+            return ClassFound::At(visited::spot_of(r));
+        }
+        match parents::kind0_parent(f, s, x.end, index, slots, c) {
+            ClassFound::At(up) => {
+                c = up;
             }
-            VisitFound::Nothing => match parents::kind0_parent(f, s, x.end, index, slots, c) {
-                ClassFound::At(d) => {
-                    c = d;
-                }
-                ClassFound::Nothing => {
-                    return ClassFound::Nothing;
-                }
-            },
+            ClassFound::Nothing => {
+                return ClassFound::Nothing;
+            }
         }
     }
 }

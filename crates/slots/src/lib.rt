@@ -22,7 +22,7 @@ pub struct Site {
 }
 
 // A number of the table.
-fn number(x: u16) -> usize
+pub fn number(x: u16) -> usize
     ensures { λ r. ⌜ (r ≡ x) × (r ≤ 65535) ⌝ }
 {
     x as usize

@@ -24,6 +24,7 @@ pub mod own_pairs;
 pub mod planned_searches;
 pub mod policies;
 pub mod random;
+pub mod reference_cases;
 pub mod scene;
 pub mod search_cases;
 pub mod searches;

@@ -1,11 +1,13 @@
 -- `calls::told_of` meets its contract: where the references stand, and the number of the loading domain in the file's list. Assumes nothing.
+use native.Mathlib.Omega.{arith}
 use mathlib.Core.Path.{refl}
 use denote.Ref.{now}
 use borrow.Author.Needs.{needs}
 use Rattle.files.specs.Say.{Readable}
-use Rattle.files.proofs.Walks.{domains-read}
-use Rattle.calls.specs.Setting.{settingOf}
-use Rattle.calls.proofs.Lookups as look
+use Rattle.files.proofs.Steps.{references-in}
+use Rattle.files.proofs.Walks.{domains-read, references-there}
+use Rattle.references.specs.Setting.{settingOf}
+use Rattle.references.proofs.Lookups as look
 use Rattle.calls.proofs.Rights as rights
 use Rattle.calls.proofs.Covers as covers
 use Rattle.calls.proofs.told_of.Statement.{statement}
@@ -16,7 +18,7 @@ abbrev start : tie.After-aid-bytes → tie.Start
 start k = k .before .before .before
 
 abbrev loaded : tie.After-domains-at → tie.After-aid-bytes
-loaded k = k .before .before
+loaded k = k .before .before .before
 
 -- the file reads
 reads : (b : tie.Start) → Readable (now (b .args .f))
@@ -29,7 +31,10 @@ references-at-requires : tie.Need-references-at-requires
 references-at-requires c κs = reads (start c)
 
 domains-at-requires : tie.Need-domains-at-requires
-domains-at-requires c κs = reads (start (c .before))
+domains-at-requires c κs = reads (start (c .before .before))
+
+u2-at-requires : tie.Need-u2-at-requires
+u2-at-requires c κs = (references-in (references-there (c .references-at .ensures) (reads (start (c .before))))) .0
 
 number-of-requires : tie.Need-number-of-requires
 number-of-requires c κs =
@@ -45,8 +50,9 @@ returns c =
     let a = b .args in (
       refl,
       refl,
+      omega (arith, domains .before .u2-at .ensures .1),
       record {
-        file = domains .before .references-at .ensures;
+        file = record { stand = domains .before .before .references-at .ensures; count = domains .before .u2-at .ensures .0; first = omega arith };
         domain = b .pre .1;
         loading =
             covers.loading-told (now (a .f)) (now (a .s)) (a .domain) _ (rights.aid-is (b .pre .1) (k .aid-bytes .ensures))
@@ -56,4 +62,4 @@ returns c =
     )
 
 pub told-of-spec : {M : Type 1} → statement M
-told-of-spec = tie.close (tie.spec aid-bytes-requires references-at-requires domains-at-requires number-of-requires returns)
+told-of-spec = tie.close (tie.spec aid-bytes-requires references-at-requires u2-at-requires domains-at-requires number-of-requires returns)

@@ -7,7 +7,7 @@ use Rattle.policies.specs.Numbers.{NumberIs}
 use Rattle.homes.specs.Homes.{fileOf, ownHome, aidAt}
 use Rattle.homes.specs.declared.Home.{Home}
 use Rattle.homes.proofs.Lookups.{there-bounds}
-use Rattle.calls.specs.Setting.{Judged}
+use Rattle.references.specs.Setting.{Judged}
 use Rattle.calls.specs.Rights.{StandsThere, RightsAt}
 use Rattle.calls.proofs.Rights as rights
 use Rattle.calls.proofs.Covers as covers
@@ -25,7 +25,7 @@ abbrev ready : tie.After-domain-of → tie.After-rights-of2
 ready k = k .before .before .before
 
 -- the file is being judged
-judged : (b : tie.Start) → Judged (now (b .args .f)) (now (b .args .s)) (b .args .a .end)
+judged : (b : tie.Start) → Judged (now (b .args .f)) (now (b .args .s)) (b .args .a .group .end)
 judged b = rights.caller-judged (b .pre .0 .0)
 
 -- the caller stands in the file being judged
@@ -38,7 +38,7 @@ caller k =
 -- its policy
 caller-rights : (k : tie.After-rights-of) →
     let a = start (k .before) .args in
-    RightsAt (now (a .f)) (now (a .s)) (ownHome (a .a .end)) (a .a .at) (k .rights-of .result)
+    RightsAt (now (a .f)) (now (a .s)) (ownHome (a .a .group .end)) (a .a .at) (k .rights-of .result)
 caller-rights k =
     let a = start (k .before) .args in
     subst (λ (h : Home). RightsAt (now (a .f)) (now (a .s)) h (a .a .at) (k .rights-of .result)) (k .before .own-home .ensures) (k .rights-of .ensures)

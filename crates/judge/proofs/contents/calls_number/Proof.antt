@@ -4,7 +4,7 @@ use native.Mathlib.Omega.{arith}
 use denote.Ref.{now}
 use borrow.Author.Needs.{needs}
 use Rattle.homes.specs.Homes.{aidAt}
-use Rattle.calls.specs.Maps.{Lent}
+use Rattle.references.specs.Named.{Lent}
 use Rattle.judge.proofs.Settings as settings
 use Rattle.judge.proofs.Stages as stages
 use Rattle.judge.proofs.contents.calls_number.Statement.{statement}

@@ -4,52 +4,45 @@ use borrow.Author.Needs.{needs}
 use Prim.Native.Nat.{ℕ, _<_}
 use borrow.Fn.Kinds.{In}
 use borrow.Fn.PlainCycle.{Measures, is, falls, and}
-use Rattle.search.proofs.visited.interface_at.Reads as interface-at-reads
-use Rattle.search.proofs.visited.interface_apart.Reads as interface-apart
-use Rattle.search.proofs.visited.interface_apart.Kinds as interface-apart-kinds
-use Rattle.search.proofs.visited.+interface_apart.Lts-interface_apart as interface-apart-lts
+use Rattle.search.proofs.visited.interface_at.Reads as inner
+use Rattle.search.proofs.visited.interface_apart.Reads as apart
+use Rattle.search.proofs.visited.interface_apart.Kinds as kinds
+use Rattle.search.proofs.visited.+interface_apart.Lts-interface_apart as lts
 use Rattle.search.proofs.visited.+interface_apart.{statement}
 use Rattle.search.proofs.visited.+interface_apart.Tie.{close}
 
-abbrev μ-interface-apart : Measures 3 interface-apart-kinds.ps ℕ
-μ-interface-apart κs a = 0
+abbrev μ : Measures 2 kinds.ps ℕ
+μ κs a = 0
 
-abbrev interface-apart-at : ℕ → In 3 interface-apart-kinds.ps
-interface-apart-at t = and 3 interface-apart-kinds.ps (is 3 interface-apart-kinds.ps μ-interface-apart t) interface-apart.Pre
+abbrev at-most : ℕ → In 2 kinds.ps
+at-most t = and 2 kinds.ps (is 2 kinds.ps μ t) apart.Pre
 
-abbrev interface-apart-below : ℕ → In 3 interface-apart-kinds.ps
-interface-apart-below t = and 3 interface-apart-kinds.ps (falls 3 interface-apart-kinds.ps _<_ μ-interface-apart t) interface-apart.Pre
+abbrev below : ℕ → In 2 kinds.ps
+below t = and 2 kinds.ps (falls 2 kinds.ps _<_ μ t) apart.Pre
 
--- what each callee of `interface-apart` asks for and gives
-abbrev interface-apart-claims : ℕ → interface-apart-lts.Claims
-interface-apart-claims t = (interface-apart-below t, interface-apart.Post, interface-at-reads.Asked, interface-at-reads.Learnt)
+-- what each callee asks for and gives
+abbrev claims : ℕ → lts.Claims
+claims t = (below t, apart.Post, inner.Asked, inner.Learnt)
 
-interface-apart-interface-apart-requires : (t : ℕ) → interface-apart-lts.Need-interface-apart-requires (interface-apart-claims t) (interface-apart-at t)
-    interface-apart.Post
-interface-apart-interface-apart-requires t c κs = absurd (omega (arith, c .before .if1 .taken, c .before .before .before .before .before .before .pre .1 .0 .1))
+module _ (t : ℕ) where
+  interface-apart-requires : lts.Need-interface-apart-requires (claims t) (at-most t) apart.Post
+  interface-apart-requires c κs = absurd (omega (arith, c .before .if1 .taken, c .before .before .before .before .before .pre .1 .0 .1))
 
-interface-apart-same-length : (t : ℕ) → interface-apart-lts.Need-same-length (interface-apart-claims t) (interface-apart-at t) interface-apart.Post
-interface-apart-same-length t c = search needs
+  returns : lts.Need-returns (claims t) (at-most t) apart.Post
+  returns c = search needs
 
-interface-apart-returns : (t : ℕ) → interface-apart-lts.Need-returns (interface-apart-claims t) (interface-apart-at t) interface-apart.Post
-interface-apart-returns t c = search needs
+  interface-at-requires : lts.Need-interface-at-requires (claims t) (at-most t) apart.Post
+  interface-at-requires c κs = search needs
 
-interface-apart-interface-at-requires : (t : ℕ) → interface-apart-lts.Need-interface-at-requires (interface-apart-claims t) (interface-apart-at t)
-    interface-apart.Post
-interface-apart-interface-at-requires t c κs = c .before .before .before .before .before .before .pre .1
+  returns-2 : lts.Need-returns-2 (claims t) (at-most t) apart.Post
+  returns-2 c = search needs
 
-interface-apart-same-length-2 : (t : ℕ) → interface-apart-lts.Need-same-length-2 (interface-apart-claims t) (interface-apart-at t) interface-apart.Post
-interface-apart-same-length-2 t c = search needs
+  same-length : lts.Need-same-length (claims t) (at-most t) apart.Post
+  same-length c = search needs
 
-interface-apart-returns-2 : (t : ℕ) → interface-apart-lts.Need-returns-2 (interface-apart-claims t) (interface-apart-at t) interface-apart.Post
-interface-apart-returns-2 t c = search needs
+  same-length-2 : lts.Need-same-length-2 (claims t) (at-most t) apart.Post
+  same-length-2 c = search needs
 
 pub +interface-apart-spec : {M : Type 1} → statement M
-+interface-apart-spec = close μ-interface-apart
-    (λ t. interface-apart-lts.spec (interface-apart-claims t) (interface-apart-at t) interface-apart.Post
-    (interface-apart-interface-apart-requires t)
-    (interface-apart-same-length t)
-    (interface-apart-returns t)
-    (interface-apart-interface-at-requires t)
-    (interface-apart-same-length-2 t)
-    (interface-apart-returns-2 t))
++interface-apart-spec = close μ λ t. lts.spec (claims t) (at-most t) apart.Post
+    (interface-apart-requires t) (same-length t) (returns t) (interface-at-requires t) (same-length-2 t) (returns-2 t)

@@ -1,103 +1,92 @@
--- `search::visited::interface_at` meets its contract: the parent is told where it is an interface. Assumes nothing.
+-- `search::visited::interface_at` meets its contract: the visit of the class, by its kind. Assumes nothing.
 use native.Mathlib.Omega.{arith}
-use mathlib.Core.Path.{refl, sym, subst}
+use mathlib.Core.Path.{sym, subst}
+use mathlib.Core.Bool.{Bool}
 use denote.Ref.{now}
-use Prim.Native.Nat.{_≤_}
-use Rattle.classes.specs.Say.{ParentThere, ParentIs, Kind0Is}
-use Rattle.classes.specs.declared.ClassSpot.{ClassSpot}
-use Rattle.search.specs.Walk.{InterfaceIs}
-use Rattle.search.specs.declared.visited.VisitFound.the-variants as visits
-use Rattle.search.specs.declared.visited.Visit.{Visit}
-use Rattle.search.proofs.Standing as standing
 use borrow.Author.Needs.{needs}
+use Rattle.classes.specs.Say.{Kind0Is}
+use Rattle.classes.specs.declared.ClassSpot.{ClassSpot}
+use Rattle.classes.proofs.Records as records
+use Rattle.search.specs.Walk.{spotIn, visitSpot, SpotThere, VisitOf}
+use Rattle.search.proofs.Turns.{interface-told}
+use Rattle.search.proofs.Visits as visits
 use Rattle.search.proofs.visited.interface_at.Statement.{statement}
 use Rattle.search.proofs.visited.interface_at.Tie as tie
 
--- the start, from where the parent is read; that, from where its kind is told
-abbrev start : tie.After-parent-at → tie.Start
-start k = k .before .before .before .before .before .before .before .before
+-- the start, from where the class is at hand; that, from where its visit is; that, from where its record is; that, from where the kind is read
+abbrev start : tie.After-spot-of → tie.Start
+start k = k .before .before .before .before .before .before
 
-abbrev read : tie.After-is-kind0 → tie.After-parent-at
-read k = k .before .before .before .before
+abbrev told : tie.After-visit-of → tie.After-spot-of
+told k = k .before
 
-cast-end : tie.Need-cast-end
-cast-end c = search needs
+abbrev visited : tie.After-record-of → tie.After-visit-of
+visited k = k .before .before .before
+
+abbrev read : tie.After-wide → tie.After-record-of
+read k = k .before .before
+
+-- the visit is that of the class told
+visit-is : (k : tie.After-visit-of) →
+    let a = start (told k) .args in
+    VisitOf (now (a .f)) (now (a .s)) (a .v .end) (a .v .name) (spotIn (a .c)) (k .visit-of .result)
+visit-is k =
+    let a = start (told k) .args in
+    subst (λ (d : ClassSpot). VisitOf (now (a .f)) (now (a .s)) (a .v .end) (a .v .name) d (k .visit-of .result)) (told k .spot-of .ensures)
+    (k .visit-of .ensures .0)
+
+-- and what its record tells is told of the class
+kind : (k : tie.After-record-of) (b : Bool) →
+    let d = visitSpot (visited k .visit-of .result) in
+    let a = start (told (visited k)) .args in
+    Kind0Is (now (a .f)) (now (a .s)) (d .home) (d .number) b → Kind0Is (now (a .f)) (now (a .s)) (spotIn (a .c) .home) (spotIn (a .c) .number) b
+kind k b q =
+    let a = start (told (visited k)) .args in
+    subst (λ (d : ClassSpot). Kind0Is (now (a .f)) (now (a .s)) (d .home) (d .number) b) (visit-is (visited k) .is) q
+
+cast-visit-of : tie.Need-cast-visit-of
+cast-visit-of c = search needs
 
 spot-of-requires : tie.Need-spot-of-requires
 spot-of-requires c κs = search needs
 
-parent-at-requires : tie.Need-parent-at-requires
-parent-at-requires c κs =
-    let b = c .before .before .before .before .before .before .before in
-    let f = now (b .args .f) in
-    let s = now (b .args .s) in
-    let t = b .pre .0 .0 in
-    let v = b .args .v in
-    let e = sym (c .spot-of .ensures) in
-    let inside = subst (λ (q : ClassSpot). ParentThere f s (q .home) (q .number) (b .args .i)) e (standing.parent-inside f s v (b .args .i) t) in
-    let below = subst (λ (q : ClassSpot). q .home .before ≤ v .end) e (standing.spot-below f s _ _ (t .there)) in
-    ((inside, b .pre .0 .1), ((b .pre .1 .0, below), b .pre .1 .1))
+visit-of-requires : tie.Need-visit-of-requires
+visit-of-requires c κs =
+    let b = start c in
+    let a = b .args in
+    let there = subst (SpotThere (now (a .f)) (now (a .s)) (a .v .end)) (sym (c .spot-of .ensures)) (b .pre .0 .0) in
+    ((there, b .pre .0 .1), b .pre .1)
 
-is-kind0-requires : tie.Need-is-kind0-requires
-is-kind0-requires c κs =
-    let b = start (c .before .before .before) in
-    let f = now (b .args .f) in
-    let s = now (b .args .s) in
-    let t = b .pre .0 .0 in
-    let v = b .args .v in
-    let p = subst (λ (q : ClassSpot). ParentIs f s (q .home) (q .number) (b .args .i) (c .before .before .before .parent-at .result))
-    (c .before .before .before .before .spot-of .ensures) (c .before .before .before .parent-at .ensures .0) in (
-      (standing.spot-class f s _ _ (standing.parent-spot f s v (b .args .i) t (c .before .before .before .parent-at .result) p), b .pre .0 .1),
-      c .before .before .before .parent-at .ensures .1,
-    )
+record-of-requires : tie.Need-record-of-requires
+record-of-requires c κs = c .before .before .visit-of .ensures .0 .placed
+
+shared-slice-read-wide : tie.Need-shared-slice-read-wide
+shared-slice-read-wide c =
+    let k = c .before in
+    omega (arith, records.record-inside _ _ _ _ _ (k .record-of .ensures) (visits.visit-class _ _ _ (visited k .visit-of .ensures .0 .placed)))
+
+wide-requires : tie.Need-wide-requires
+wide-requires c κs = search needs
 
 same-length : tie.Need-same-length
 same-length c = search needs
 
 returns : tie.Need-returns
 returns c =
-    let b = start (read (c .before .before .before)) in
-    let f = now (b .args .f) in
-    let s = now (b .args .s) in
-    let v = b .args .v in
-    let d = read (c .before .before .before) .parent-at .result in
-    let p = subst (λ (q : ClassSpot). ParentIs f s (q .home) (q .number) (b .args .i) d) (read (c .before .before .before) .before .spot-of .ensures)
-    (read (c .before .before .before) .parent-at .ensures .0) in (
-      (d, p, subst (Kind0Is f s (d .home) (d .number)) (c .if1 .taken) (c .before .before .before .is-kind0 .ensures .0)),
-      c .before .before .before .is-kind0 .ensures .1,
-    )
-
-visit-of-requires : tie.Need-visit-of-requires
-visit-of-requires c κs =
-    let b = start (read (c .before .before .before)) in
-    let f = now (b .args .f) in
-    let s = now (b .args .s) in
-    let t = b .pre .0 .0 in
-    let v = b .args .v in
-    let d = read (c .before .before .before) .parent-at .result in
-    let p = subst (λ (q : ClassSpot). ParentIs f s (q .home) (q .number) (b .args .i) d) (read (c .before .before .before) .before .spot-of .ensures)
-    (read (c .before .before .before) .parent-at .ensures .0) in
-    let there = standing.parent-spot f s v (b .args .i) t d p in
-    (omega arith, standing.spot-small f s _ d there (b .pre .0 .1), standing.spot-few f s _ d there)
+    let k = read (c .before) in
+    let one = kind k _ (records.kind-one _ _ _ _ _ (k .record-of .ensures) _ (c .before .wide .ensures .0) (c .if1 .taken)) in
+    (interface-told _ _ _ _ _ one (visit-is (visited k)), visited k .visit-of .ensures .1)
 
 same-length-2 : tie.Need-same-length-2
 same-length-2 c = search needs
 
 returns-2 : tie.Need-returns-2
 returns-2 c =
-    let b = start (read (c .before .before .before .before)) in
-    let f = now (b .args .f) in
-    let s = now (b .args .s) in
-    let v = b .args .v in
-    let d = read (c .before .before .before .before) .parent-at .result in
-    let p = subst (λ (q : ClassSpot). ParentIs f s (q .home) (q .number) (b .args .i) d)
-    (read (c .before .before .before .before) .before .spot-of .ensures) (read (c .before .before .before .before) .parent-at .ensures .0) in
-    let kind = subst (Kind0Is f s (d .home) (d .number)) (c .before .if1 .left) (c .before .before .before .before .is-kind0 .ensures .0) in (
-      subst (λ (w : Visit). InterfaceIs f s v (b .args .i) (visits.At w)) (sym (c .visit-of .ensures)) (refl, p, kind),
-      c .before .before .before .before .is-kind0 .ensures .1,
-    )
+    let k = read (c .before) in
+    let zero = kind k _ (records.kind-zero _ _ _ _ _ (k .record-of .ensures) _ (c .before .wide .ensures .0) (c .if1 .left)) in
+    (zero, visited k .visit-of .ensures .1)
 
 pub interface-at-spec : {M : Type 1} → statement M
-interface-at-spec =
-    tie.close
-    (tie.spec cast-end spot-of-requires parent-at-requires is-kind0-requires same-length returns visit-of-requires same-length-2 returns-2)
+interface-at-spec = tie.close
+    (tie.spec cast-visit-of spot-of-requires visit-of-requires record-of-requires shared-slice-read-wide wide-requires same-length returns same-length-2
+    returns-2)

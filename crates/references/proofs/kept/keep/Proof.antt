@@ -1,0 +1,71 @@
+-- `references::kept::keep` meets its contract: a declaration or nothing is written. Assumes nothing.
+use native.Mathlib.Omega.{arith}
+use mathlib.Core.Path.{ap, subst}
+use denote.Ref.{now}
+use borrow.Author.Needs.{needs}
+use Rattle.references.specs.Kept.{toldOf, SmallFound}
+use Rattle.references.specs.declared.Meant.{Meant}
+use Rattle.references.proofs.Table as table
+use Rattle.references.proofs.kept.keep.Statement.{statement}
+use Rattle.references.proofs.kept.keep.Tie as tie
+
+-- the start, from where there is a declaration; that, from where it is written
+abbrev start : tie.After-x → tie.Start
+start k = k .before .before .before
+
+abbrev told : tie.After-keep-meant → tie.After-x
+told k = k .before .before .before
+
+-- the declaration
+abbrev meant : tie.After-x → Meant
+meant k = k .x .given .0 .0
+
+enum-known-x : tie.Need-enum-known-x
+enum-known-x c = search needs
+
+keep-meant-requires : tie.Need-keep-meant-requires
+keep-meant-requires c κs =
+    let k = c .before .before in
+    let b = start k in
+    (b .pre .0, b .pre .1, subst SmallFound (k .x .given .1) (b .pre .2))
+
+same-length : tie.Need-same-length
+same-length c = search needs
+
+returns : tie.Need-returns
+returns c =
+    let w = c .before .before in
+    let k = told w in
+    let b = start k in
+    table.kept-meant (now (b .args .table)) _ (b .args .k) (omega (arith, b .pre .0, b .pre .1)) (toldOf (b .args .x)) (meant k)
+    (ap toldOf (k .x .given .1)) (w .keep-meant .ensures)
+
+enum-told : tie.Need-enum-told
+enum-told c = search needs
+
+keep-nothing-requires : tie.Need-keep-nothing-requires
+keep-nothing-requires c κs = search needs
+
+same-length-2 : tie.Need-same-length-2
+same-length-2 c = search needs
+
+returns-2 : tie.Need-returns-2
+returns-2 c =
+    let w = c .before .before in
+    let k = w .before .before in
+    let b = k .before .before .before in
+    table.kept-nothing (now (b .args .table)) _ (b .args .k) (omega (arith, b .pre .0, b .pre .1)) (toldOf (b .args .x))
+    (ap toldOf (k .enum-told .given .1)) (w .keep-nothing .ensures)
+
+pub keep-spec : {M : Type 1} → statement M
+keep-spec =
+    tie.close
+    (tie.spec
+    enum-known-x
+    keep-meant-requires
+    same-length
+    returns
+    enum-told
+    keep-nothing-requires
+    same-length-2
+    returns-2)
