@@ -119,7 +119,7 @@
  * operation takes about 0.06 ms over a full store of 8,192 bytes and 0.5 ms over
  * one of 65,535. These are no bounds. Packages can be made for the purpose of
  * taking longer: an operation over the slowest store of 65,535 bytes that was
- * found takes 6 seconds, with larger limits (see below) 7. For each
+ * found takes 3 seconds, with larger limits (see below) too. For each
  * package judged the time is at most a constant times its file's bytes times the
  * bytes of the packages that it imports, directly or not. It does not grow with
  * the number of ways up through the classes, whatever the limits.
