@@ -17,6 +17,11 @@ use Rattle.references.specs.declared.Group.{Group}
 use Rattle.calls.specs.Maps.{groupFrom}
 use Rattle.calls.specs.Calls.{Asking, asking, withGroup, everyCall, callNames, callAllows, classNames, classAllows, FileCallsAre}
 
+-- a test that every element passes
+pub all-yes : {A : Type 0} (p : A → Bool) → ((x : A) → p x ≡ true) → (xs : List A) → all p xs ≡ true
+all-yes p h [] = refl
+all-yes p h (x ∷ xs) = rw (h x) (all-yes p h xs)
+
 -- two tests of a list, and both at once
 all-both : {A : Type 0} (p q r : A → Bool) → ((x : A) → (p x && q x) ≡ r x) → (xs : List A) → (all p xs && all q xs) ≡ all r xs
 all-both p q r h [] = refl
@@ -29,7 +34,7 @@ all-both p q r h (x ∷ xs) = shuffle (p x) (all p xs) (q x) (all q xs) ∙ ap�
     shuffle true true c d = refl
 
 -- the first no of two questions of some, and of others
-pair : Bool → Bool → ℕ
+unfoldable pub pair : Bool → Bool → ℕ
 pair p q = firstNo ((18, p) ∷ (19, q) ∷ [])
 
 first-both : (p q x y : Bool) → firstOf (pair p q) (pair x y) ≡ pair (p && x) (q && y)
@@ -126,10 +131,6 @@ none-asked w h a =
     let names = all-yes (classNames a (asking w)) (yes-of (λ z. callNames a)) ks in
     let allows = all-yes (classAllows a (asking w)) (yes-of (callAllows a)) ks in
     rw (names, allows)
-  where
-    all-yes : {A : Type 0} (p : A → Bool) → ((x : A) → p x ≡ true) → (xs : List A) → all p xs ≡ true
-    all-yes p h [] = refl
-    all-yes p h (x ∷ xs) = rw (h x) (all-yes p h xs)
 
 module _ {f s : Bytes} {end : ℕ} {d : Aid} (count : ℕ) where
   pub groups-begin : FileCallsAre f s end d (asking (askedTo count 0)) 0

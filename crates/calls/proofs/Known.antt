@@ -8,7 +8,6 @@ use mathlib.Core.List.{List, [], _∷_}
 use Rattle.rules.specs.Bytes.{Bytes, Aid, all}
 use Rattle.rules.specs.Code.{Call, callsOf}
 use Rattle.rules.specs.Package.{Method, Class}
-use Rattle.rules.specs.Operations.{firstNo}
 use Rattle.references.specs.Kept.{inGroup, toldIn, SameTold, KeptTrue, AllTold}
 use Rattle.references.specs.declared.Group.{Group}
 use Rattle.references.specs.declared.Told.{Told}
@@ -17,6 +16,7 @@ use Rattle.references.proofs.Filled.{told-known}
 use Rattle.calls.specs.Calls.{Asking, Which, asking, withGroup, withTable, isTold, callNames, callAllows, callNamesIn, callAllowsIn}
 use Rattle.calls.specs.Calls.{classNames, classAllows}
 use Rattle.calls.specs.Calls.{FileCallsAre}
+use Rattle.calls.proofs.Groups.{all-yes, pair}
 
 -- tests that agree where a third says yes
 all-given : {A : Type 0} (p q r : A → Bool) → ((x : A) → p x ≡ true → q x ≡ r x) → (xs : List A) → all p xs ≡ true → all q xs ≡ all r xs
@@ -41,16 +41,8 @@ class-given p q r h =
     all-given (λ m. all (p m) (callsOf (m .code))) (λ m. all (q m) (callsOf (m .code))) (λ m. all (r m) (callsOf (m .code)))
     (λ m. all-given (p m) (q m) (r m) (h m) (callsOf (m .code))) (k .methods)
 
-all-yes : {A : Type 0} (p : A → Bool) → ((x : A) → p x ≡ true) → (xs : List A) → all p xs ≡ true
-all-yes p h [] = refl
-all-yes p h (x ∷ xs) = rw (h x) (all-yes p h xs)
-
 class-yes : (p : Method → Call → Bool) → ((m : Method) (c : Call) → p m c ≡ true) → (ks : List Class) → all (ofClass p) ks ≡ true
 class-yes p h = all-yes (ofClass p) λ k. all-yes (λ m. all (p m) (callsOf (m .code))) (λ m. all-yes (p m) (h m) (callsOf (m .code))) (k .methods)
-
--- the number of the first no of the two questions
-pair : Bool → Bool → ℕ
-pair p q = firstNo ((18, p) ∷ (19, q) ∷ [])
 
 -- a number other than 18
 module _ {f s : Bytes} {end : ℕ} {d : Aid} (w : Which) (n : ℕ) (x : FileCallsAre f s end d w n) where
