@@ -1,8 +1,10 @@
 //! How often each operation answered each number, loads by their depth figure, and what
-//! FE, handlers, limits, kinds of domains and searches for declarations decided.
+//! FE, handlers, limits, kinds of domains, searches for declarations and places of imports
+//! decided.
 
 use independent::depths::DepthCounts;
 use independent::handler_counts::HandlerCounts;
+use independent::import_counts::ImportCounts;
 use independent::int_counts::IntCounts;
 use independent::ledger::Call;
 use independent::limit_counts::LimitCounts;
@@ -41,6 +43,7 @@ pub struct Counts {
     limits: LimitCounts,
     int: IntCounts,
     search: SearchCounts,
+    imports: ImportCounts,
     /// Queries answered yes.
     yes: u64,
 }
@@ -58,6 +61,7 @@ impl Counts {
         }
         self.limits.note(call, answer, store);
         self.int.note(call, answer, store);
+        self.imports.note(call, answer, store);
         match (operation, number) {
             (LOAD, 0) => self.depths.note(figure, store),
             (QUERY, 0) => self.yes += u64::from(figure),
@@ -93,12 +97,12 @@ impl Counts {
         let (yes, queries) = (self.yes, self.answers[QUERY][0]);
         println!("{yes} of {queries} queries answered yes");
         println!("{}\n{}\n{}", self.own, self.handlers, self.limits);
-        println!("{}\n{}", self.int, self.search);
+        println!("{}\n{}\n{}", self.int, self.search, self.imports);
     }
 
     /// What falls short of this many answers of each number, this many accepted loads by
     /// each depth and origin, this many decisions of each kind by FE, by handlers, by limits,
-    /// by kinds of domains and by searches, and a fifth of loads accepted.
+    /// by kinds of domains, by searches and by places of imports, and a fifth of loads accepted.
     pub fn shortfalls(&self, least: u64) -> Vec<String> {
         let mut found = Vec::new();
         for (operation, numbers) in CAN_ANSWER.iter().enumerate() {
@@ -119,6 +123,7 @@ impl Counts {
         found.extend(self.limits.shortfalls(least));
         found.extend(self.int.shortfalls(least));
         found.extend(self.search.shortfalls(least));
+        found.extend(self.imports.shortfalls(least));
         found
     }
 }

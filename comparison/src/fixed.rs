@@ -3,6 +3,8 @@
 use crate::seeded::{flipped, over, with_faults};
 use independent::generate::full_stores::full_stores;
 use independent::generate::handler_cases;
+use independent::generate::import_cases;
+use independent::generate::import_moves;
 use independent::generate::int_cases;
 use independent::generate::kind_cases;
 use independent::generate::limit_cases;
@@ -33,6 +35,7 @@ pub fn groups(seed: u64) -> Vec<Group> {
     found.extend(of_limits());
     found.extend(of_kinds());
     found.extend(of_searches());
+    found.extend(of_imports());
     found.extend(given());
     found.extend(seeded(seed));
     found
@@ -133,6 +136,20 @@ fn of_searches() -> Vec<Group> {
         group(
             "one or two of many references name what the others do not",
             reference_cases::many().into_iter(),
+        ),
+    ]
+}
+
+/// Places of imports.
+fn of_imports() -> Vec<Group> {
+    vec![
+        group(
+            "imports that are nearly alike, repeated, 15, or past their count",
+            import_cases::sequences().into_iter(),
+        ),
+        group(
+            "imports called through own classes, and imports that move",
+            import_moves::sequences().into_iter(),
         ),
     ]
 }

@@ -174,7 +174,7 @@ fn walk(name: &str, code: &[Instruction]) -> Result<Function, String> {
     let mut by_table = None;
     while let Some((mut at, mut depth)) = left.pop().or_else(|| unreached(code, &depths, by_table))
     {
-        while at < code.len() && !depths.get(&at).is_some_and(|known| *known >= depth) {
+        while at < code.len() && depths.get(&at).is_none_or(|known| *known < depth) {
             depths.insert(at, depth);
             let probed = probe(code, at);
             let instruction = &code[at];

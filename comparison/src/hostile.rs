@@ -5,6 +5,7 @@
 use crate::hostile_chains::{chain, chain_declared, chain_of_lists, lists_by_turns};
 use crate::hostile_chains::{own_alone, turns_declared};
 use crate::hostile_handlers::{in_second, long_codes, short_codes};
+use crate::hostile_imports::with_imports;
 use crate::hostile_kinds::with_kinds;
 use crate::hostile_limits::with_limits;
 use crate::hostile_lists::Lists;
@@ -89,6 +90,10 @@ pub const SEARCH_DEEP_TWO: &str =
 pub const SEARCH_DEEP_NONE: &str =
     "limits 16 and 8: load 1,024 references, each called, the last of them naming nothing";
 
+pub const IMPORTS_CALLED: &str =
+    "15 imports behind hundreds of packages, 1,024 references a file, each called";
+pub const IMPORTS_LOADED: &str = "load such a file behind twice as many packages";
+
 /// The sizes of the chain's stores, for its growth.
 pub const CHAIN_SIZES: [usize; 4] = [8, 16, 32, 64];
 
@@ -140,6 +145,7 @@ pub fn all() -> Vec<Workload> {
     found.extend(with_limits());
     found.extend(with_kinds());
     found.extend(with_searches());
+    found.extend(with_imports());
     found
 }
 

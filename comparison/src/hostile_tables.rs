@@ -91,7 +91,7 @@ pub(crate) fn crossing(levels: &Levels, per_package: u8) -> Workload {
 }
 
 /// A store full of domains with the shortest AIDs, their numbers in an order.
-pub(crate) fn domains(name: &'static str, order: impl Fn(&mut Vec<u32>)) -> Workload {
+pub(crate) fn domains(name: &'static str, order: impl Fn(&mut [u32])) -> Workload {
     let mut numbers: Vec<u32> = (0..8_191).collect();
     order(&mut numbers);
     let aid = |number: &u32| [&[0xA0][..], &number.to_be_bytes()].concat();
@@ -99,7 +99,7 @@ pub(crate) fn domains(name: &'static str, order: impl Fn(&mut Vec<u32>)) -> Work
     workload(name, &entries, LARGEST)
 }
 
-pub(crate) fn shuffle(numbers: &mut Vec<u32>) {
+pub(crate) fn shuffle(numbers: &mut [u32]) {
     let mut state = 12_345_u64;
     for place in (1..numbers.len()).rev() {
         state = state

@@ -2,6 +2,7 @@
 
 use crate::hostile;
 use crate::ordinary_handlers as handled;
+use crate::ordinary_imports as imports;
 use crate::ordinary_kinds as kinds;
 use crate::ordinary_limits as limited;
 use crate::ordinary_searches as searches;
@@ -100,6 +101,7 @@ impl Measured {
             kinds::ALL,
             searches::LOAD,
             searches::QUERY,
+            imports::QUERY,
         ] {
             // What the library does not answer as it should was left out.
             if !self.workloads.iter().any(|w| w.name == name) {

@@ -3,6 +3,7 @@
 use crate::below_ladder::below_ladder;
 use crate::ordinary::{domain, home, of_codes, of_size, ordinary, package, Own, CODE};
 use crate::ordinary_handlers::with_handlers;
+use crate::ordinary_imports::with_imports;
 use crate::ordinary_kinds::{of_domains, with_kinds};
 use crate::ordinary_limits::with_limits;
 use crate::ordinary_searches::with_searches;
@@ -73,6 +74,7 @@ pub fn all() -> Vec<Workload> {
     found.extend(with_limits());
     found.extend(with_kinds());
     found.extend(with_searches());
+    found.extend(with_imports());
     found
 }
 

@@ -1,5 +1,5 @@
-//! An independent reading of document 01 with requests 2, 3, 5, 7, 9 and 12 of document 02: the
-//! staff card loader.
+//! An independent reading of document 01 with requests 2, 3, 5, 6, 7, 9 and 12 of document 02:
+//! the staff card loader.
 
 pub mod bytes;
 pub mod card;
@@ -10,6 +10,8 @@ pub mod generate;
 pub mod handler_counts;
 pub mod handler_faults;
 pub mod handlers;
+pub mod import_counts;
+mod import_shapes;
 pub mod int_counts;
 mod int_load_counts;
 pub mod ledger;
@@ -19,6 +21,7 @@ pub mod limits;
 pub mod load_questions;
 pub mod loader;
 mod misread_handlers;
+pub mod misread_imports;
 pub mod misread_int;
 mod misread_kinds;
 pub mod misread_limits;

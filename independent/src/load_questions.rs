@@ -30,7 +30,9 @@ pub fn q13(contents: &Contents, package: &Package) -> Option<Vec<usize>> {
     let imports = package.imports.iter();
     imports
         .map(|aid| {
-            let number = contents.package_number(aid)?;
+            let wrong = contents.misreading;
+            let taken = || wrong?.taken_for_import(contents, aid);
+            let number = contents.package_number(aid).or_else(taken)?;
             let version = contents.packages[number].package.version;
             let refuses = |wrong: Misreading| wrong.refuses_import(package.version, version);
             (!contents.misreading.is_some_and(refuses)).then_some(number)
@@ -159,6 +161,11 @@ pub struct Call {
 /// kind 0, 8C implemented, 8D static, 8E non-static of kind 1?
 pub fn q18(contents: &Contents, judged: usize, codes: &[Code]) -> Option<Vec<Call>> {
     let mut meanings = Meanings::new(contents, judged);
+    let package = &contents.packages[judged].package;
+    let refuses = |wrong: Misreading| wrong.refuses_references(package);
+    if contents.misreading.is_some_and(refuses) {
+        return None;
+    }
     let mut found = Vec::new();
     for code in codes {
         let caller = MethodPlace {
@@ -175,6 +182,7 @@ pub fn q18(contents: &Contents, judged: usize, codes: &[Code]) -> Option<Vec<Cal
         for (kind, index) in code::calls(code.bytes, &starts) {
             let meant = match contents.misreading {
                 Some(Misreading::Search(wrong)) => wrong.meant(contents, judged, kind, index)?,
+                Some(Misreading::Imports(wrong)) => wrong.meant(contents, judged, kind, index)?,
                 _ => Some(meanings.of(index)?).filter(|m| fits(contents, judged, kind, m))?,
             };
             found.push(Call {

@@ -1,8 +1,9 @@
-//! Wrong readings of FE, of handlers, of limits, of domains without int and of the search for
-//! declarations. Tests show that generated sequences find them, and counts ask by them on what
+//! Wrong readings of FE, of handlers, of limits, of domains without int, of the search for
+//! declarations and of where imports lie. Tests show that generated sequences find them, and counts ask by them on what
 //! an answer hangs; the loader itself uses none.
 
 use crate::handler_faults::HandlerFault;
+use crate::misread_imports::ImportMisreading;
 use crate::misread_int::IntMisreading;
 use crate::misread_limits::LimitMisreading;
 use crate::misread_search::SearchMisreading;
@@ -86,6 +87,9 @@ pub enum Misreading {
 
     /// Something about the search for declarations.
     Search(SearchMisreading),
+
+    /// Something about where imports lie.
+    Imports(ImportMisreading),
 }
 
 impl Misreading {

@@ -58,7 +58,8 @@ impl<'c, 'a> Meanings<'c, 'a> {
         Some(Meant { named, declared })
     }
 
-    fn declaration(&mut self, index: usize, named: Place, name: u16) -> Option<MethodPlace> {
+    /// The declaration at which the search from a class ends; the index tells searches apart.
+    pub fn declaration(&mut self, index: usize, named: Place, name: u16) -> Option<MethodPlace> {
         let contents = self.contents;
         if let Some(found) = contents
             .chain(named)

@@ -76,7 +76,7 @@ impl SearchCounts {
 }
 
 /// The first no among questions 18 and 19 of the package that is added last.
-fn of_calls(contents: &Contents, domain: &[u8], codes: &[Code]) -> Result<(), u8> {
+pub(crate) fn of_calls(contents: &Contents, domain: &[u8], codes: &[Code]) -> Result<(), u8> {
     let calls = q18(contents, contents.packages.len() - 1, codes).ok_or(18)?;
     match q19(contents, domain, &calls) {
         true => Ok(()),

@@ -72,7 +72,7 @@ pub(crate) struct Load<'c, 'a> {
 
 impl Load<'_, '_> {
     /// The package that is added last.
-    fn judged(&self) -> usize {
+    pub fn judged(&self) -> usize {
         self.contents.packages.len() - 1
     }
 

@@ -111,11 +111,12 @@ fn a_declaration_of_any_form_ends_the_search() {
     assert_eq!(below(0, 0x8E), 18);
 }
 
+/// Makes a class of one kind from its parents and methods.
+type Make = fn(&[(u8, u8)], Vec<MethodModel>) -> ClassModel;
+
 #[test]
 fn forms_by_the_class_named_and_the_declaration() {
-    let classes = |named: fn(&[(u8, u8)], Vec<MethodModel>) -> ClassModel| {
-        vec![interface(&[], open()), named(&[(0, 0)], vec![])]
-    };
+    let classes = |named: Make| vec![interface(&[], open()), named(&[(0, 0)], vec![])];
     // 8B may end at an interface's declaration where the class named is of kind 0; 8E may name
     // a class of kind 0.
     let by_class = [0x8B, 0x8C, 0x8D, 0x8E].map(|o| number(classes(class), o));

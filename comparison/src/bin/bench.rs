@@ -10,6 +10,7 @@ use comparison::timing::{as_expected, measure};
 use comparison::workloads::{self, Workload};
 use independent::generate::full_stores::full_stores;
 use independent::generate::handler_cases;
+use independent::generate::import_cases;
 use independent::generate::int_cases;
 use independent::generate::kind_cases;
 use independent::generate::limit_cases;
@@ -82,7 +83,7 @@ fn processor() -> String {
 }
 
 /// Calls that reach deep: limits, lists with FE, handlers, limits of stores, kinds of domains,
-/// searches, ladders, full stores, all that is timed, and others.
+/// searches, imports, ladders, full stores, all that is timed, and others.
 fn stack_sequences<'a>(workloads: impl Iterator<Item = &'a Workload>) -> Vec<Sequence> {
     let mut found = special::lengths();
     found.extend(Version::BOTH.map(special::limits));
@@ -97,6 +98,7 @@ fn stack_sequences<'a>(workloads: impl Iterator<Item = &'a Workload>) -> Vec<Seq
     found.extend(kind_cases::meetings());
     found.extend(search_cases::places());
     found.extend(search_cases::lists());
+    found.extend(import_cases::sequences());
     found.extend(full_stores());
     found.extend(special::hostile());
     found.extend((0..300).map(sequence));

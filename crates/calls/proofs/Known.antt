@@ -8,12 +8,12 @@ use mathlib.Core.List.{List, [], _∷_}
 use Rattle.rules.specs.Bytes.{Bytes, Aid, all}
 use Rattle.rules.specs.Code.{Call, callsOf}
 use Rattle.rules.specs.Package.{Method, Class}
-use Rattle.references.specs.Kept.{inGroup, toldIn, SameTold, KeptTrue, AllTold}
+use Rattle.references.specs.Kept.{isTold, inGroup, toldIn, SameTold, KeptTrue, AllTold}
 use Rattle.references.specs.declared.Group.{Group}
 use Rattle.references.specs.declared.Told.{Told}
 use Rattle.references.specs.declared.Told.the-variants as told
 use Rattle.references.proofs.Filled.{told-known}
-use Rattle.calls.specs.Calls.{Asking, Which, asking, withGroup, withTable, isTold, callNames, callAllows, callNamesIn, callAllowsIn}
+use Rattle.calls.specs.Calls.{Asking, Which, asking, withGroup, withTable, callNames, callAllows, callNamesIn, callAllowsIn}
 use Rattle.calls.specs.Calls.{classNames, classAllows}
 use Rattle.calls.specs.Calls.{FileCallsAre}
 use Rattle.calls.proofs.Groups.{all-yes, pair}
@@ -105,12 +105,7 @@ module _ {f s : Bytes} {end : ℕ} {d : Aid} (g : Group) {t : List ℕ} (p : Kep
   table-answer = known-answer (withTable g t) n x
 
   pub full-answer : AllTold g t → FileCallsAre f s end d (withGroup g) n
-  full-answer h = told-answer (withTable g t) n x λ c e. is-told (toldIn t g (c .index)) (told-known t g (c .index) e h)
-    where
-      is-told : (r : Told) → (r ≡ told.Open → ⊥) → isTold r ≡ true
-      is-told (told.Method m) h = refl
-      is-told told.Nothing h = refl
-      is-told told.Open h = absurd (h refl)
+  full-answer h = told-answer (withTable g t) n x λ c e. told-known t g (c .index) e h
 
 -- tables that tell the same
 pub same-table : {t u : List ℕ} (g : Group) → SameTold t u → withTable g u ≡ withTable g t

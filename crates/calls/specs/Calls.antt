@@ -30,7 +30,7 @@ use Rattle.codes.specs.declared.Calling.{Calling}
 use Rattle.homes.specs.Homes.{formatAt}
 use Rattle.refusals.specs.Order.{Asks, noOf, noOfAll}
 use Rattle.references.specs.Setting.{Loading, OfJudged}
-use Rattle.references.specs.Kept.{inGroup, toldIn}
+use Rattle.references.specs.Kept.{inGroup, toldIn, isTold}
 use Rattle.references.specs.declared.Group.{Group}
 use Rattle.calls.specs.Codes.{codeTest, classTest}
 use Rattle.references.specs.declared.Told.{Told}
@@ -63,11 +63,6 @@ everyCall = asking (λ c. true)
 
 abbrev pub withGroup : Group → Which
 withGroup g = asking (λ c. inGroup g (c .index))
-
-abbrev pub isTold : Told → Bool
-isTold (told.Method x) = true
-isTold told.Nothing = true
-isTold told.Open = false
 
 abbrev pub withTable : Group → List ℕ → Which
 withTable g t = record { asked = λ c. inGroup g (c .index); known = λ c. isTold (toldIn t g (c .index)) }

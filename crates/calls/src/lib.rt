@@ -5,20 +5,22 @@ mod walk;
 
 use codes::Calling;
 use fields::u2_at;
+use homes::Loaded;
+use homes::Places;
 use references::Group;
 use references::groups;
 use refusals::first_no;
 use walk::group_calls;
 ghost use Prim.Native.Nat.{_≤_};
 ghost use mathlib.Core.Path.{_≡_};
-ghost use lib.ListN.{length};
 ghost use Rattle.rules.specs.Bytes.{aid};
 ghost use Rattle.places.specs.Reads.{Ends};
 ghost use Rattle.homes.specs.Homes.{aidAt};
+ghost use Rattle.homes.specs.Found.{ImportPlaces};
 ghost use Rattle.slots.specs.Slots.{SlotsTrue};
 ghost use Rattle.references.specs.Setting.{Judged};
 ghost use Rattle.references.specs.Named.{Lent};
-ghost use Rattle.references.specs.Kept.{keptLength};
+ghost use Rattle.references.specs.Kept.{KeptTrue};
 ghost use Rattle.calls.specs.Maps.{askerAt, askerFrom, AskerTrue};
 ghost use Rattle.calls.specs.Calls.{withGroup, CodesSplit, FileCallsAre, CallsNumberIs};
 
@@ -91,9 +93,9 @@ fn told_of(f: &[u8], s: &[u8], end: usize, domain: usize) -> Asker
     }
 }
 
-// Questions 18 and 19 of the calls that are asked with a group of references: the number of the first no, or 0. First no class above the
-// class named is asked; where a call asks for what is then open, that is searched, and the calls are asked again; all of the group is searched
-// where 18 is answered once more. What `kept` and `seen` hold before and after is of no account.
+// Questions 18 and 19 of the calls that are asked with a group of references, of which the table tells what the classes named declare
+// themselves: the number of the first no, or 0. Where a call asks for what is open that is searched, and the calls are asked again; all of the
+// group is searched where 18 is answered once more. What `seen` holds before and after is of no account.
 fn group_answer<'a>(
     f: &'a [u8],
     s: &'a [u8],
@@ -103,14 +105,14 @@ fn group_answer<'a>(
     kept: &mut [u16],
     a: Asker,
 ) -> u8
-    requires { ⌜ Judged (now f) (now s) (a .group .end) × CodesSplit (now f) × AskerTrue (now f) (now s) a × (length (now kept) ≡ keptLength) ⌝ }
+    requires { ⌜ Judged (now f) (now s) (a .group .end) × CodesSplit (now f) × AskerTrue (now f) (now s) a ⌝ }
+    requires { ⌜ KeptTrue (now f) (now s) (a .group) (now kept) ⌝ }
     requires { ⌜ Lent (now s) (a .group .end) (now packages) (now seen) ⌝ }
     requires { ⌜ SlotsTrue (now f) (now s) (now slots) ⌝ }
     ensures { λ r. ⌜ FileCallsAre (now (f .entry)) (now (s .entry)) (a .group .end) (aidAt (now (s .entry)) (a .domain)) (withGroup (a .group)) r ⌝ }
     ensures { λ _. ⌜ SlotsTrue (now (f .entry)) (now (s .entry)) (now (slots .exit)) ⌝ }
 {
     let g = a.group;
-    groups::tell_group(f, s, packages, slots, kept, g);
     let told = group_calls(f, s, kept, a);
     if told != 18 {
         return told;
@@ -120,35 +122,36 @@ fn group_answer<'a>(
     if searched != 18 {
         return searched;
     }
-    groups::name_group(f, s, packages, slots, seen, kept, g);
+    groups::search_all(f, s, packages, slots, seen, kept, g);
     group_calls(f, s, kept, a)
 }
 
-// Questions 18 and 19 of a file loaded in the domain at a place of the store and judged over the entries that end at a place, each code
-// of which splits: the number of the first no, or 0, asked for a group of references after the other. The index of these entries is lent, and
-// slots and bits; what `seen` holds before and after is of no account.
+// Questions 18 and 19 of a file that is judged, each code of which splits: the number of the first no, or 0, asked for a group of references
+// after the other. The index of the entries before it and the places of its imports are lent, slots and bits; what `seen` holds before and
+// after is of no account. The index serves the search above the class named alone.
 pub fn calls_ok<'a>(
     f: &'a [u8],
     s: &'a [u8],
-    end: usize,
-    domain: usize,
+    x: Loaded,
     packages: &[u16],
+    places: &Places,
     slots: &mut [u16],
     seen: &mut [u8],
 ) -> u8
-    requires { ⌜ Judged (now f) (now s) end × CodesSplit (now f) ⌝ }
-    requires { ⌜ Ends aid (now s) domain ⌝ }
-    requires { ⌜ Lent (now s) end (now packages) (now seen) ⌝ }
+    requires { ⌜ Judged (now f) (now s) (x .end) × CodesSplit (now f) ⌝ }
+    requires { ⌜ Ends aid (now s) (x .domain) × ImportPlaces (now f) (now s) (x .end) (now places) ⌝ }
+    requires { ⌜ Lent (now s) (x .end) (now packages) (now seen) ⌝ }
     requires { ⌜ SlotsTrue (now f) (now s) (now slots) ⌝ }
-    ensures { λ r. ⌜ CallsNumberIs (now (f .entry)) (now (s .entry)) end (aidAt (now (s .entry)) domain) r ⌝ }
+    ensures { λ r. ⌜ CallsNumberIs (now (f .entry)) (now (s .entry)) (x .end) (aidAt (now (s .entry)) (x .domain)) r ⌝ }
 {
     let mut kept = [0u16; 192];
-    let told = told_of(f, s, end, domain);
+    let told = told_of(f, s, x.end, x.domain);
     let mut first = 0;
     let mut number = 0;
     loop {
         let a = asker_from(told, first);
         let g = a.group;
+        groups::tell_group(f, s, places, &mut *slots, &mut kept, g);
         let n = group_answer(f, s, packages, &mut *slots, &mut *seen, &mut kept, a);
         number = first_no(number, n);
         first += 32;

@@ -43,7 +43,7 @@ fn call_answer<'a>(
     match groups::told_in(kept, g, c.reference) {
         Told::Method(x) => meant_answer(f, s, map, a, x, c),
         Told::Nothing => 18,
-        Told::Open => {
+        Told::Open(_, _) => {
             groups::want_in(kept, g, c.reference);
             18
         }

@@ -21,7 +21,7 @@ use Rattle.files.specs.Say as files
 use Rattle.files.specs.declared.Spot.the-variants.{At, Nothing}
 use Rattle.files.proofs.Walks.{imports-read}
 use Rattle.homes.specs.Homes.{Imports, HomeIs, ClassPlaced}
-use Rattle.homes.specs.Found.{ImportHomes}
+use Rattle.homes.specs.Found.{ImportPlaces}
 use Rattle.named.specs.Named.{Judged, OfJudged, homeOf, PackageThere, ClassFrom, RowTrue, Beside, RowsTrue}
 use Rattle.named.proofs.Numbers.{number-home, rows-written}
 use Rattle.named.proofs.Rows.{from-front, at-none, classes-few}
@@ -73,20 +73,20 @@ module _ (f s : Bytes) (end : ℕ) where
         go zero h = absurd (omega arith)
         go (suc q) h = rw (at-none (self .pack .imports) q (omega arith))
 
-    module _ (t : List ℕ) (i : ImportHomes f s end t) (g : PackageThere f p) where
+    module _ (t : List ℕ) (i : ImportPlaces f s end t) (g : PackageThere f p) where
       exists-as : (b : Bool) → (OfJudged f s end λ es self. (y : Installed) → packageNumbered (installed (storeLimits s) es) self p ≡ some y → HomeIs f s
-          end es self (homeOf end t p) y → b ≡ isSome (at (y .pack .classes) c)) →
+          end es self (homeOf s end t p) y → b ≡ isSome (at (y .pack .classes) c)) →
           (d r : Bool) → eqb p 0 ≡ d → r ≡ (b && (not d || ltb c n)) → ExistsIs f s end n (record { pack = p; class = c }) r
       exists-as b q d r z w es self j =
           let y = number-home f s end t i p g es self j in
           w ∙ ap₂ (λ (u v : Bool). u && (not v || ltb c n)) (q es self j (y .0) (y .1) (y .2)) (sym z) ∙ sym
           (exists-some (installed (storeLimits s) es) self (y .0) n p c (y .1))
 
-      pub exists-at : (k : ℕ) → ClassPlaced f s (homeOf end t p) c (At k) → (d r : Bool) → eqb p 0 ≡ d → r ≡ (not d || ltb c n) → ExistsIs f s end n
+      pub exists-at : (k : ℕ) → ClassPlaced f s (homeOf s end t p) c (At k) → (d r : Bool) → eqb p 0 ≡ d → r ≡ (not d || ltb c n) → ExistsIs f s end n
           (record { pack = p; class = c }) r
       exists-at k q = exists-as true λ es self j y e h. let z = placed-at (q end es self j y h) in rw (z .2)
 
-      pub exists-not : ClassPlaced f s (homeOf end t p) c Nothing → ExistsIs f s end n (record { pack = p; class = c }) false
+      pub exists-not : ClassPlaced f s (homeOf s end t p) c Nothing → ExistsIs f s end n (record { pack = p; class = c }) false
       exists-not q = exists-as false (λ es self j y e h. rw (placed-none (q end es self j y h))) (eqb p 0) false refl refl
 
   -- the parents of own class n, whose record stands at a place, from parent i on are left

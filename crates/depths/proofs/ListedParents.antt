@@ -15,7 +15,7 @@ use Rattle.rules.proofs.Tests.{and-l, all-mem, allFrom-zero}
 use Rattle.rules.proofs.Lists.{at-mem, some-is, at-below}
 use Rattle.homes.specs.Homes.{Parents, ownHome, HomeIs}
 use Rattle.homes.specs.Homes as homes
-use Rattle.homes.specs.Found.{ImportHomes}
+use Rattle.homes.specs.Found.{ImportPlaces}
 use Rattle.homes.specs.declared.Home.{Home}
 use Rattle.homes.proofs.Homes.{parent-smaller, home-reads}
 use Rattle.named.specs.Named.{Judged, homeOf, PackageThere, ClassFrom}
@@ -51,16 +51,16 @@ judged-here f s end g = (g .0, g .1, g .2 .imported)
 -- parent i of own class n, which is listed as class c of package b: an own one has a smaller number
 pub record Listed (f s : Bytes) (end n i : ℕ) (t : List ℕ) (b c : ℕ) : Type 0 where
   pub there : PackageThere f b
-  pub class : ClassThere f s end (homeOf end t b) c
+  pub class : ClassThere f s end (homeOf s end t b) c
   pub smaller : b ≡ 0 → c < n
-  pub is : ParentIs f s end n i (homeOf end t b) c
+  pub is : ParentIs f s end n i (homeOf s end t b) c
 
 module _ (f s : Bytes) (end n a : ℕ) (q : ClassFrom f n a) where
   pub class-by : (es : List Entry) (self x : Installed) (k : Class) → ClassIs f s end (ownHome end) n es self x k → RecordBy f a k
   class-by es self x k c = record-by (storeLimits s) f (x .pack) n a k (home-reads f s end es self (c .parents .imported .setting) (ownHome end) x
       (c .home)) q (c .is)
 
-  module _ (t : List ℕ) (u : ImportHomes f s end t) (r : ℕ) (few : ImportCount f r) (i m b c : ℕ) (z : m ≡ getD f (a + 1) 0) (h : i < m)
+  module _ (t : List ℕ) (u : ImportPlaces f s end t) (r : ℕ) (few : ImportCount f r) (i m b c : ℕ) (z : m ≡ getD f (a + 1) 0) (h : i < m)
       (zb : b ≡ getD f (a + 2 + 2 * i) 0) (zc : c ≡ getD f (a + 3 + 2 * i) 0) where
     -- the listed parent, by its bytes and as a class that exists
     pub record Lists (es : List Entry) (self : Installed) (k : Class) : Type 0 where
@@ -111,13 +111,13 @@ module _ (f s : Bytes) (end n a : ℕ) (q : ClassFrom f n a) where
           (at-mem (y .0 .parents) i (one .number) (one .listed)) (sym (one .pack) ∙ e) in
           omega (arith, v, one .class)
 
-      parent-is : ParentIs f s end n i (homeOf end t b) c
-      parent-is es self x k d = subst (λ (v : Installed). ParentAt f s end es self v k i (homeOf end t b) c) (sym e) here
+      parent-is : ParentIs f s end n i (homeOf s end t b) c
+      parent-is es self x k d = subst (λ (v : Installed). ParentAt f s end es self v k i (homeOf s end t b) c) (sym e) here
         where
           e : x ≡ self
           e = own-same f s end es self (ownHome end) x (d .home) refl
 
-          here : ParentAt f s end es self self k i (homeOf end t b) c
+          here : ParentAt f s end es self self k i (homeOf s end t b) c
           here =
               let l = lists es self (d .parents) k (ap (λ (v : Installed). at (v .pack .classes) n) (sym e) ∙ d .is) in
               let y = number-home f s end t u b package-there es self (d .parents .imported) in
@@ -132,11 +132,11 @@ module _ (f s : Bytes) (end n a : ℕ) (q : ClassFrom f n a) where
                 named = m;
                 class = l .record′;
                 there = record
-                    { parents = d .parents; home = subst (HomeIs f s end es self (homeOf end t b)) v (y .2); is = l .there };
+                    { parents = d .parents; home = subst (HomeIs f s end es self (homeOf s end t b)) v (y .2); is = l .there };
               }
 
       -- it is a class
-      parent-class : ClassThere f s end (homeOf end t b) c
+      parent-class : ClassThere f s end (homeOf s end t b) c
       parent-class =
           let y = own-at f s end n a q (g .0) (g .1) (g .2 .imported) in
           let p = parent-is (g .0) (g .1) (g .1) (y .0) (record { parents = g .2; home = homes.own; is = y .1 }) in

@@ -5,7 +5,8 @@ use super::parents::import_count;
 use super::parents::parent_at;
 use super::parents::parent_count;
 use files::Spot;
-ghost use Rattle.homes.specs.Found.{ImportHomes};
+use homes::Places;
+ghost use Rattle.homes.specs.Found.{ImportPlaces};
 ghost use Rattle.named.specs.Named.{Judged, ClassFrom, RowsTrue};
 ghost use Rattle.depths.specs.Depths.{ImportCount, ExistsIs, AllExist, ParentsExist};
 
@@ -13,21 +14,21 @@ ghost use Rattle.depths.specs.Depths.{ImportCount, ExistsIs, AllExist, P
 fn parent_exists<'a>(
     f: &'a [u8],
     s: &'a [u8],
-    homes: &[usize; 48],
+    places: &Places,
     rows: &mut [u16],
     o: Own,
     p: usize,
     c: usize,
 ) -> bool
-    requires { ⌜ Judged (now f) (now s) (o .end) × ImportHomes (now f) (now s) (o .end) (now homes) ⌝ }
-    requires { ⌜ ImportCount (now f) (o .imports) × RowsTrue (now f) (now s) (o .end) (now homes) (now rows) ⌝ }
+    requires { ⌜ Judged (now f) (now s) (o .end) × ImportPlaces (now f) (now s) (o .end) (now places) ⌝ }
+    requires { ⌜ ImportCount (now f) (o .imports) × RowsTrue (now f) (now s) (o .end) (now places) (now rows) ⌝ }
     ensures { λ r. ⌜ ExistsIs (now (f .entry)) (now (s .entry)) (o .end) (o .number) (record { pack = p; class = c }) r ⌝ }
-    ensures { λ _. ⌜ RowsTrue (now (f .entry)) (now (s .entry)) (o .end) (now (homes .entry)) (now (rows .exit)) ⌝ }
+    ensures { λ _. ⌜ RowsTrue (now (f .entry)) (now (s .entry)) (o .end) (now (places .entry)) (now (rows .exit)) ⌝ }
 {
     if o.imports < p {
         return false;
     }
-    match named::class_in(f, s, o.end, homes, rows, p, c) {
+    match named::class_in(f, s, o.end, places, rows, p, c) {
         Spot::At(_) => {
             if p != 0 {
                 return true;
@@ -42,21 +43,21 @@ fn parent_exists<'a>(
 fn class_parents_exist<'a>(
     f: &'a [u8],
     s: &'a [u8],
-    homes: &[usize; 48],
+    places: &Places,
     rows: &mut [u16],
     o: Own,
 ) -> bool
-    requires { ⌜ Judged (now f) (now s) (o .end) × ImportHomes (now f) (now s) (o .end) (now homes) ⌝ }
-    requires { ⌜ ImportCount (now f) (o .imports) × RowsTrue (now f) (now s) (o .end) (now homes) (now rows) ⌝ }
+    requires { ⌜ Judged (now f) (now s) (o .end) × ImportPlaces (now f) (now s) (o .end) (now places) ⌝ }
+    requires { ⌜ ImportCount (now f) (o .imports) × RowsTrue (now f) (now s) (o .end) (now places) (now rows) ⌝ }
     requires { ⌜ ClassFrom (now f) (o .number) (o .place) ⌝ }
     ensures { λ r. ⌜ AllExist (now (f .entry)) (now (s .entry)) (o .end) (o .number) r ⌝ }
-    ensures { λ _. ⌜ RowsTrue (now (f .entry)) (now (s .entry)) (o .end) (now (homes .entry)) (now (rows .exit)) ⌝ }
+    ensures { λ _. ⌜ RowsTrue (now (f .entry)) (now (s .entry)) (o .end) (now (places .entry)) (now (rows .exit)) ⌝ }
 {
     let k = parent_count(f, o.place);
     let mut i = 0;
     while i < k {
         let x = parent_at(f, o.place, i);
-        if !parent_exists(f, s, homes, rows, o, x.pack, x.class) {
+        if !parent_exists(f, s, places, rows, o, x.pack, x.class) {
             return false;
         }
         i += 1;
@@ -68,14 +69,14 @@ fn class_parents_exist<'a>(
 pub fn parents_exist<'a>(
     f: &'a [u8],
     s: &'a [u8],
-    homes: &[usize; 48],
+    places: &Places,
     rows: &mut [u16],
     b: Bounds,
 ) -> bool
-    requires { ⌜ Judged (now f) (now s) (b .end) × ImportHomes (now f) (now s) (b .end) (now homes) ⌝ }
-    requires { ⌜ RowsTrue (now f) (now s) (b .end) (now homes) (now rows) ⌝ }
+    requires { ⌜ Judged (now f) (now s) (b .end) × ImportPlaces (now f) (now s) (b .end) (now places) ⌝ }
+    requires { ⌜ RowsTrue (now f) (now s) (b .end) (now places) (now rows) ⌝ }
     ensures { λ r. ⌜ ParentsExist (now (f .entry)) (now (s .entry)) (b .end) r ⌝ }
-    ensures { λ _. ⌜ RowsTrue (now (f .entry)) (now (s .entry)) (b .end) (now (homes .entry)) (now (rows .exit)) ⌝ }
+    ensures { λ _. ⌜ RowsTrue (now (f .entry)) (now (s .entry)) (b .end) (now (places .entry)) (now (rows .exit)) ⌝ }
 {
     let imports = import_count(f);
     let mut n = 0;
@@ -85,7 +86,7 @@ pub fn parents_exist<'a>(
                 if !class_parents_exist(
                     f,
                     s,
-                    homes,
+                    places,
                     rows,
                     Own {
                         end: b.end,

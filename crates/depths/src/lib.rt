@@ -7,6 +7,7 @@ pub mod table;
 use existence::parents_exist;
 use fields::wide;
 use files::Spot;
+use homes::Places;
 use parents::flag;
 use parents::import_count;
 use parents::larger;
@@ -16,7 +17,7 @@ ghost use Prim.Native.Nat.{suc, _+_, _≤_, _<_};
 ghost use lib.ListN.{length};
 ghost use Rattle.rules.specs.Package.{mostClasses};
 ghost use Rattle.rules.specs.Store.{storeLimits};
-ghost use Rattle.homes.specs.Found.{ImportHomes};
+ghost use Rattle.homes.specs.Found.{ImportPlaces};
 ghost use Rattle.named.specs.Named.{Judged, ClassFrom, RowsTrue};
 ghost use Rattle.depths.specs.Depths.{ParentsThere, ImportCount, capped, DepthsKept, OwnTo, OwnIs, LaterParts, ParentedIs, OwnTold};
 
@@ -56,22 +57,22 @@ fn one_more(d: usize, most: usize) -> usize
 fn own_depth<'a>(
     f: &'a [u8],
     s: &'a [u8],
-    homes: &[usize; 48],
+    places: &Places,
     rows: &mut [u16],
     t: &[u8],
     depths: &[u8],
     o: Own,
 ) -> usize
-    requires { ⌜ ParentsThere (now f) (now s) (o .end) × ImportHomes (now f) (now s) (o .end) (now homes) ⌝ }
+    requires { ⌜ ParentsThere (now f) (now s) (o .end) × ImportPlaces (now f) (now s) (o .end) (now places) ⌝ }
     requires { ⌜ ImportCount (now f) (o .imports) × ClassFrom (now f) (o .number) (o .place) ⌝ }
-    requires { ⌜ RowsTrue (now f) (now s) (o .end) (now homes) (now rows) ⌝ }
+    requires { ⌜ RowsTrue (now f) (now s) (o .end) (now places) (now rows) ⌝ }
     requires { ⌜ DepthsKept (now s) (o .end) (now t) × (length (now s) ≤ 65535) × OwnTo (now f) (now s) (o .end) (o .number) (now depths) ⌝ }
     requires { ⌜ o .most ≡ storeLimits (now s) .depth ⌝ }
     ensures { λ r. ⌜ OwnIs (now (f .entry)) (now (s .entry)) (o .end) (o .number) r × (r ≤ o .most + 1) ⌝ }
-    ensures { λ _. ⌜ RowsTrue (now (f .entry)) (now (s .entry)) (o .end) (now (homes .entry)) (now (rows .exit)) ⌝ }
+    ensures { λ _. ⌜ RowsTrue (now (f .entry)) (now (s .entry)) (o .end) (now (places .entry)) (now (rows .exit)) ⌝ }
 {
     let a = o.place;
-    let w = own_parents(f, s, homes, rows, t, depths, o);
+    let w = own_parents(f, s, places, rows, t, depths, o);
     if flag(wide(f[a])) < w.kind0 {
         return 0;
     }
@@ -82,18 +83,18 @@ fn own_depth<'a>(
 fn depths_ok<'a>(
     f: &'a [u8],
     s: &'a [u8],
-    homes: &[usize; 48],
+    places: &Places,
     rows: &mut [u16],
     t: &[u8],
     depths: &mut [u8],
     b: Bounds,
 ) -> Parented
-    requires { ⌜ ParentsThere (now f) (now s) (b .end) × ImportHomes (now f) (now s) (b .end) (now homes) ⌝ }
-    requires { ⌜ RowsTrue (now f) (now s) (b .end) (now homes) (now rows) ⌝ }
+    requires { ⌜ ParentsThere (now f) (now s) (b .end) × ImportPlaces (now f) (now s) (b .end) (now places) ⌝ }
+    requires { ⌜ RowsTrue (now f) (now s) (b .end) (now places) (now rows) ⌝ }
     requires { ⌜ DepthsKept (now s) (b .end) (now t) × (length (now s) ≤ 65535) ⌝ }
     requires { ⌜ (b .most ≡ storeLimits (now s) .depth) × (length (now depths) ≡ mostClasses) ⌝ }
     ensures { λ r. ⌜ LaterParts (now (f .entry)) (now (s .entry)) (b .end) (now (depths .exit)) r ⌝ }
-    ensures { λ _. ⌜ RowsTrue (now (f .entry)) (now (s .entry)) (b .end) (now (homes .entry)) (now (rows .exit)) ⌝ }
+    ensures { λ _. ⌜ RowsTrue (now (f .entry)) (now (s .entry)) (b .end) (now (places .entry)) (now (rows .exit)) ⌝ }
 {
     let imports = import_count(f);
     let mut n = 0;
@@ -104,7 +105,7 @@ fn depths_ok<'a>(
                 let d = own_depth(
                     f,
                     s,
-                    homes,
+                    places,
                     rows,
                     t,
                     depths,
@@ -138,22 +139,22 @@ fn depths_ok<'a>(
 pub fn parents_ok<'a>(
     f: &'a [u8],
     s: &'a [u8],
-    homes: &[usize; 48],
+    places: &Places,
     rows: &mut [u16],
     t: &[u8],
     depths: &mut [u8],
     b: Bounds,
 ) -> Parented
-    requires { ⌜ Judged (now f) (now s) (b .end) × ImportHomes (now f) (now s) (b .end) (now homes) ⌝ }
-    requires { ⌜ RowsTrue (now f) (now s) (b .end) (now homes) (now rows) ⌝ }
+    requires { ⌜ Judged (now f) (now s) (b .end) × ImportPlaces (now f) (now s) (b .end) (now places) ⌝ }
+    requires { ⌜ RowsTrue (now f) (now s) (b .end) (now places) (now rows) ⌝ }
     requires { ⌜ DepthsKept (now s) (b .end) (now t) × (length (now s) ≤ 65535) ⌝ }
     requires { ⌜ (b .most ≡ storeLimits (now s) .depth) × (length (now depths) ≡ mostClasses) ⌝ }
     ensures { λ r. ⌜ ParentedIs (now (f .entry)) (now (s .entry)) (b .end) r ⌝ }
     ensures { λ r. ⌜ OwnTold (now (f .entry)) (now (s .entry)) (b .end) (now (depths .exit)) r ⌝ }
-    ensures { λ _. ⌜ RowsTrue (now (f .entry)) (now (s .entry)) (b .end) (now (homes .entry)) (now (rows .exit)) ⌝ }
+    ensures { λ _. ⌜ RowsTrue (now (f .entry)) (now (s .entry)) (b .end) (now (places .entry)) (now (rows .exit)) ⌝ }
 {
-    if !parents_exist(f, s, homes, rows, b) {
+    if !parents_exist(f, s, places, rows, b) {
         return Parented::No;
     }
-    depths_ok(f, s, homes, rows, t, depths, b)
+    depths_ok(f, s, places, rows, t, depths, b)
 }

@@ -3,13 +3,14 @@ use super::Own;
 use super::table;
 use fields::wide;
 use files::Spot;
+use homes::Places;
 ghost use mathlib.Core.Path.{_≡_};
 ghost use Prim.Native.Nat.{max, _+_, _*_, _≤_, _<_};
 ghost use lib.ListN.{length, getD};
 ghost use Rattle.rules.specs.Store.{storeLimits};
 ghost use Rattle.files.specs.Say.{Readable};
 ghost use Rattle.homes.specs.Homes.{ownHome};
-ghost use Rattle.homes.specs.Found.{ImportHomes};
+ghost use Rattle.homes.specs.Found.{ImportPlaces};
 ghost use Rattle.named.specs.Named.{homeOf, PackageThere, ClassFrom, RowsTrue};
 ghost use Rattle.depths.specs.Depths.{ParentsThere, ImportCount, ClassThere, Kind0Is, Kind0Count, DepthIs, DeepestIs, depthWidth, DepthsKept, OwnTo};
 
@@ -74,22 +75,22 @@ pub fn flag(kind: usize) -> usize
 fn parent_told<'a>(
     f: &'a [u8],
     s: &'a [u8],
-    homes: &[usize; 48],
+    places: &Places,
     rows: &mut [u16],
     t: &[u8],
     depths: &[u8],
     x: Listed,
 ) -> Told
-    requires { ⌜ ImportHomes (now f) (now s) (x .end) (now homes) × PackageThere (now f) (x .pack) ⌝ }
-    requires { ⌜ ClassThere (now f) (now s) (x .end) (homeOf (x .end) (now homes) (x .pack)) (x .class) ⌝ }
-    requires { ⌜ RowsTrue (now f) (now s) (x .end) (now homes) (now rows) ⌝ }
+    requires { ⌜ ImportPlaces (now f) (now s) (x .end) (now places) × PackageThere (now f) (x .pack) ⌝ }
+    requires { ⌜ ClassThere (now f) (now s) (x .end) (homeOf (now s) (x .end) (now places) (x .pack)) (x .class) ⌝ }
+    requires { ⌜ RowsTrue (now f) (now s) (x .end) (now places) (now rows) ⌝ }
     requires { ⌜ DepthsKept (now s) (x .end) (now t) × (length (now s) ≤ 65535) × (x .width ≡ depthWidth (now s)) ⌝ }
     requires { ⌜ (x .pack ≡ 0 → (x .class < length (now depths)) × DepthIs (now f) (now s) (x .end) (ownHome (x .end)) (x .class) (getD (now depths) (x .class) 0)) ⌝ }
-    ensures { λ r. ⌜ Kind0Is (now (f .entry)) (now (s .entry)) (x .end) (homeOf (x .end) (now (homes .entry)) (x .pack)) (x .class) (r .kind0) × (r .kind0 ≤ 1) ⌝ }
-    ensures { λ r. ⌜ DepthIs (now (f .entry)) (now (s .entry)) (x .end) (homeOf (x .end) (now (homes .entry)) (x .pack)) (x .class) (r .depth) × (r .depth < 256) ⌝ }
-    ensures { λ _. ⌜ RowsTrue (now (f .entry)) (now (s .entry)) (x .end) (now (homes .entry)) (now (rows .exit)) ⌝ }
+    ensures { λ r. ⌜ Kind0Is (now (f .entry)) (now (s .entry)) (x .end) (homeOf (now (s .entry)) (x .end) (now (places .entry)) (x .pack)) (x .class) (r .kind0) × (r .kind0 ≤ 1) ⌝ }
+    ensures { λ r. ⌜ DepthIs (now (f .entry)) (now (s .entry)) (x .end) (homeOf (now (s .entry)) (x .end) (now (places .entry)) (x .pack)) (x .class) (r .depth) × (r .depth < 256) ⌝ }
+    ensures { λ _. ⌜ RowsTrue (now (f .entry)) (now (s .entry)) (x .end) (now (places .entry)) (now (rows .exit)) ⌝ }
 {
-    let h = named::home_at(x.end, homes, x.pack);
+    let h = named::home_at(s, x.end, places, x.pack);
     let g = homes::file_of(f, s, h);
     match named::stands_at(g, rows, 32 * x.pack, x.class) {
         Spot::At(i) => Told {
@@ -111,20 +112,20 @@ pub fn larger(a: usize, b: usize) -> usize
 pub fn own_parents<'a>(
     f: &'a [u8],
     s: &'a [u8],
-    homes: &[usize; 48],
+    places: &Places,
     rows: &mut [u16],
     t: &[u8],
     depths: &[u8],
     o: Own,
 ) -> Told
-    requires { ⌜ ParentsThere (now f) (now s) (o .end) × ImportHomes (now f) (now s) (o .end) (now homes) ⌝ }
+    requires { ⌜ ParentsThere (now f) (now s) (o .end) × ImportPlaces (now f) (now s) (o .end) (now places) ⌝ }
     requires { ⌜ ImportCount (now f) (o .imports) × ClassFrom (now f) (o .number) (o .place) ⌝ }
-    requires { ⌜ RowsTrue (now f) (now s) (o .end) (now homes) (now rows) ⌝ }
+    requires { ⌜ RowsTrue (now f) (now s) (o .end) (now places) (now rows) ⌝ }
     requires { ⌜ DepthsKept (now s) (o .end) (now t) × (length (now s) ≤ 65535) × OwnTo (now f) (now s) (o .end) (o .number) (now depths) ⌝ }
     requires { ⌜ o .most ≡ storeLimits (now s) .depth ⌝ }
     ensures { λ r. ⌜ Kind0Count (now (f .entry)) (now (s .entry)) (o .end) (ownHome (o .end)) (o .number) (r .kind0) ⌝ }
     ensures { λ r. ⌜ DeepestIs (now (f .entry)) (now (s .entry)) (o .end) (ownHome (o .end)) (o .number) (r .depth) ⌝ }
-    ensures { λ _. ⌜ RowsTrue (now (f .entry)) (now (s .entry)) (o .end) (now (homes .entry)) (now (rows .exit)) ⌝ }
+    ensures { λ _. ⌜ RowsTrue (now (f .entry)) (now (s .entry)) (o .end) (now (places .entry)) (now (rows .exit)) ⌝ }
 {
     let k = parent_count(f, o.place);
     let width = table::width_of(o.most);
@@ -139,7 +140,7 @@ pub fn own_parents<'a>(
             pack: x.pack,
             class: x.class,
         };
-        let w = parent_told(f, s, homes, rows, t, depths, y);
+        let w = parent_told(f, s, places, rows, t, depths, y);
         found += w.kind0;
         deepest = larger(w.depth, deepest);
         i += 1;

@@ -15,6 +15,13 @@ pub fn wide(x: u8) -> usize
     x as usize
 }
 
+// A number of two bytes.
+pub fn long(x: u16) -> usize
+    ensures { λ r. ⌜ (r ≡ x) × (r ≤ 65535) ⌝ }
+{
+    x as usize
+}
+
 // The u2 at a place.
 pub fn u2_at(s: &[u8], at: usize) -> usize
     requires { ⌜ at + 1 < length (now s) ⌝ }

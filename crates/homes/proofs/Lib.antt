@@ -4,3 +4,4 @@ pub mod Homes
 pub mod Earlier
 pub mod Lookups
 pub mod Domains
+pub mod Imported

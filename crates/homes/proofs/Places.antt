@@ -34,10 +34,15 @@ home-by s p d f j t =
     let b = package-by s p d f j t in
     record { file = b .file ∙ ap (part s (fileFrom s p)) (sym (b .to)); to = b .to; inside = omega arith; order = omega (arith, b .inside, b .to) }
 
+-- a file that stands as a part of an entry lies at the home of the entry's place
+pub entry-home : (s : Bytes) (i j k : ℕ) (d : Aid) → EntryAt s i (loaded d (part s j k)) k → j ≤ k →
+    _≡_ {A = Home} (record { from = j; to = k; before = i }) (homeOf s i)
+entry-home s i j k d t order =
+    let b = home-by s i d (part s j k) k t in
+    let m = part-length s j k (t .to) in
+    let n = part-length s (homeOf s i .from) (homeOf s i .to) (omega (arith, b .to, t .to)) in
+    home-is s i j k (omega (arith, ap length (b .file), m, n, b .to, b .order, order)) (sym (b .to))
+
 -- a stored package's home is that of its entry's place
 pub stored-home : {s : Bytes} {es : List Entry} {h : Home} {x : Installed} → Stored s es h x → h ≡ homeOf s (h .before)
-stored-home {s} {es} {h} {x} t =
-    let b = home-by s (h .before) (x .domain) (part s (h .from) (h .to)) (h .to) (t .entry) in
-    let m = part-length s (h .from) (h .to) (t .entry .to) in
-    let n = part-length s (homeOf s (h .before) .from) (homeOf s (h .before) .to) (omega (arith, b .to, t .entry .to)) in
-    home-is s (h .before) (h .from) (h .to) (omega (arith, ap length (b .file), m, n, b .to, b .order, t .order)) (sym (b .to))
+stored-home {s} {es} {h} {x} t = entry-home s (h .before) (h .from) (h .to) (x .domain) (t .entry) (t .order)

@@ -1,4 +1,5 @@
 // Where the file of a package lies: the file being judged, or a part of the store. Packages by number, classes by number.
+use fields::long;
 use files::Spot;
 use store::FileSpot;
 ghost use mathlib.Core.Path.{_≡_};
@@ -7,7 +8,7 @@ ghost use lib.ListN.{length};
 ghost use Rattle.rules.specs.Bytes.{aid};
 ghost use Rattle.places.specs.Reads.{Ends};
 ghost use Rattle.files.specs.Say.{Readable};
-ghost use Rattle.homes.specs.Found.{Indexed};
+ghost use Rattle.homes.specs.Found.{placesLength, Indexed, homeNumbered, PlacesStand};
 ghost use Rattle.homes.specs.Homes.{ownHome, homeOf, PackageFrom, fileOf, aidAt, domainPlace, HomeThere, ByAid, ImportPlaced, NumberedIs};
 
 // The bounds of a file in the store, and the place where the entries before it end; 0 and 0 for the file being judged.
@@ -22,6 +23,15 @@ pub enum HomeFound {
     At(Home),
     Nothing,
 }
+
+// A file that is judged: where the entries before it end, and where in the store the AID of the domain that it is loaded into stands.
+pub struct Loaded {
+    pub end: usize,
+    pub domain: usize,
+}
+
+// The places of the entries of a file's imports, 0 behind the last one.
+pub type Places = [u16; 15];
 
 // The home of the file being judged, behind the entries that end at a place.
 pub fn own_home(end: usize) -> Home
@@ -118,4 +128,23 @@ pub fn numbered<'a>(
         Spot::At(i) => by_aid(s, end, index, files::aid_bytes(g, i)),
         Spot::Nothing => HomeFound::Nothing,
     }
+}
+
+// The home of the package that a package number stands for in the file being judged, by the places of its imports: 0 its own, k that of its k-th
+// import, nothing where it has no such import.
+pub fn placed(s: &[u8], end: usize, places: &Places, p: usize) -> HomeFound
+    requires { ⌜ (length (now places) ≡ placesLength) × PlacesStand (now s) (now places) ⌝ }
+    ensures { λ r. ⌜ r ≡ homeNumbered (now (s .entry)) end (now (places .entry)) p ⌝ }
+{
+    if p == 0 {
+        return HomeFound::At(own_home(end));
+    }
+    if 15 < p {
+        return HomeFound::Nothing;
+    }
+    let place = long(places[p - 1]);
+    if place == 0 {
+        return HomeFound::Nothing;
+    }
+    HomeFound::At(home_at(s, place))
 }

@@ -1,14 +1,14 @@
 // Questions 12 and 13 of a file over the entries that end at a place: is it new, is each import installed, and where?
 use fields::wide;
 use files::Spot;
-use homes::Home;
 use homes::HomeFound;
+use homes::Places;
 use store::FileSpot;
 ghost use mathlib.Core.Path.{_≡_};
-ghost use Prim.Native.Nat.{_+_, _*_, _<_};
-ghost use lib.ListN.{length, set};
+ghost use Prim.Native.Nat.{ℕ, _≤_};
+ghost use lib.ListN.{length, getD};
 ghost use Rattle.index.specs.Index.{IndexIs};
-ghost use Rattle.homes.specs.Found.{ImportHomes};
+ghost use Rattle.homes.specs.Found.{placesLength, ImportPlaces};
 ghost use Rattle.imports.specs.Say.{SettingThere, NewIs, ImportsIs, ImportThere, ImportHomeIs};
 
 // 12. Is the package AID not installed?
@@ -35,23 +35,13 @@ fn import_home(f: &[u8], s: &[u8], end: usize, index: &[u16], at: usize, k: usiz
     }
 }
 
-// Puts a home into the table for import k.
-fn put_home(homes: &mut [usize; 48], k: usize, h: Home)
-    requires { ⌜ (length (now homes) ≡ 48) × (k < 16) ⌝ }
-    ensures { λ _. ⌜ now (homes .exit) ≡ set (set (set (now (homes .entry)) (3 * k) (h .from)) (3 * k + 1) (h .to)) (3 * k + 2) (h .before) ⌝ }
-{
-    homes[3 * k] = h.from;
-    homes[3 * k + 1] = h.to;
-    homes[3 * k + 2] = h.before;
-}
-
-// 13. Is each import installed? Their homes go into the table.
-pub fn imports_there(f: &[u8], s: &[u8], end: usize, index: &[u16], homes: &mut [usize; 48]) -> bool
-    requires { ⌜ SettingThere (now f) (now s) end ⌝ }
+// 13. Is each import installed? The places of their entries go into the table, which has none before.
+pub fn imports_there(f: &[u8], s: &[u8], end: usize, index: &[u16], places: &mut Places) -> bool
+    requires { ⌜ SettingThere (now f) (now s) end × (length (now s) ≤ 65535) ⌝ }
     requires { ⌜ IndexIs (now s) end (now index) ⌝ }
-    requires { ⌜ length (now homes) ≡ 48 ⌝ }
+    requires { ⌜ (length (now places) ≡ placesLength) × ((k : ℕ) → getD (now places) k 0 ≡ 0) ⌝ }
     ensures { λ r. ⌜ ImportsIs (now (f .entry)) (now (s .entry)) end r ⌝ }
-    ensures { λ _. ⌜ ImportHomes (now (f .entry)) (now (s .entry)) end (now (homes .exit)) ⌝ }
+    ensures { λ _. ⌜ ImportPlaces (now (f .entry)) (now (s .entry)) end (now (places .exit)) ⌝ }
 {
     let at = files::imports_at(f);
     let count = wide(f[at]);
@@ -59,7 +49,7 @@ pub fn imports_there(f: &[u8], s: &[u8], end: usize, index: &[u16], homes: &mut 
     while k < count {
         match import_home(f, s, end, index, at, k) {
             HomeFound::At(h) => {
-                put_home(homes, k, h);
+                places[k] = h.before as u16;
                 k += 1;
             }
             HomeFound::Nothing => {

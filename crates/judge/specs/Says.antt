@@ -9,8 +9,9 @@
 -- NumberFrom k s end d f r  == r is the number of a load's questions from k on, those before it answered yes
 -- NumberBefore k m ..       == the same, of the questions from k on that stand before m: 0 where they are answered yes
 -- fileAsks s es d f         == a load's questions from 10 on
--- ParentsAnswer s end f r   == questions 10 to 14 of a file; DepthsTold == what is found with a yes
+-- ParentsAnswer s end f r   == questions 10 to 14 of a file; TablesTold == what is found with a yes
 -- DomainTold s end f x      == x tells where the AID of the loading domain stands, and whether 26 is asked of the file f
+-- loadingOf x               == the domain that a file which is judged is loaded into
 -- SubsetTold s end d f b    == 26 of the file f, where b says that it is asked, is the load's
 -- SubsetIs f b r            == r is the answer to 26 of the file f, where b says that it is asked
 -- InsideAnswer s end d f r  == questions 10 to 19 of a file
@@ -38,6 +39,7 @@ use Rattle.store.specs.Entries.{part, EntryAt, Entries}
 use Rattle.store.specs.Sound.{Over}
 use Rattle.places.specs.Reads.{Ends}
 use Rattle.homes.specs.Homes.{aidAt}
+use Rattle.homes.specs.Found.{ImportPlaces}
 use Rattle.chains.specs.Names.{namesLength}
 use Rattle.classes.specs.Keys.{seenLength}
 use Rattle.slots.specs.Slots.{slotsLength}
@@ -46,6 +48,7 @@ use Rattle.judge.specs.declared.LoadAnswer.{LoadAnswer}
 use Rattle.judge.specs.declared.LoadAnswer.the-variants.{Refused, Accepted}
 use Rattle.judge.specs.declared.PackageEntry.{PackageEntry}
 use Rattle.judge.specs.declared.LoadingDomain.{LoadingDomain}
+use Rattle.judge.specs.declared.Judging.{Judging}
 
 -- the used field of a store
 abbrev pub usedAt : Bytes → ℕ
@@ -119,15 +122,19 @@ ParentsSay s end d f es (Accepted depth) = (p : Package) × Asked14 s end d f es
 abbrev pub ParentsAnswer : Bytes → ℕ → Bytes → LoadAnswer → Type 0
 ParentsAnswer s end f r = (d : Aid) (es : List Entry) → Over s end es → ParentsSay s end d f es r
 
--- with a yes: the depths of the own classes
-abbrev pub DepthsTold : Bytes → ℕ → Bytes → List ℕ → LoadAnswer → Type 0
-DepthsTold s end f own (Refused n) = Unit {0}
-DepthsTold s end f own (Accepted depth) = OwnDepths f s end own × DepthsFit (depthWidth s) f own
+-- with a yes: the depths of the own classes, and the places of the imports
+abbrev pub TablesTold : Bytes → ℕ → Bytes → List ℕ → List ℕ → LoadAnswer → Type 0
+TablesTold s end f own places (Refused n) = Unit {0}
+TablesTold s end f own places (Accepted depth) = OwnDepths f s end own × DepthsFit (depthWidth s) f own × ImportPlaces f s end places
 
 -- 26 of the file that d loads, where b says that it is asked, is the load's: it is not asked only where it is known to be yes
 abbrev pub SubsetTold : Bytes → ℕ → Aid → Bytes → Bool → Type 0
 SubsetTold s end d f b = (es : List Entry) → Over s end es → (p : Package) → readFile (storeLimits s) f ≡ some p →
     (not b || allCodes codeWithoutInt p) ≡ q26-subset es d p
+
+-- the domain that a file which is judged is loaded into
+abbrev pub loadingOf : Judging → LoadingDomain
+loadingOf x = record { aid = x .aid; subset = x .subset }
 
 -- where the AID of a domain stands, and whether 26 is asked
 pub record DomainTold (s : Bytes) (end : ℕ) (f : Bytes) (x : LoadingDomain) : Type 0 where

@@ -1,8 +1,10 @@
 // What a file holds that passed 14, its names, codes and calls: questions 15 to 17, 24, 26, 18 and 19. `codes_long` and
 // `codes_short` call themselves where the store has more than 65,535 bytes, which it never has: so the compiler does not make them parts of
 // their caller, and their sets stand on the stack only while they are used.
-use super::LoadingDomain;
+use super::Judging;
 use file_codes::subset::file_keeps;
+use homes::Loaded;
+use homes::Places;
 use store::openings;
 ghost use mathlib.Core.Path.{_≡_};
 ghost use mathlib.Core.Bool.{_||_, not};
@@ -16,25 +18,27 @@ ghost use Rattle.calls.specs.Calls.{CodesSplit};
 ghost use Rattle.files.specs.Say.{Readable};
 ghost use Rattle.places.specs.Reads.{Ends};
 ghost use Rattle.homes.specs.Homes.{aidAt};
-ghost use Rattle.homes.specs.Found.{Indexed};
-ghost use Rattle.judge.specs.Says.{HasRoom, ReadSome, Asked14Some, NumberBefore, DomainTold, SubsetIs};
+ghost use Rattle.homes.specs.Found.{Indexed, ImportPlaces};
+ghost use Rattle.judge.specs.Says.{HasRoom, ReadSome, Asked14Some, NumberBefore, loadingOf, DomainTold, SubsetIs};
 
-// 18 and 19 of a file each code of which splits: the number of the first no, or 0. The table in which 20 has its names has the slots here.
+// 18 and 19 of a file each code of which splits: the number of the first no, or 0. The table in which 20 has its names has the slots here,
+// that of the own file with the homes of its imports.
 fn calls_number<'a>(
     s: &'a [u8],
-    end: usize,
-    domain: usize,
+    x: Loaded,
     file: &'a [u8],
     index: &[u16],
+    places: &Places,
     names: &mut [u16],
     seen: &mut [u8],
 ) -> u32
-    requires { ⌜ Asked14Some (now s) end (aidAt (now s) domain) (now file) × CodesSplit (now file) × Ends aid (now s) domain ⌝ }
-    requires { ⌜ Indexed (now s) end (now index) × (length (now s) ≤ 65535) × HasRoom (now s) (now names) (now seen) ⌝ }
-    ensures { λ r. ⌜ NumberBefore 18 20 (now (s .entry)) end (aidAt (now (s .entry)) domain) (now (file .entry)) r ⌝ }
+    requires { ⌜ Asked14Some (now s) (x .end) (aidAt (now s) (x .domain)) (now file) × CodesSplit (now file) × Ends aid (now s) (x .domain) ⌝ }
+    requires { ⌜ Indexed (now s) (x .end) (now index) × ImportPlaces (now file) (now s) (x .end) (now places) ⌝ }
+    requires { ⌜ (length (now s) ≤ 65535) × HasRoom (now s) (now names) (now seen) ⌝ }
+    ensures { λ r. ⌜ NumberBefore 18 20 (now (s .entry)) (x .end) (aidAt (now (s .entry)) (x .domain)) (now (file .entry)) r ⌝ }
 {
-    slots::clear(names);
-    calls::calls_ok(file, s, end, domain, index, names, seen) as u32
+    slots::enter_imports(s, names, x.end, places);
+    calls::calls_ok(file, s, x, index, places, names, seen) as u32
 }
 
 // 16, 17 and 24 of a file: the number of the first no; 18 where there is none and the file has calls, 0 where it has none. With sets for
@@ -103,16 +107,17 @@ fn subset_ok(file: &[u8], asked: bool) -> bool
 // 15 to 17, 24, 26, 18 and 19 of a file that passed 14: the number of the first no, or 0.
 pub fn inside_number<'a>(
     s: &'a [u8],
-    end: usize,
-    domain: LoadingDomain,
+    x: Judging,
     file: &'a [u8],
     index: &[u16],
+    places: &Places,
     names: &mut [u16],
     seen: &mut [u8],
 ) -> u32
-    requires { ⌜ Asked14Some (now s) end (aidAt (now s) (domain .aid)) (now file) × DomainTold (now s) end (now file) domain ⌝ }
-    requires { ⌜ Indexed (now s) end (now index) × (length (now s) ≤ 65535) × HasRoom (now s) (now names) (now seen) ⌝ }
-    ensures { λ r. ⌜ NumberBefore 15 20 (now (s .entry)) end (aidAt (now (s .entry)) (domain .aid)) (now (file .entry)) r ⌝ }
+    requires { ⌜ Asked14Some (now s) (x .end) (aidAt (now s) (x .aid)) (now file) × DomainTold (now s) (x .end) (now file) (loadingOf x) ⌝ }
+    requires { ⌜ Indexed (now s) (x .end) (now index) × ImportPlaces (now file) (now s) (x .end) (now places) ⌝ }
+    requires { ⌜ (length (now s) ≤ 65535) × HasRoom (now s) (now names) (now seen) ⌝ }
+    ensures { λ r. ⌜ NumberBefore 15 20 (now (s .entry)) (x .end) (aidAt (now (s .entry)) (x .aid)) (now (file .entry)) r ⌝ }
 {
     if !names::names_ok(file) {
         return 15;
@@ -121,11 +126,15 @@ pub fn inside_number<'a>(
     if is_refusal(number) {
         return number as u32;
     }
-    if !subset_ok(file, domain.subset) {
+    if !subset_ok(file, x.subset) {
         return 26;
     }
     if number == 0 {
         return 0;
     }
-    calls_number(s, end, domain.aid, file, index, names, seen)
+    let loaded = Loaded {
+        end: x.end as usize,
+        domain: x.aid as usize,
+    };
+    calls_number(s, loaded, file, index, places, names, seen)
 }

@@ -5,6 +5,7 @@ pub mod questions;
 
 use contents::inside_number;
 use fields::u2_at;
+use homes::Loaded;
 use questions::file_answer;
 use questions::parents_answer;
 use questions::running_number;
@@ -41,6 +42,14 @@ pub struct PackageEntry {
 // of kind 3, and not of a stored package, of which it was asked with 3 and 5.
 pub struct LoadingDomain {
     pub aid: usize,
+    pub subset: bool,
+}
+
+// A file that is judged: where the entries before it end, and the domain that it is loaded into. Its numbers take two bytes each, so that
+// it is handed on in a register.
+pub struct Judging {
+    pub end: u16,
+    pub aid: u16,
     pub subset: bool,
 }
 
@@ -96,19 +105,26 @@ fn package_sound(
     let file = x.file;
     let next = x.next;
     let g = &s[file..next];
-    let domain = LoadingDomain {
-        aid: at + 3,
-        subset: false,
-    };
+    let aid = at + 3;
     let mut own = [0u8; 32];
-    match parents_answer(s, at, g, index, depths, &mut own) {
+    let mut places = [0u16; 15];
+    match parents_answer(s, at, g, index, depths, &mut own, &mut places) {
         LoadAnswer::Refused(_) => false,
         LoadAnswer::Accepted(_) => {
-            if inside_number(s, at, domain, g, index, names, seen) != 0 {
+            let judged = Judging {
+                end: at as u16,
+                aid: aid as u16,
+                subset: false,
+            };
+            if inside_number(s, judged, g, index, &places, names, seen) != 0 {
                 return false;
             }
             depths::table::keep_depths(s, depths, &own, file, next);
-            if running_number(s, at, at + 3, g, index, names, seen) != 0 {
+            let loaded = Loaded {
+                end: at,
+                domain: aid,
+            };
+            if running_number(s, loaded, g, index, &places, names, seen) != 0 {
                 return false;
             }
             index::enter_package(s, at, file, next, index);

@@ -16,10 +16,12 @@ use Rattle.places.proofs.Steady.{steady-u1, steady-aid}
 use Rattle.places.proofs.Inverse.{reads-counted}
 use Rattle.places.proofs.Parts.{file-parts}
 use Rattle.places.proofs.Track.{many-length}
-use Rattle.homes.specs.Homes.{fileOf, HomeIs, own, HomeThere}
-use Rattle.homes.specs.Found.{homeAt, ImportHomes}
+use Rattle.homes.specs.Homes.{ownHome, PackageFrom, fileOf, HomeIs, own, HomeThere}
+use Rattle.homes.specs.Homes as homes
+use Rattle.homes.specs.Found.{ImportPlaces}
 use Rattle.homes.specs.declared.Home.{Home}
-use Rattle.named.specs.Named.{Judged, OfJudged, homeOf, PackageThere, ClassFrom, RowTrue, Beside, rowsLength, RowsTrue}
+use Rattle.homes.proofs.Imported.{place-stands}
+use Rattle.named.specs.Named.{Judged, OfJudged, homeOf, PackageThere, NumberPlaced, ClassFrom, RowTrue, Beside, rowsLength, RowsTrue}
 
 -- the number of imports
 pub imports-few : (l : Limits) (f : Bytes) (p : Package) → readFile l f ≡ some p → length (p .imports) ≤ mostImports
@@ -29,25 +31,39 @@ imports-few l f p e =
     omega (arith, c .small, many-length aid steady-aid (c .number) f (c .place) (p .imports) (t .referencesAt) (c .list))
 
 -- the home of an import
-pub home-import : (end : ℕ) (t : List ℕ) (p : ℕ) → (p ≡ 0 → ⊥) → homeAt t (p - 1) ≡ homeOf end t p
-home-import end t zero n = absurd (n refl)
-home-import end t (suc k) n = let e : suc k - 1 ≡ k = omega arith in rw e
+pub home-import : (s : Bytes) (end : ℕ) (t : List ℕ) (p : ℕ) (h : Home) → (p ≡ 0 → ⊥) → h ≡ homes.homeOf s (getD t (p - 1) 0) → h ≡ homeOf s end t p
+home-import s end t zero h n e = absurd (n refl)
+home-import s end t (suc k) h n e = let z : suc k - 1 ≡ k = omega arith in rw z at e
+
+pub home-own : (s : Bytes) (end : ℕ) (t : List ℕ) (p : ℕ) (h : Home) → p ≡ 0 → h ≡ ownHome end → h ≡ homeOf s end t p
+home-own s end t p h z e = rw (z, e)
 
 -- a package number
 module _ (f s : Bytes) (end : ℕ) where
   pub number-few : (p : ℕ) → Judged f s end → PackageThere f p → p ≤ mostImports
   number-few p g h = omega (arith, h (storeLimits s) (g .1 .pack) (g .2 .setting .reads), imports-few (storeLimits s) f (g .1 .pack) (g .2 .setting .reads))
 
-  module _ (t : List ℕ) (i : ImportHomes f s end t) where
+  module _ (t : List ℕ) (i : ImportPlaces f s end t) where
+    -- there is a place for it
+    pub number-placed : (p : ℕ) → PackageThere f p → Judged f s end → NumberPlaced s t p
+    number-placed p h g = record { few = number-few p g h; stands = stands p h }
+      where
+        stands : (p : ℕ) → PackageThere f p → (p ≡ 0 → ⊥) → PackageFrom s (getD t (p - 1) 0)
+        stands zero h n = absurd (n refl)
+        stands (suc k) h n =
+            let z : suc k - 1 ≡ k = omega arith in
+            let l : k < length (g .1 .pack .imports) = omega (arith, h (storeLimits s) (g .1 .pack) (g .2 .setting .reads)) in
+            rw z (place-stands f s end t i (g .0) (g .1) (g .2) k l)
+
     pub number-home : (p : ℕ) → PackageThere f p → OfJudged f s end λ es self.
-        (y : Installed) × (packageNumbered (installed (storeLimits s) es) self p ≡ some y) × HomeIs f s end es self (homeOf end t p) y
+        (y : Installed) × (packageNumbered (installed (storeLimits s) es) self p ≡ some y) × HomeIs f s end es self (homeOf s end t p) y
     number-home zero h es self m = (self, refl, own)
     number-home (suc p) h es self m = let z = i .found es self m p (omega (arith, h (storeLimits s) (self .pack) (m .setting .reads))) in (z .0, z .1, z .2)
 
-    pub number-there : (p : ℕ) → PackageThere f p → Judged f s end → HomeThere f s (homeOf end t p)
+    pub number-there : (p : ℕ) → PackageThere f p → Judged f s end → HomeThere f s (homeOf s end t p)
     number-there p h g = let z = number-home p h (g .0) (g .1) (g .2) in (end, g .0, g .1, g .2, z .0, z .2)
 
-    pub number-at : (p : ℕ) (h : Home) → h ≡ homeOf end t p → PackageThere f p → Judged f s end → HomeThere f s h
+    pub number-at : (p : ℕ) (h : Home) → h ≡ homeOf s end t p → PackageThere f p → Judged f s end → HomeThere f s h
     number-at p h e q g = rw e (number-there p q g)
 
 -- a row beside the one that was written
@@ -67,15 +83,15 @@ row-beside g rows new p q n len b t = record { room = rw len (t .room); told = t
 
 -- the rows, one of which was written
 pub rows-written : (f s : Bytes) (end : ℕ) (t rows new : List ℕ) (p : ℕ) → length new ≡ length rows → RowsTrue f s end t rows →
-    RowTrue (fileOf f s (homeOf end t p)) new (mostClasses * p) → Beside rows new (mostClasses * p) → RowsTrue f s end t new
+    RowTrue (fileOf f s (homeOf s end t p)) new (mostClasses * p) → Beside rows new (mostClasses * p) → RowsTrue f s end t new
 rows-written f s end t rows new p len r one b = record { size = len ∙ r .size; row = row }
   where
-    row : (q : ℕ) → q ≤ mostImports → RowTrue (fileOf f s (homeOf end t q)) new (mostClasses * q)
+    row : (q : ℕ) → q ≤ mostImports → RowTrue (fileOf f s (homeOf s end t q)) new (mostClasses * q)
     row q h = go (eqb q p) refl
       where
-        go : (z : Bool) → eqb q p ≡ z → RowTrue (fileOf f s (homeOf end t q)) new (mostClasses * q)
+        go : (z : Bool) → eqb q p ≡ z → RowTrue (fileOf f s (homeOf s end t q)) new (mostClasses * q)
         go true e = rw (eqb-true q p e) one
-        go false e = row-beside (fileOf f s (homeOf end t q)) rows new p q (eqb-false q p e) len b (r .row q h)
+        go false e = row-beside (fileOf f s (homeOf s end t q)) rows new p q (eqb-false q p e) len b (r .row q h)
 
 -- rows of zeros tell nothing
 pub rows-empty : (f s : Bytes) (end : ℕ) (t rows : List ℕ) → length rows ≡ rowsLength → ((i : ℕ) → getD rows i 0 ≡ 0) → RowsTrue f s end t rows
@@ -86,10 +102,10 @@ rows-empty f s end t rows len z = record {
 }
 
 -- the row of a package number
-pub row-of : (f s : Bytes) (end : ℕ) (t rows : List ℕ) (p : ℕ) (h : Home) (g : Bytes) → h ≡ homeOf end t p → g ≡ fileOf f s h → p ≤ mostImports → RowsTrue
+pub row-of : (f s : Bytes) (end : ℕ) (t rows : List ℕ) (p : ℕ) (h : Home) (g : Bytes) → h ≡ homeOf s end t p → g ≡ fileOf f s h → p ≤ mostImports → RowsTrue
     f s end t rows → RowTrue g rows (mostClasses * p)
 row-of f s end t rows p h g e q few r = rw (q, e) (r .row p few)
 
-pub row-back : (f s : Bytes) (end : ℕ) (t rows : List ℕ) (p : ℕ) (h : Home) (g : Bytes) → h ≡ homeOf end t p → g ≡ fileOf f s h → RowTrue g rows
-    (mostClasses * p) → RowTrue (fileOf f s (homeOf end t p)) rows (mostClasses * p)
+pub row-back : (f s : Bytes) (end : ℕ) (t rows : List ℕ) (p : ℕ) (h : Home) (g : Bytes) → h ≡ homeOf s end t p → g ≡ fileOf f s h → RowTrue g rows
+    (mostClasses * p) → RowTrue (fileOf f s (homeOf s end t p)) rows (mostClasses * p)
 row-back f s end t rows p h g e q r = rw (q, e) at r

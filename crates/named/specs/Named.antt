@@ -2,8 +2,9 @@
 -- numbers for each package number: 0 where it is not known yet. Assumes nothing.
 --
 -- Judged f s end       == the file f is judged over the entries of s that end there; OfJudged == a fact of every such setting
--- t                    == the table of the homes of the file's imports; homeOf end t p == the home of package number p
+-- t                    == the table of the places of the file's imports; homeOf s end t p == the home of package number p
 -- PackageThere f p     == the file has package number p: its own, 0, or an import's
+-- NumberPlaced s t p   == p is 0, or the table has a place for it where a package's entry stands
 -- Stands g c i         == i is the place that is reached when c classes of the file g are passed
 -- ClassesFrom g c i    == the file g has its classes from number c on from place i on
 -- ClassFrom g c i      == and class c is one of them: its record stands at i
@@ -24,7 +25,7 @@ use Rattle.places.specs.Reads.{Reads}
 use Rattle.files.specs.Say.{ClassesAt, ClassThere, AfterClass, ClassPlaced}
 use Rattle.files.specs.declared.Spot.{Spot}
 use Rattle.files.specs.declared.Spot.the-variants.{At, Nothing}
-use Rattle.homes.specs.Homes.{Imports, ownHome, fileOf}
+use Rattle.homes.specs.Homes.{Imports, ownHome, PackageFrom, fileOf}
 use Rattle.homes.specs.Found.{homeAt}
 use Rattle.homes.specs.declared.Home.{Home}
 
@@ -36,14 +37,19 @@ Judged f s end = (es : List Entry) × (self : Installed) × Imports f s end es s
 abbrev pub OfJudged : Bytes → Bytes → ℕ → (List Entry → Installed → Type 0) → Type 0
 OfJudged f s end q = (es : List Entry) (self : Installed) → Imports f s end es self → q es self
 
--- the home of the package that a number stands for, by the table of the imports' homes
-abbrev pub homeOf : ℕ → List ℕ → ℕ → Home
-homeOf end t zero = ownHome end
-homeOf end t (suc k) = homeAt t k
+-- the home of the package that a number stands for, by the table of the imports' places
+abbrev pub homeOf : Bytes → ℕ → List ℕ → ℕ → Home
+homeOf s end t zero = ownHome end
+homeOf s end t (suc k) = homeAt s t k
 
 -- the file has this package number
 abbrev pub PackageThere : Bytes → ℕ → Type 0
 PackageThere f p = (l : Limits) (q : Package) → readFile l f ≡ some q → p ≤ length (q .imports)
+
+-- a number that is not 0 has a place where a package's entry stands
+pub record NumberPlaced (s : Bytes) (t : List ℕ) (p : ℕ) : Type 0 where
+  pub few : p ≤ mostImports
+  pub stands : (p ≡ 0 → ⊥) → PackageFrom s (getD t (p - 1) 0)
 
 -- c classes are passed
 pub data Stands (g : Bytes) : ℕ → ℕ → Type 0 where
@@ -83,4 +89,4 @@ rowsLength = 512
 
 pub record RowsTrue (f s : Bytes) (end : ℕ) (t rows : List ℕ) : Type 0 where
   pub size : length rows ≡ rowsLength
-  pub row : (p : ℕ) → p ≤ mostImports → RowTrue (fileOf f s (homeOf end t p)) rows (mostClasses * p)
+  pub row : (p : ℕ) → p ≤ mostImports → RowTrue (fileOf f s (homeOf s end t p)) rows (mostClasses * p)

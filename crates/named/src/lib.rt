@@ -1,24 +1,19 @@
 // The class that a package number and a class number name in the file being judged: the home of its package, the place of its record.
 // Places are kept in rows of 32 numbers, one row for each file; 0 is a place that is not known yet.
+use fields::long;
 use fields::u2_at;
 use files::Spot;
 use homes::Home;
+use homes::Places;
 ghost use mathlib.Core.Path.{_≡_};
 ghost use Prim.Native.Nat.{_+_, _≤_, _<_};
 ghost use lib.ListN.{length, getD};
-ghost use Rattle.rules.specs.Package.{mostImports, mostClasses};
+ghost use Rattle.rules.specs.Package.{mostClasses};
 ghost use Rattle.files.specs.Say.{Readable};
 ghost use Rattle.files.specs.Say as files′;
 ghost use Rattle.homes.specs.Homes.{ClassPlaced};
-ghost use Rattle.homes.specs.Found.{tableLength, ImportHomes};
-ghost use Rattle.named.specs.Named.{Judged, homeOf, PackageThere, ClassesFrom, ClassStands, RowTrue, Beside, RowsTrue};
-
-// A number of two bytes.
-fn long(x: u16) -> usize
-    ensures { λ r. ⌜ (r ≡ x) × (r < 65536) ⌝ }
-{
-    x as usize
-}
+ghost use Rattle.homes.specs.Found.{placesLength, ImportPlaces};
+ghost use Rattle.named.specs.Named.{Judged, homeOf, PackageThere, NumberPlaced, ClassesFrom, ClassStands, RowTrue, Beside, RowsTrue};
 
 // The greatest class number up to c whose place the row tells; 0 where it tells none.
 fn known_to(rows: &[u16], base: usize, c: usize) -> usize
@@ -94,24 +89,15 @@ pub fn class_at(g: &[u8], rows: &mut [u16], base: usize, c: usize) -> Spot
     stands_at(g, rows, base, c)
 }
 
-// The home of the package that a number stands for in the file being judged: 0 its own, k that of its k-th import.
-pub fn home_at(end: usize, homes: &[usize; 48], p: usize) -> Home
-    requires { ⌜ (length (now homes) ≡ tableLength) × (p ≤ mostImports) ⌝ }
-    ensures { λ r. ⌜ r ≡ homeOf end (now (homes .entry)) p ⌝ }
+// The home of the package that a number stands for in the file being judged: 0 its own, k that of its k-th import, by the places of these.
+pub fn home_at(s: &[u8], end: usize, places: &Places, p: usize) -> Home
+    requires { ⌜ (length (now places) ≡ placesLength) × NumberPlaced (now s) (now places) p ⌝ }
+    ensures { λ r. ⌜ r ≡ homeOf (now (s .entry)) end (now (places .entry)) p ⌝ }
 {
     if p == 0 {
-        return Home {
-            from: 0,
-            to: 0,
-            before: end,
-        };
+        return homes::own_home(end);
     }
-    let i = 3 * (p - 1);
-    Home {
-        from: homes[i],
-        to: homes[i + 1],
-        before: homes[i + 2],
-    }
+    homes::home_at(s, long(places[p - 1]))
 }
 
 // The place of the record of the class that package number p and class number c name in the file being judged.
@@ -119,16 +105,16 @@ pub fn class_in<'a>(
     f: &'a [u8],
     s: &'a [u8],
     end: usize,
-    homes: &[usize; 48],
+    places: &Places,
     rows: &mut [u16],
     p: usize,
     c: usize,
 ) -> Spot
-    requires { ⌜ Judged (now f) (now s) end × ImportHomes (now f) (now s) end (now homes) ⌝ }
-    requires { ⌜ PackageThere (now f) p × RowsTrue (now f) (now s) end (now homes) (now rows) ⌝ }
-    ensures { λ r. ⌜ ClassPlaced (now (f .entry)) (now (s .entry)) (homeOf end (now (homes .entry)) p) c r ⌝ }
-    ensures { λ _. ⌜ RowsTrue (now (f .entry)) (now (s .entry)) end (now (homes .entry)) (now (rows .exit)) ⌝ }
+    requires { ⌜ Judged (now f) (now s) end × ImportPlaces (now f) (now s) end (now places) ⌝ }
+    requires { ⌜ PackageThere (now f) p × RowsTrue (now f) (now s) end (now places) (now rows) ⌝ }
+    ensures { λ r. ⌜ ClassPlaced (now (f .entry)) (now (s .entry)) (homeOf (now (s .entry)) end (now (places .entry)) p) c r ⌝ }
+    ensures { λ _. ⌜ RowsTrue (now (f .entry)) (now (s .entry)) end (now (places .entry)) (now (rows .exit)) ⌝ }
 {
-    let g = homes::file_of(f, s, home_at(end, homes, p));
+    let g = homes::file_of(f, s, home_at(s, end, places, p));
     class_at(g, rows, 32 * p, c)
 }

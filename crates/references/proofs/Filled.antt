@@ -2,7 +2,7 @@
 use Prim.Native.Nat.{ℕ, _+_, _-_, _<_, _≤_}
 use native.Mathlib.Omega.{arith}
 use native.Mathlib.Decide.{decLe}
-use mathlib.Core.Path.{_≡_, refl, sym, _∙_, subst}
+use mathlib.Core.Path.{_≡_, refl, sym, _∙_, ap, subst}
 use mathlib.Core.Bool.{Bool, true, false, _&&_}
 use mathlib.Core.List.{List}
 use mathlib.Core.Logic.{_⊎_, inl, inr}
@@ -12,13 +12,13 @@ use borrow.Author.Tests.{ltb-true, leb-true, leb-false, lt-leb}
 use Rattle.rules.specs.Bytes.{Bytes, pick}
 use Rattle.rules.proofs.Lists.{same-or-not}
 use Rattle.rules.proofs.Tests.{and-l, and-r, is-true, of-true}
-use Rattle.references.specs.Named.{GroupTrue, ToldIs}
-use Rattle.references.specs.Kept.{keptCount, keptLength, toldAt, toldOf, KeptIs, SameTold, KeptTrue, AllTold, inGroup, toldIn}
+use Rattle.references.specs.Named.{GroupTrue, ReferenceIs, ToldIs}
+use Rattle.references.specs.Kept.{keptCount, keptLength, toldAt, toldOf, isTold, KeptIs, SameTold, KeptTrue, SearchedIn, AllTold, inGroup, toldIn}
 use Rattle.references.specs.declared.Group.{Group}
 use Rattle.references.specs.declared.NamedFound.{NamedFound}
 use Rattle.references.specs.declared.Told.{Told}
 use Rattle.references.specs.declared.Told.the-variants as told
-use Rattle.references.proofs.Telling.{told-kept, named-known, reference-past}
+use Rattle.references.proofs.Telling.{told-kept, named-told, named-known, reference-past}
 
 -- what the first n places tell of those references of the group is true
 pub record KeptBelow (f s : Bytes) (g : Group) (n : ℕ) (t : List ℕ) : Type 0 where
@@ -78,14 +78,27 @@ told-after p q = record { size = q .size ∙ p .size; told = λ k. q .told k ∙
 
 -- none of the first n places is open
 abbrev pub ToldBelow : ℕ → List ℕ → Type 0
-ToldBelow n t = (k : ℕ) → k < n → toldAt t k ≡ told.Open → ⊥
+ToldBelow n t = (k : ℕ) → k < n → isTold (toldAt t k) ≡ true
 
-pub told-on : {k : ℕ} {t u : List ℕ} (x : NamedFound) → KeptIs t u k (toldOf x) → ToldBelow k t → ToldBelow (k + 1) u
-told-on {k} {t} {u} x w p j l = which (same-or-not j k)
+pub told-on : {f s : Bytes} {g : Group} {k : ℕ} {t u : List ℕ} → SearchedIn f s g k t u → ToldBelow k t → ToldBelow (k + 1) u
+told-on {k = k} {t} {u} w p j l = which (same-or-not j k)
   where
-    which : (j ≡ k) ⊎ (j ≡ k → ⊥) → toldAt u j ≡ told.Open → ⊥
-    which (inl z) e = named-known x (sym (w .here) ∙ subst (λ (i : ℕ). toldAt u i ≡ told.Open) z e)
-    which (inr z) e = p j (below j l z) (sym (w .others j z) ∙ e)
+    which : (j ≡ k) ⊎ (j ≡ k → ⊥) → isTold (toldAt u j) ≡ true
+    which (inl z) = subst (λ (i : ℕ). isTold (toldAt u i) ≡ true) (sym z) (w .told)
+    which (inr z) = ap isTold (w .others j z) ∙ p j (below j l z)
+
+-- a place whose reference was searched, or was not open
+module _ (f s : Bytes) (g : Group) {t : List ℕ} (k : ℕ) (p : KeptTrue f s g t) where
+  pub searched : {u : List ℕ} (x : NamedFound) → ReferenceIs f s (g .end) (g .first + k) x → KeptIs t u k (toldOf x) → length u ≡ length t →
+      SearchedIn f s g k t u
+  searched x q w e = record {
+    kept = kept-again f s g (toldOf x) (named-told (g .first + k) x q) w e p;
+    told = ap isTold (w .here) ∙ named-known x;
+    others = w .others;
+  }
+
+  pub not-open : isTold (toldAt t k) ≡ true → SearchedIn f s g k t t
+  not-open e = record { kept = p; told = e; others = λ j n. refl }
 
 -- a reference of the file that is asked with the group is one of the group
 module _ (g : Group) (k : ℕ) (e : inGroup g k ≡ true) (l : k < g .count) where
@@ -114,12 +127,12 @@ told-true {f} {s} {t} g k e a w = go (leb (g .count) k) refl
         subst (λ (j : ℕ). ToldIs f s (g .end) j (toldAt t (k - g .first))) same (w .told (k - g .first) (omega (arith, i .0, i .1)) (omega (arith, i .0)))
 
 -- where none is open none of these is
-pub told-known : (t : List ℕ) (g : Group) (k : ℕ) → inGroup g k ≡ true → AllTold g t → toldIn t g k ≡ told.Open → ⊥
+pub told-known : (t : List ℕ) (g : Group) (k : ℕ) → inGroup g k ≡ true → AllTold g t → isTold (toldIn t g k) ≡ true
 told-known t g k e w = go (leb (g .count) k) refl
   where
-    go : (b : Bool) → leb (g .count) k ≡ b → pick b told.Nothing (toldAt t (k - g .first)) ≡ told.Open → ⊥
-    go true z h = let x : _≡_ {A = ℕ} 0 1 = cc in omega arith
-    go false z h =
+    go : (b : Bool) → leb (g .count) k ≡ b → isTold (pick b told.Nothing (toldAt t (k - g .first))) ≡ true
+    go true z = refl
+    go false z =
         let l = leb-false (g .count) k z in
         let i = inside g k e l in
-        w (k - g .first) (omega (arith, i .0, i .1)) (omega (arith, i .0, l)) h
+        w (k - g .first) (omega (arith, i .0, i .1)) (omega (arith, i .0, l))

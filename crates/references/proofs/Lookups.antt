@@ -200,7 +200,7 @@ module _ {f s : Bytes} {end : ℕ} (p c n : ℕ) where
 
 -- the numbers and the name of a reference
 module _ {f s : Bytes} {end : ℕ} (i k : ℕ) (a : ReferencesAt f i) where
-  reference-is : (r : Referenced) → ReferenceNth f i k r → OfJudged f s end λ es self. at (self .pack .references) k ≡ referenced r
+  pub reference-is : (r : Referenced) → ReferenceNth f i k r → OfJudged f s end λ es self. at (self .pack .references) k ≡ referenced r
   reference-is r q es self m = let z = references-read a (storeLimits s) (self .pack) (settingOf m .reads) in sym (q (self .pack .references) (z .0) (z .1))
 
   pub reference-named : (p c n : ℕ) → ReferenceNth f i k (referenced′.To p c n) → (r : NamedFound) → NumbersName f s end (naming p c n) r →

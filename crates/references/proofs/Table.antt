@@ -16,7 +16,7 @@ use Rattle.homes.specs.declared.Home.{Home}
 use Rattle.slots.specs.Slots.{homeIn, withHome}
 use Rattle.slots.proofs.Slots.{home-is, home-length, home-other, home-written}
 use Rattle.rules.proofs.Lists.{same-or-not}
-use Rattle.references.specs.Kept.{rowOf, bitOf, markOf, noMark, openMark, meantAt, toldFrom, toldAt, keptMeant, withMeant, withNothing, KeptIs, SameTold}
+use Rattle.references.specs.Kept.{rowOf, bitOf, markOf, noMark, openMark, meantAt, toldFrom, toldAt, keptMeant, isTold, withRow, withMeant, withNothing, withOpen, KeptIs, SameTold}
 use Rattle.references.specs.declared.Meant.{Meant}
 use Rattle.references.specs.declared.Told.{Told}
 use Rattle.references.specs.declared.Told.the-variants as told
@@ -69,58 +69,67 @@ module _ (t u : List ℕ) (i : ℕ) (same : (j : ℕ) → j < 6 → getD u (i + 
       (same 2 (omega arith)) in
       rw (home, same 3 (omega arith), same 4 (omega arith), same 5 (omega arith))
 
--- a declaration written from number i on
-module _ (t : List ℕ) (i : ℕ) (x : Meant) where
-  -- the table behind each of the six writes
+-- six numbers written from number i on
+module _ (t : List ℕ) (i : ℕ) (h : Home) (c m n : ℕ) where
+  -- the table behind the writes
   abbrev homed : List ℕ
-  homed = withHome t i (x .home)
+  homed = withHome t i h
 
   abbrev classed : List ℕ
-  classed = set homed (i + 3) (x .class)
+  classed = set homed (i + 3) c
 
   abbrev placed : List ℕ
-  placed = set classed (i + 4) (x .method)
+  placed = set classed (i + 4) m
 
-  pub meant-length : length (withMeant t i x) ≡ length t
-  meant-length = simp length-set
-
-  meant-other : (j : ℕ) → (j < i) ⊎ (i + 6 ≤ j) → getD (withMeant t i x) j 0 ≡ getD t j 0
-  meant-other j w =
-      getD-set-other placed (i + 5) j (markOf x) 0 (differs 5 w (omega arith)) ∙ getD-set-other classed (i + 4) j (x .method) 0 (differs 4 w (omega arith))
-      ∙ getD-set-other homed (i + 3) j (x .class) 0 (differs 3 w (omega arith))
-      ∙ home-other t i (x .home) j (λ e. differs 0 w (omega arith) (omega (arith, e))) (differs 1 w (omega arith)) (differs 2 w (omega arith))
+  row-other : (j : ℕ) → (j < i) ⊎ (i + 6 ≤ j) → getD (withRow t i h c m n) j 0 ≡ getD t j 0
+  row-other j w =
+      getD-set-other placed (i + 5) j n 0 (differs 5 w (omega arith)) ∙ getD-set-other classed (i + 4) j m 0 (differs 4 w (omega arith))
+      ∙ getD-set-other homed (i + 3) j c 0 (differs 3 w (omega arith))
+      ∙ home-other t i h j (λ e. differs 0 w (omega arith) (omega (arith, e))) (differs 1 w (omega arith)) (differs 2 w (omega arith))
     where
       differs : (d : ℕ) → (j < i) ⊎ (i + 6 ≤ j) → d < 6 → j ≡ i + d → ⊥
       differs d (inl w) l e = omega arith
       differs d (inr w) l e = omega arith
 
   module _ (room : i + 5 < length t) where
-    home-there : homeIn (withMeant t i x) i ≡ x .home
+    home-there : homeIn (withRow t i h c m n) i ≡ h
     home-there =
-        let before : (d : ℕ) → d < 3 → getD (withMeant t i x) (i + d) 0 ≡ getD homed (i + d) 0 = λ d l.
-        getD-set-other placed (i + 5) (i + d) (markOf x) 0 (λ e. omega arith) ∙ getD-set-other classed (i + 4) (i + d) (x .method) 0 (λ e. omega arith)
-        ∙ getD-set-other homed (i + 3) (i + d) (x .class) 0 (λ e. omega arith) in
-        let from : getD (withMeant t i x) i 0 ≡ getD homed i 0 = rw zero-on at (before 0 (omega arith)) in
-        home-is (homeIn (withMeant t i x) i) (homeIn homed i) from (before 1 (omega arith)) (before 2 (omega arith))
-        ∙ home-written t i (x .home) (omega arith)
+        let before : (d : ℕ) → d < 3 → getD (withRow t i h c m n) (i + d) 0 ≡ getD homed (i + d) 0 = λ d l.
+        getD-set-other placed (i + 5) (i + d) n 0 (λ e. omega arith) ∙ getD-set-other classed (i + 4) (i + d) m 0 (λ e. omega arith)
+        ∙ getD-set-other homed (i + 3) (i + d) c 0 (λ e. omega arith) in
+        let from : getD (withRow t i h c m n) i 0 ≡ getD homed i 0 = rw zero-on at (before 0 (omega arith)) in
+        home-is (homeIn (withRow t i h c m n) i) (homeIn homed i) from (before 1 (omega arith)) (before 2 (omega arith)) ∙ home-written t i h (omega arith)
 
-    class-there : getD (withMeant t i x) (i + 3) 0 ≡ x .class
+    class-there : getD (withRow t i h c m n) (i + 3) 0 ≡ c
     class-there =
-        getD-set-other placed (i + 5) (i + 3) (markOf x) 0 (λ e. omega arith) ∙ getD-set-other classed (i + 4) (i + 3) (x .method) 0 (λ e. omega arith)
-        ∙ getD-set-same homed (i + 3) (x .class) 0 (omega (arith, home-length t i (x .home)))
+        getD-set-other placed (i + 5) (i + 3) n 0 (λ e. omega arith) ∙ getD-set-other classed (i + 4) (i + 3) m 0 (λ e. omega arith)
+        ∙ getD-set-same homed (i + 3) c 0 (omega (arith, home-length t i h))
 
-    method-there : getD (withMeant t i x) (i + 4) 0 ≡ x .method
+    method-there : getD (withRow t i h c m n) (i + 4) 0 ≡ m
     method-there =
-        getD-set-other placed (i + 5) (i + 4) (markOf x) 0 (λ e. omega arith)
-        ∙ getD-set-same classed (i + 4) (x .method) 0 (omega (arith, length-set homed (i + 3) (x .class), home-length t i (x .home)))
+        getD-set-other placed (i + 5) (i + 4) n 0 (λ e. omega arith)
+        ∙ getD-set-same classed (i + 4) m 0 (omega (arith, length-set homed (i + 3) c, home-length t i h))
 
-    mark-there : getD (withMeant t i x) (i + 5) 0 ≡ markOf x
+    mark-there : getD (withRow t i h c m n) (i + 5) 0 ≡ n
     mark-there =
         let size : length placed ≡ length t = simp length-set in
-        getD-set-same placed (i + 5) (markOf x) 0 (omega (arith, size))
+        getD-set-same placed (i + 5) n 0 (omega (arith, size))
 
-    pub meant-there : toldFrom (withMeant t i x) i (getD (withMeant t i x) (i + 5) 0) ≡ told.Method (keptMeant x)
-    meant-there = rw (mark-there, mark-some x, mark-told x, home-there, class-there, method-there, mark-kind x, mark-row x)
+-- a declaration, and an open reference
+meant-there : (t : List ℕ) (i : ℕ) (x : Meant) → i + 5 < length t → toldFrom (withMeant t i x) i (getD (withMeant t i x) (i + 5) 0) ≡ told.Method (keptMeant x)
+meant-there t i x room = rw (
+  mark-there t i (x .home) (x .class) (x .method) (markOf x) room,
+  mark-some x,
+  mark-told x,
+  home-there t i (x .home) (x .class) (x .method) (markOf x) room,
+  class-there t i (x .home) (x .class) (x .method) (markOf x) room,
+  method-there t i (x .home) (x .class) (x .method) (markOf x) room,
+  mark-kind x,
+  mark-row x,
+)
+
+open-there : (t : List ℕ) (i : ℕ) (h : Home) (c : ℕ) → i + 5 < length t → toldFrom (withOpen t i h c) i (getD (withOpen t i h c) (i + 5) 0) ≡ told.Open h c
+open-there t i h c room = rw (mark-there t i h c 0 openMark room, home-there t i h c 0 openMark room, class-there t i h c 0 openMark room)
 
 -- two places of the table are apart
 apart : (j k d : ℕ) → (j ≡ k → ⊥) → d < 6 → (6 * j + d < 6 * k) ⊎ (6 * k + 6 ≤ 6 * j + d)
@@ -134,11 +143,14 @@ apart j k d n l = elim (decLe (j + 1) k) [
 
 -- what is written in place k is what the table tells there
 module _ (t u : List ℕ) (k : ℕ) (room : 6 * k + 5 < length t) (r : Told) where
+  rows-other : (h : Home) (c m n j : ℕ) → (j ≡ k → ⊥) → toldAt (withRow t (6 * k) h c m n) j ≡ toldAt t j
+  rows-other h c m n j a = six-same t (withRow t (6 * k) h c m n) (6 * j) (λ d l. row-other t (6 * k) h c m n (6 * j + d) (apart j k d a l))
+
   pub kept-meant : (x : Meant) → r ≡ told.Method x → u ≡ withMeant t (6 * k) x → KeptIs t u k r
-  kept-meant x q e = rw (q, e) (record {
-    here = meant-there t (6 * k) x room;
-    others = λ j n. six-same t (withMeant t (6 * k) x) (6 * j) (λ d l. meant-other t (6 * k) x (6 * j + d) (apart j k d n l));
-  })
+  kept-meant x q e = rw (q, e) (record { here = meant-there t (6 * k) x room; others = rows-other (x .home) (x .class) (x .method) (markOf x) })
+
+  pub kept-open : (h : Home) (c : ℕ) → r ≡ told.Open h c → u ≡ withOpen t (6 * k) h c → KeptIs t u k r
+  kept-open h c q e = rw (q, e) (record { here = open-there t (6 * k) h c room; others = rows-other h c 0 openMark })
 
   -- a mark alone
   marked-others : (n j : ℕ) → (j ≡ k → ⊥) → toldAt (set t (6 * k + 5) n) j ≡ toldAt t j
@@ -152,19 +164,35 @@ module _ (t u : List ℕ) (k : ℕ) (room : 6 * k + 5 < length t) (r : Told) whe
   pub kept-nothing : r ≡ told.Nothing → u ≡ withNothing t (6 * k) → KeptIs t u k r
   kept-nothing q e = rw (q, e) (record { here = rw (getD-set-same t (6 * k + 5) noMark 0 room); others = marked-others noMark })
 
-  pub kept-open : r ≡ told.Open → u ≡ set t (6 * k + 5) openMark → KeptIs t u k r
-  kept-open q e = rw (q, e) (record { here = rw (getD-set-same t (6 * k + 5) openMark 0 room); others = marked-others openMark })
+-- what is open is marked so
+open-mark : (t : List ℕ) (i n : ℕ) → isTold (toldFrom t i n) ≡ false → toldFrom t i n ≡ told.Open (homeIn t i) (getD t (i + 3) 0)
+open-mark t i n = go (eqb n noMark) (ltb noMark n)
+  where
+    go : (a b : Bool) →
+        isTold (pick a told.Nothing (pick b (told.Open (homeIn t i) (getD t (i + 3) 0)) (told.Method (meantAt t i n)))) ≡ false →
+        pick a told.Nothing (pick b (told.Open (homeIn t i) (getD t (i + 3) 0)) (told.Method (meantAt t i n))) ≡ told.Open (homeIn t i) (getD t (i + 3) 0)
+    go true b e = let z : _≡_ {A = ℕ} 0 1 = cc in absurd (omega arith)
+    go false true e = refl
+    go false false e = let z : _≡_ {A = ℕ} 0 1 = cc in absurd (omega arith)
 
-  -- what is open is still open where it is wanted
-  pub still-open : toldAt t k ≡ told.Open → u ≡ set t (6 * k + 5) 36 → SameTold t u
-  still-open q e = rw e (record { size = length-set t (6 * k + 5) 36; told = λ j. which j (same-or-not j k) })
-    where
-      here : toldAt (set t (6 * k + 5) 36) k ≡ told.Open
-      here = rw (getD-set-same t (6 * k + 5) 36 0 room)
+-- it is still open, and the same is told of it, where it is wanted
+pub still-open : (t u : List ℕ) (k : ℕ) → 6 * k + 5 < length t → isTold (toldAt t k) ≡ false → u ≡ set t (6 * k + 5) 36 → SameTold t u
+still-open t u k room q e = rw e (record { size = length-set t (6 * k + 5) 36; told = λ j. which j (same-or-not j k) })
+  where
+    below : (d : ℕ) → d < 5 → getD (set t (6 * k + 5) 36) (6 * k + d) 0 ≡ getD t (6 * k + d) 0
+    below d l = getD-set-other t (6 * k + 5) (6 * k + d) 36 0 (λ e. omega arith)
 
-      which : (j : ℕ) → (j ≡ k) ⊎ (j ≡ k → ⊥) → toldAt (set t (6 * k + 5) 36) j ≡ toldAt t j
-      which j (inl w) = subst (λ (i : ℕ). toldAt (set t (6 * k + 5) 36) i ≡ toldAt t i) (sym w) (here ∙ sym q)
-      which j (inr w) = marked-others 36 j w
+    home : homeIn (set t (6 * k + 5) 36) (6 * k) ≡ homeIn t (6 * k)
+    home =
+        let from : getD (set t (6 * k + 5) 36) (6 * k) 0 ≡ getD t (6 * k) 0 = rw zero-on at (below 0 (omega arith)) in
+        home-is (homeIn (set t (6 * k + 5) 36) (6 * k)) (homeIn t (6 * k)) from (below 1 (omega arith)) (below 2 (omega arith))
+
+    here : toldAt (set t (6 * k + 5) 36) k ≡ toldAt t k
+    here = rw (getD-set-same t (6 * k + 5) 36 0 room, home, below 3 (omega arith)) (sym (open-mark t (6 * k) (getD t (6 * k + 5) 0) q))
+
+    which : (j : ℕ) → (j ≡ k) ⊎ (j ≡ k → ⊥) → toldAt (set t (6 * k + 5) 36) j ≡ toldAt t j
+    which j (inl w) = subst (λ (i : ℕ). toldAt (set t (6 * k + 5) 36) i ≡ toldAt t i) (sym w) here
+    which j (inr w) = marked-others t (set t (6 * k + 5) 36) k room told.Nothing 36 j w
 
 -- a declaration is its places and what else is told of it
 meantOf : Home → ℕ → ℕ → Bool → ℕ → Meant
@@ -184,8 +212,10 @@ module _ (t : List ℕ) (k n : ℕ) (mark : n ≡ getD t (6 * k + 5) 0) where
   pub nothing-read : n ≡ noMark → told.Nothing ≡ toldAt t k
   nothing-read e = rw (← mark, eq-eqb n noMark e)
 
-  pub open-read : noMark < n → told.Open ≡ toldAt t k
-  open-read e = rw (← mark, ne-eqb n noMark (λ z. omega (arith, e, z)), lt-ltb noMark n e)
+  pub open-read : noMark < n → (h : Home) (c : ℕ) → h .from ≡ getD t (6 * k) 0 → h .to ≡ getD t (6 * k + 1) 0 → h .before ≡ getD t (6 * k + 2) 0 →
+      c ≡ getD t (6 * k + 3) 0 → told.Open h c ≡ toldAt t k
+  open-read e h c from to before class =
+      rw (← mark, ne-eqb n noMark (λ z. omega (arith, e, z)), lt-ltb noMark n e, home-is h (homeIn t (6 * k)) from to before, class)
 
   pub meant-read : (n ≡ noMark → ⊥) → n ≤ noMark → (x : Meant) → x .home .from ≡ getD t (6 * k) 0 → x .home .to ≡ getD t (6 * k + 1) 0 →
       x .home .before ≡ getD t (6 * k + 2) 0 → x .class ≡ getD t (6 * k + 3) 0 → x .method ≡ getD t (6 * k + 4) 0 → x .kind0 ≡ eqb (n % 2) 1 →

@@ -1,14 +1,16 @@
 -- What is told of a reference: as the table tells it, its places fit two bytes, what a class declares itself. Assumes nothing.
 use Prim.Native.Nat.{ℕ, _-_, _<_, _≤_}
 use native.Mathlib.Omega.{arith}
-use mathlib.Core.Path.{_≡_, refl, sym, subst}
+use mathlib.Core.Path.{_≡_, refl, sym, _∙_, subst}
 use mathlib.Core.Bool.{Bool, true, false}
 use mathlib.Core.List.{List}
 use mathlib.Core.Option.{some}
 use lib.Dec.{eqb, ltb}
 use lib.ListN.{length, getD}
 use Rattle.rules.specs.Bytes.{Bytes, pick}
+use Rattle.rules.specs.Package.{Reference}
 use Rattle.rules.specs.Store.{storeLimits}
+use Rattle.rules.proofs.Tests.{none-some}
 use Rattle.rules.specs.Classes.{installed, packageNumbered}
 use Rattle.store.specs.Entries.{part}
 use Rattle.store.proofs.Parts.{part-length}
@@ -20,8 +22,8 @@ use Rattle.homes.specs.Homes.{fileOf, HomeThere}
 use Rattle.homes.specs.declared.Home.{Home}
 use Rattle.homes.proofs.Lookups.{there-bounds}
 use Rattle.references.specs.Setting.{importsOf, settingOf, Judged}
-use Rattle.references.specs.Named.{GroupTrue, Lent, ClassIs, ReferenceIs, OwnMeant, NumbersTell, ToldIs}
-use Rattle.references.specs.Kept.{rowOf, toldOf, keptTold, SmallFound, SmallTold}
+use Rattle.references.specs.Named.{GroupTrue, Lent, ClassThere, ClassIs, ReferenceIs, OpenFrom, OwnMeant, NumbersTell, ToldIs}
+use Rattle.references.specs.Kept.{rowOf, toldOf, keptTold, isTold, SmallFound, SmallTold}
 use Rattle.references.specs.declared.ClassNamed.the-variants as named
 use Rattle.references.specs.declared.Group.{Group}
 use Rattle.references.specs.declared.NamedFound.{NamedFound}
@@ -56,7 +58,7 @@ told-kept f s end k (told.Method x) q = λ es self m.
       },
     )
 told-kept f s end k told.Nothing q = q
-told-kept f s end k told.Open q = tt
+told-kept f s end k (told.Open h i) q = q
 
 -- a file in the store or being judged is no longer than two bytes tell
 file-short : (f s : Bytes) (h : Home) → (h .from ≤ h .to) × (h .to ≤ length s) → length f ≤ 65535 → length s ≤ 65535 → length (fileOf f s h) ≤ 65535
@@ -88,16 +90,20 @@ module _ {f s : Bytes} {end : ℕ} (g : Judged f s end) (small : length s ≤ 65
   pub told-small : (k : ℕ) (x : Told) → ToldIs f s end k x → SmallTold x
   told-small k (told.Method x) q = reference-small k (found.Method x) q
   told-small k told.Nothing q = tt
-  told-small k told.Open q = tt
+  told-small k (told.Open h i) q =
+      let z = q (g .0) (g .1) (g .2) in
+      let t : HomeThere f s h = (end, g .0, g .1, importsOf (g .2), z .2 .pack, z .2 .lies) in
+      let short = file-short f s h (there-bounds f s h t) (judged-short g a b) small in
+      (look.there-small h t small, omega (arith, z .2 .reads .from))
 
 -- what is named is told
 pub named-told : {f s : Bytes} {end : ℕ} (k : ℕ) (x : NamedFound) → ReferenceIs f s end k x → ToldIs f s end k (toldOf x)
 named-told k (found.Method x) q = q
 named-told k found.Nothing q = q
 
-pub named-known : (x : NamedFound) → keptTold (toldOf x) ≡ told.Open → ⊥
-named-known (found.Method x) e = let z : _≡_ {A = ℕ} 0 1 = cc in omega arith
-named-known found.Nothing e = let z : _≡_ {A = ℕ} 0 1 = cc in omega arith
+pub named-known : (x : NamedFound) → isTold (keptTold (toldOf x)) ≡ true
+named-known (found.Method x) = refl
+named-known found.Nothing = refl
 
 -- a reference that the file does not have names nothing
 pub reference-past : {f s : Bytes} {end k : ℕ} (g : Group) → GroupTrue f g → g .count ≤ k → ReferenceIs f s end k found.Nothing
@@ -115,10 +121,29 @@ pub numbers-tell : {f s : Bytes} {end : ℕ} (p c n : ℕ) (h : Home) (i : ℕ) 
     OwnMeant f s (record { end = end; home = h; number = c; name = n }) (record { pack = p; place = i }) q → NumbersTell f s end (look.naming p c n) q
 numbers-tell p c n h i t (told.Method x) d = look.numbers-named p c n h i t (found.Method x) d
 numbers-tell p c n h i t told.Nothing d = look.numbers-named p c n h i t found.Nothing d
-numbers-tell p c n h i t told.Open d = tt
+numbers-tell {f} {s} {end} p c n h i t (told.Open g j) d =
+    subst (λ (x : Home). ClassIs f s end p c (named.At x j)) (sym (d .0)) (subst (λ (x : ℕ). ClassIs f s end p c (named.At h x)) (sym (d .1)) t)
 
 pub reference-told : (f s : Bytes) (end i k : ℕ) → ReferencesAt f i → (p c n : ℕ) → ReferenceNth f i k (referenced′.To p c n) → (r : Told) →
     NumbersTell f s end (look.naming p c n) r → ToldIs f s end k r
 reference-told f s end i k a p c n q (told.Method x) d = look.reference-named i k a p c n q (found.Method x) d
 reference-told f s end i k a p c n q told.Nothing d = look.reference-named i k a p c n q found.Nothing d
-reference-told f s end i k a p c n q told.Open d = tt
+reference-told f s end i k a p c n q (told.Open h j) d = λ es self m.
+    (record { class = record { pack = p; class = c }; name = n }, look.reference-is i k a (referenced′.To p c n) q es self m, d es self m)
+
+-- an open reference of these numbers and this name has its class there
+pub open-record : (f s : Bytes) (end i k : ℕ) → ReferencesAt f i → (p c n : ℕ) → ReferenceNth f i k (referenced′.To p c n) → (h : Home) (j : ℕ) →
+    OpenFrom f s end k h j → ClassIs f s end p c (named.At h j)
+open-record f s end i k a p c n q h j d es self m =
+    let z = d es self m in
+    let e : some (z .0) ≡ some (record { class = record { pack = p; class = c }; name = n }) =
+    sym (z .1) ∙ look.reference-is i k a (referenced′.To p c n) q es self m in
+    let r : z .0 ≡ record { class = record { pack = p; class = c }; name = n } = cc in
+    subst (λ (x : Reference). ClassThere f s end es self (x .class .pack) (x .class .class) h j) r (z .2)
+
+-- and there is one
+pub open-there : (f s : Bytes) (end i k : ℕ) → ReferencesAt f i → ReferenceNth f i k referenced′.Nothing → (h : Home) (j : ℕ) →
+    Judged f s end → OpenFrom f s end k h j → ⊥
+open-there f s end i k a q h j g d =
+    let z = d (g .0) (g .1) (g .2) in
+    none-some (sym (look.reference-is i k a referenced′.Nothing q (g .0) (g .1) (g .2)) ∙ z .1)

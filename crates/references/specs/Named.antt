@@ -7,7 +7,9 @@
 -- MeantAt                == the declaration stands at the places told, and what else is told of what is named is true
 -- NamedIs                == an answer tells what is named, if anything is
 -- MeantIs, NumbersName, ReferenceIs == so of a class and a name, of a package number, a class number and a name, of reference k of the file
--- ToldOf q r             == r is open, or q holds of what it tells; OwnMeant, NumbersTell, ToldIs == so of MeantIs, NumbersName, ReferenceIs
+-- OpenFrom f s end k h i == reference k of the file names a class of the package at home h, whose record stands at place i of the file there
+-- ToldOf q o r           == q holds of what r tells, or o of the class that it tells where it is open; OwnMeant, NumbersTell, ToldIs == so of
+--                           MeantIs, NumbersName, ReferenceIs
 use Prim.Native.Nat.{ℕ, _<_, _≤_}
 use mathlib.Core.Path.{_≡_}
 use mathlib.Core.List.{List}
@@ -111,17 +113,22 @@ referenceNamed l is self k = at (self .pack .references) k andThen referenceName
 abbrev pub ReferenceIs : Bytes → Bytes → ℕ → ℕ → NamedFound → Type 0
 ReferenceIs f s end k r = OfJudged f s end λ es self. NamedIs f s end es self (referenceNamed (storeLimits s) (installed (storeLimits s) es) self k) r
 
--- what is told of a reference, if it is not open
-abbrev pub ToldOf : (NamedFound → Type 0) → Told → Type 0
-ToldOf q (told.Method x) = q (found.Method x)
-ToldOf q told.Nothing = q found.Nothing
-ToldOf q told.Open = Unit
+-- the class that reference k names
+abbrev pub OpenFrom : Bytes → Bytes → ℕ → ℕ → Home → ℕ → Type 0
+OpenFrom f s end k h i = OfJudged f s end λ es self.
+    (r : Reference) × (at (self .pack .references) k ≡ some r) × ClassThere f s end es self (r .class .pack) (r .class .class) h i
+
+-- what is told of a reference, or the class named where it is open
+abbrev pub ToldOf : (NamedFound → Type 0) → (Home → ℕ → Type 0) → Told → Type 0
+ToldOf q o (told.Method x) = q (found.Method x)
+ToldOf q o told.Nothing = q found.Nothing
+ToldOf q o (told.Open h i) = o h i
 
 abbrev pub OwnMeant : Bytes → Bytes → Sought → NamedRecord → Told → Type 0
-OwnMeant f s x r q = ToldOf (MeantIs f s x r) q
+OwnMeant f s x r q = ToldOf (MeantIs f s x r) (λ h i. (h ≡ x .home) × (i ≡ r .place)) q
 
 abbrev pub NumbersTell : Bytes → Bytes → ℕ → Naming → Told → Type 0
-NumbersTell f s end x r = ToldOf (NumbersName f s end x) r
+NumbersTell f s end x r = ToldOf (NumbersName f s end x) (λ h i. ClassIs f s end (x .pack) (x .class) (named.At h i)) r
 
 abbrev pub ToldIs : Bytes → Bytes → ℕ → ℕ → Told → Type 0
-ToldIs f s end k r = ToldOf (ReferenceIs f s end k) r
+ToldIs f s end k r = ToldOf (ReferenceIs f s end k) (OpenFrom f s end k) r

@@ -1,32 +1,39 @@
 // What the references of a group name, kept in a table for as many as it holds.
 use super::Group;
+use super::OpenReference;
 use super::Told;
 use super::kept;
-use super::name_reference;
+use super::search_reference;
 use super::tell_reference;
-ghost use Prim.Native.Nat.{_≤_};
+use homes::Places;
+ghost use Prim.Native.Nat.{_+_, _≤_, _<_};
 ghost use mathlib.Core.Path.{_≡_};
-ghost use mathlib.Core.Bool.{true};
+ghost use mathlib.Core.Bool.{true, false};
 ghost use lib.ListN.{length};
-ghost use Rattle.homes.specs.Found.{Indexed};
+ghost use Rattle.homes.specs.Found.{ImportPlaces};
 ghost use Rattle.slots.specs.Slots.{SlotsTrue};
 ghost use Rattle.references.specs.Setting.{Judged};
 ghost use Rattle.references.specs.Named.{GroupTrue, Lent};
-ghost use Rattle.references.specs.Kept.{keptLength, KeptTrue, AllTold, inGroup, toldIn, SameTold};
-ghost use Rattle.references.specs.declared.Told.the-variants as told;
+ghost use Rattle.references.specs.Kept.{keptCount, keptLength, isTold, KeptTrue, SearchedIn, AllTold, inGroup, toldIn, SameTold};
 
-// What is told of the references of the group, in the table, where no class above the class named is asked. What the table holds before is of
-// no account.
+// A place of the table of a group.
+pub struct PlaceIn {
+    pub group: Group,
+    pub k: usize,
+}
+
+// What is told of the references of the group, in the table, by the places of the file's imports, where no class above the class named is
+// asked. What the table holds before is of no account.
 pub fn tell_group<'a>(
     f: &'a [u8],
     s: &'a [u8],
-    packages: &[u16],
+    places: &Places,
     slots: &mut [u16],
     table: &mut [u16],
     g: Group,
 )
     requires { ⌜ Judged (now f) (now s) (g .end) × GroupTrue (now f) g × (length (now table) ≡ keptLength) ⌝ }
-    requires { ⌜ Indexed (now s) (g .end) (now packages) × (length (now s) ≤ 65535) ⌝ }
+    requires { ⌜ ImportPlaces (now f) (now s) (g .end) (now places) × (length (now s) ≤ 65535) ⌝ }
     requires { ⌜ SlotsTrue (now f) (now s) (now slots) ⌝ }
     ensures { λ _. ⌜ KeptTrue (now (f .entry)) (now (s .entry)) g (now (table .exit)) ⌝ }
     ensures { λ _. ⌜ SlotsTrue (now (f .entry)) (now (s .entry)) (now (slots .exit)) ⌝ }
@@ -36,9 +43,46 @@ pub fn tell_group<'a>(
         if g.count <= g.first + k {
             return;
         }
-        let x = tell_reference(f, s, packages, slots, g, g.first + k);
+        let x = tell_reference(f, s, places, slots, g, g.first + k);
         kept::keep_told(table, k, x);
         k += 1;
+    }
+}
+
+// What is open in a place of the table is searched.
+fn search_place<'a>(
+    f: &'a [u8],
+    s: &'a [u8],
+    packages: &[u16],
+    slots: &mut [u16],
+    seen: &mut [u8],
+    table: &mut [u16],
+    x: PlaceIn,
+)
+    requires { ⌜ Judged (now f) (now s) (x .group .end) × GroupTrue (now f) (x .group) × KeptTrue (now f) (now s) (x .group) (now table) ⌝ }
+    requires { ⌜ (x .k < keptCount) × (x .group .first + x .k < x .group .count) × Lent (now s) (x .group .end) (now packages) (now seen) ⌝ }
+    requires { ⌜ SlotsTrue (now f) (now s) (now slots) ⌝ }
+    ensures { λ _. ⌜ SearchedIn (now (f .entry)) (now (s .entry)) (x .group) (x .k) (now (table .entry)) (now (table .exit)) ⌝ }
+    ensures { λ _. ⌜ SlotsTrue (now (f .entry)) (now (s .entry)) (now (slots .exit)) ⌝ }
+{
+    let g = x.group;
+    match kept::told_at(table, x.k) {
+        Told::Open(h, place) => {
+            let open = OpenReference {
+                number: g.first + x.k,
+                home: h,
+                place,
+            };
+            let found = search_reference(f, s, packages, slots, seen, g, open);
+            kept::keep(table, x.k, found);
+            return;
+        }
+        Told::Method(_) => {
+            return;
+        }
+        Told::Nothing => {
+            return;
+        }
     }
 }
 
@@ -60,9 +104,11 @@ pub fn search_group<'a>(
 {
     let mut k = 0;
     while k < 32 {
+        if g.count <= g.first + k {
+            return;
+        }
         if kept::is_wanted(table, k) {
-            let x = name_reference(f, s, packages, slots, seen, g, g.first + k);
-            kept::keep(table, k, x);
+            search_place(f, s, packages, slots, seen, table, PlaceIn { group: g, k });
             k += 1;
         } else {
             k += 1;
@@ -70,8 +116,8 @@ pub fn search_group<'a>(
     }
 }
 
-// What the references of the group name, all of them searched, in the table.
-pub fn name_group<'a>(
+// All that are open are searched.
+pub fn search_all<'a>(
     f: &'a [u8],
     s: &'a [u8],
     packages: &[u16],
@@ -80,7 +126,7 @@ pub fn name_group<'a>(
     table: &mut [u16],
     g: Group,
 )
-    requires { ⌜ Judged (now f) (now s) (g .end) × GroupTrue (now f) g × (length (now table) ≡ keptLength) ⌝ }
+    requires { ⌜ Judged (now f) (now s) (g .end) × GroupTrue (now f) g × KeptTrue (now f) (now s) g (now table) ⌝ }
     requires { ⌜ Lent (now s) (g .end) (now packages) (now seen) ⌝ }
     requires { ⌜ SlotsTrue (now f) (now s) (now slots) ⌝ }
     ensures { λ _. ⌜ KeptTrue (now (f .entry)) (now (s .entry)) g (now (table .exit)) × AllTold g (now (table .exit)) ⌝ }
@@ -91,8 +137,7 @@ pub fn name_group<'a>(
         if g.count <= g.first + k {
             return;
         }
-        let x = name_reference(f, s, packages, slots, seen, g, g.first + k);
-        kept::keep(table, k, x);
+        search_place(f, s, packages, slots, seen, table, PlaceIn { group: g, k });
         k += 1;
     }
 }
@@ -126,7 +171,7 @@ pub fn told_in(table: &[u16], g: Group, k: usize) -> Told
 
 // A call asks for what is open of reference k.
 pub fn want_in(table: &mut [u16], g: Group, k: usize)
-    requires { ⌜ (length (now table) ≡ keptLength) × (inGroup g k ≡ true) × (toldIn (now table) g k ≡ told.Open) ⌝ }
+    requires { ⌜ (length (now table) ≡ keptLength) × (inGroup g k ≡ true) × (isTold (toldIn (now table) g k) ≡ false) ⌝ }
     ensures { λ _. ⌜ SameTold (now (table .entry)) (now (table .exit)) ⌝ }
 {
     if g.count <= k {

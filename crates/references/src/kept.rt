@@ -1,16 +1,18 @@
 // A table of what references name: six numbers for each, the home of the declaration's package, the places of its class and of its method,
-// and a mark: 34 where nothing is named, 35 where it is open, 36 where it is open and a call asked for it.
+// and a mark: 34 where nothing is named, 35 where it is open, 36 where it is open and a call asked for it. Where it is open home and place
+// are those of the class named.
 use super::Meant;
 use super::NamedFound;
 use super::Told;
+use fields::long;
 use homes::Home;
-use slots::number;
 ghost use mathlib.Core.Path.{_≡_};
 ghost use Prim.Native.Nat.{_*_, _+_, _<_, _≤_};
-ghost use lib.ListN.{length, set};
-ghost use Rattle.references.specs.Kept.{keptCount, keptLength, openMark, rowOf, markOf, toldOf, toldAt, SmallMeant, SmallFound, SmallTold};
-ghost use Rattle.references.specs.Kept.{withMeant, withNothing, KeptIs, SameTold};
-ghost use Rattle.references.specs.declared.Told.the-variants as told;
+ghost use mathlib.Core.Bool.{false};
+ghost use lib.ListN.{length};
+ghost use Rattle.slots.specs.Slots.{SmallHome};
+ghost use Rattle.references.specs.Kept.{keptCount, keptLength, rowOf, markOf, toldOf, toldAt, isTold, SmallMeant, SmallFound, SmallTold};
+ghost use Rattle.references.specs.Kept.{withRow, withMeant, withNothing, withOpen, KeptIs, SameTold};
 
 // The row of a package's domains: its number below 16, else 16.
 fn row_of(pack: usize) -> usize
@@ -33,19 +35,26 @@ fn mark_of(x: Meant) -> usize
     2 * row
 }
 
-// Writes a declaration in place k.
+// Writes six numbers in place k.
+fn keep_row(table: &mut [u16], k: usize, h: Home, class: usize, method: usize, mark: usize)
+    requires { ⌜ (k < keptCount) × (length (now table) ≡ keptLength) × SmallHome h × (class ≤ 65535) × (method ≤ 65535) × (mark ≤ 65535) ⌝ }
+    ensures { λ _. ⌜ now (table .exit) ≡ withRow (now (table .entry)) (6 * k) h class method mark ⌝ }
+{
+    let at = 6 * k;
+    table[at] = h.from as u16;
+    table[at + 1] = h.to as u16;
+    table[at + 2] = h.before as u16;
+    table[at + 3] = class as u16;
+    table[at + 4] = method as u16;
+    table[at + 5] = mark as u16;
+}
+
+// Writes a declaration there.
 fn keep_meant(table: &mut [u16], k: usize, x: Meant)
     requires { ⌜ (k < keptCount) × (length (now table) ≡ keptLength) × SmallMeant x ⌝ }
     ensures { λ _. ⌜ now (table .exit) ≡ withMeant (now (table .entry)) (6 * k) x ⌝ }
 {
-    let at = 6 * k;
-    let h = x.home;
-    table[at] = h.from as u16;
-    table[at + 1] = h.to as u16;
-    table[at + 2] = h.before as u16;
-    table[at + 3] = x.class as u16;
-    table[at + 4] = x.method as u16;
-    table[at + 5] = mark_of(x) as u16;
+    keep_row(table, k, x.home, x.class, x.method, mark_of(x));
 }
 
 // Writes there that nothing is named.
@@ -56,12 +65,12 @@ fn keep_nothing(table: &mut [u16], k: usize)
     table[6 * k + 5] = 34;
 }
 
-// Writes there that it is open.
-fn keep_open(table: &mut [u16], k: usize)
-    requires { ⌜ (k < keptCount) × (length (now table) ≡ keptLength) ⌝ }
-    ensures { λ _. ⌜ now (table .exit) ≡ set (now (table .entry)) (6 * k + 5) openMark ⌝ }
+// Writes there that it is open, and the class named.
+fn keep_open(table: &mut [u16], k: usize, h: Home, place: usize)
+    requires { ⌜ (k < keptCount) × (length (now table) ≡ keptLength) × SmallHome h × (place ≤ 65535) ⌝ }
+    ensures { λ _. ⌜ now (table .exit) ≡ withOpen (now (table .entry)) (6 * k) h place ⌝ }
 {
-    table[6 * k + 5] = 35;
+    keep_row(table, k, h, place, 0, 35);
 }
 
 // Writes in place k what is told of a reference.
@@ -78,8 +87,8 @@ pub fn keep_told(table: &mut [u16], k: usize, x: Told)
             keep_nothing(table, k);
             return;
         }
-        Told::Open => {
-            keep_open(table, k);
+        Told::Open(h, place) => {
+            keep_open(table, k, h, place);
             return;
         }
     }
@@ -87,7 +96,7 @@ pub fn keep_told(table: &mut [u16], k: usize, x: Told)
 
 // A call asks for what is open in place k.
 pub fn want(table: &mut [u16], k: usize)
-    requires { ⌜ (k < keptCount) × (length (now table) ≡ keptLength) × (toldAt (now table) k ≡ told.Open) ⌝ }
+    requires { ⌜ (k < keptCount) × (length (now table) ≡ keptLength) × (isTold (toldAt (now table) k) ≡ false) ⌝ }
     ensures { λ _. ⌜ SameTold (now (table .entry)) (now (table .exit)) ⌝ }
 {
     table[6 * k + 5] = 36;
@@ -97,7 +106,7 @@ pub fn want(table: &mut [u16], k: usize)
 pub fn is_wanted(table: &[u16], k: usize) -> bool
     requires { ⌜ (k < keptCount) × (length (now table) ≡ keptLength) ⌝ }
 {
-    number(table[6 * k + 5]) == 36
+    long(table[6 * k + 5]) == 36
 }
 
 // Writes in place k what is named.
@@ -123,22 +132,22 @@ pub fn told_at(table: &[u16], k: usize) -> Told
     ensures { λ r. ⌜ r ≡ toldAt (now (table .entry)) k ⌝ }
 {
     let at = 6 * k;
-    let mark = number(table[at + 5]);
+    let mark = long(table[at + 5]);
     if mark == 34 {
         return Told::Nothing;
     }
-    if 34 < mark {
-        return Told::Open;
-    }
     let h = Home {
-        from: number(table[at]),
-        to: number(table[at + 1]),
-        before: number(table[at + 2]),
+        from: long(table[at]),
+        to: long(table[at + 1]),
+        before: long(table[at + 2]),
     };
+    if 34 < mark {
+        return Told::Open(h, long(table[at + 3]));
+    }
     Told::Method(Meant {
         home: h,
-        class: number(table[at + 3]),
-        method: number(table[at + 4]),
+        class: long(table[at + 3]),
+        method: long(table[at + 4]),
         kind0: mark % 2 == 1,
         pack: mark / 2,
     })

@@ -11,10 +11,20 @@ use Rattle.rules.specs.Code.{Call, callsOf}
 use Rattle.rules.specs.Package.{Limits, ClassNumber, Reference, Class}
 use Rattle.rules.specs.Classes.{Installed, byAid, ClassAt, classNamed, ancestorsUpTo, MethodAt}
 use Rattle.rules.specs.Search.{searchUpTo}
-use Rattle.rules.specs.Questions.{own, parentExists, parentIsKind0, parentKinds, depthWithin, q14-parents, Named, referenceNames, callNames, q18-calls, q19-allowed, instancesOf, instancesOver, runsAllowing, q20-running}
+use Rattle.rules.specs.Questions.{own, parentExists, parentIsKind0, parentKinds, depthWithin, q14-parents, Named, referenceNames, callNames, callsNamedBy, q18-calls, callsAllowedBy, q19-allowed, instancesOf, instancesOver, runsAllowing, q20-running}
 use Rattle.rules.proofs.Lists.{all-cong, allFrom-cong, count-cong, andThen-cong}
 use Rattle.rules.proofs.Asked.{Inside}
 use Rattle.rules.proofs.Reached as reached
+
+-- calls that name the same get the same answers
+module _ (names others : Call → Option Named) (self : Installed) (agree : (c : Call) → names c ≡ others c) where
+  pub calls-named : callsNamedBy names self ≡ callsNamedBy others self
+  calls-named = allFrom-cong _ _ 0 (self .pack .classes) (λ i k m. all-cong _ _ (k .methods)
+      (λ o m′. all-cong _ _ (callsOf (o .code)) (λ c m″. rw (agree c))))
+
+  pub calls-allowed : callsAllowedBy names self ≡ callsAllowedBy others self
+  calls-allowed = allFrom-cong _ _ 0 (self .pack .classes) (λ i k m. all-cong _ _ (k .methods)
+      (λ o m′. all-cong _ _ (callsOf (o .code)) (λ c m″. rw (agree c))))
 
 module _ (is js : List Installed) (R : Installed → Type 0)
     (agree : (x : Installed) → R x → (a : Aid) → List·Memᴰ a (x .pack .imports) → byAid is a ≡ byAid js a)
@@ -58,13 +68,11 @@ module _ (is js : List Installed) (R : Installed → Type 0)
 
     pub q18-agree : q18-calls l is self ≡ q18-calls l js self
     unfolding q18-calls
-    q18-agree = allFrom-cong _ _ 0 (self .pack .classes) (λ i k m. all-cong _ _ (k .methods)
-        (λ o m′. all-cong _ _ (callsOf (o .code)) (λ c m″. rw (callNames-agree c))))
+    q18-agree = calls-named (callNames l is self) (callNames l js self) self callNames-agree
 
     pub q19-agree : q19-allowed l is self ≡ q19-allowed l js self
     unfolding q19-allowed
-    q19-agree = allFrom-cong _ _ 0 (self .pack .classes) (λ i k m. all-cong _ _ (k .methods)
-        (λ o m′. all-cong _ _ (callsOf (o .code)) (λ c m″. rw (callNames-agree c))))
+    q19-agree = calls-allowed (callNames l is self) (callNames l js self) self callNames-agree
 
     runs-allowing-agree : (b : ClassAt) (m : MethodAt) → R (b .home) → runsAllowing l is b m ≡ runsAllowing l js b m
     runs-allowing-agree b m s = rw (reached.runs-agree is js R agree closed (l .depth) b (m .method .name) s)

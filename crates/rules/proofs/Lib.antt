@@ -1,6 +1,6 @@
--- The laws about the definitions. Demand1, Demand2 and Demand3 are the claims of document 01, Request5, Request2, Request7, Request12, Request9 and
--- Request3 those of document 02; Exact says what single definitions are exactly; Witness, WitnessOwn, WitnessHandlers, WitnessKinds and
--- WitnessSearch show that demand 3 is not empty.
+-- The laws about the definitions. Demand1, Demand2 and Demand3 are the claims of document 01, Request5, Request2, Request7, Request12, Request9,
+-- Request3 and Request6 those of document 02; Exact says what single definitions are exactly; Witness, WitnessOwn, WitnessHandlers, WitnessKinds
+-- and WitnessSearch show that demand 3 is not empty, WitnessPlaces that request 6 is not.
 pub mod Demand1
 pub mod Demand2
 pub mod Demand3
@@ -10,6 +10,7 @@ pub mod Request7
 pub mod Request12
 pub mod Request9
 pub mod Request3
+pub mod Request6
 pub mod Exact
 pub mod Claims
 pub mod Answers
@@ -20,6 +21,7 @@ pub mod WitnessOwn
 pub mod WitnessHandlers
 pub mod WitnessKinds
 pub mod WitnessSearch
+pub mod WitnessPlaces
 pub mod Whole
 pub mod Paths
 pub mod Ledger
@@ -30,7 +32,11 @@ pub mod Agree
 pub mod Reached
 pub mod Homes
 pub mod Search
+pub mod SearchBy
 pub mod Names
+pub mod Placed
+pub mod PlacedOnce
+pub mod PlacedCalls
 pub mod Meant
 pub mod Above
 pub mod Since

@@ -2,16 +2,16 @@
 -- only at those that it reaches through imports. Assumes nothing.
 -- `R` holds of the packages reached; the two lists agree at their imports, and what is found there is reached.
 use Prim.Native.Nat.{ℕ, zero, suc}
-use mathlib.Core.Path.{_≡_, refl, sym, _∙_, ap, ap₂, subst}
-use mathlib.Core.Logic.{_⊎_, inl, inr}
-use mathlib.Core.List.{List, [], _∷_, _++_, List·Memᴰ, List·Memᴰ·eq-of-singleton, List·Memᴰ·cases-cons}
+use mathlib.Core.Path.{_≡_, refl, sym, _∙_, ap, subst}
+use mathlib.Core.List.{List, [], _∷_, List·Memᴰ, List·Memᴰ·eq-of-singleton}
 use mathlib.Core.Option.{Option, some, Option·some-injective}
-use Rattle.rules.specs.Bytes.{Aid, at, find, keep, firstOf, orElse, _andThen_, listOf, flat}
+use Rattle.rules.specs.Bytes.{Aid, at, find, orElse, _andThen_, listOf, flat}
 use Rattle.rules.specs.Package.{ClassNumber}
-use Rattle.rules.specs.Classes.{Installed, byAid, packageNumbered, ClassAt, recordOf, classNamed, parentsNamed, parentsOf, greatest, depthUpTo, ancestorsUpTo, isKind0, isInterface, kind0Parent, declaredInstance, MethodAt, methodIn, declaredAt, firstInstance, runsUpTo}
-use Rattle.rules.specs.Search.{chainUpTo, interfaceParents, interfacesUpTo, searchedUpTo, searchUpTo}
+use Rattle.rules.specs.Classes.{Installed, byAid, packageNumbered, ClassAt, recordOf, classNamed, parentsNamed, parentsOf, greatest, depthUpTo, ancestorsUpTo, isKind0, kind0Parent, declaredInstance, MethodAt, methodIn, firstInstance, runsUpTo}
+use Rattle.rules.specs.Search.{searchUpTo}
 use Rattle.rules.proofs.Tests.{flat-mem-is, listOf-mem, and-then-is, find-some}
-use Rattle.rules.proofs.Lists.{listOf-cong, greatest-cong, flat-cong, at-mem, keep-mem, andThen-cong}
+use Rattle.rules.proofs.Lists.{listOf-cong, greatest-cong, flat-cong, at-mem, andThen-cong}
+use Rattle.rules.proofs.SearchBy.{search-by}
 
 module _ (is js : List Installed) (R : Installed → Type 0)
     (agree : (x : Installed) → R x → (a : Aid) → List·Memᴰ a (x .pack .imports) → byAid is a ≡ byAid js a)
@@ -75,39 +75,6 @@ module _ (is js : List Installed) (R : Installed → Type 0)
   pub runs-agree : (k : ℕ) (c : ClassAt) (n : ℕ) → R (c .home) → runsUpTo is k c n ≡ runsUpTo js k c n
   runs-agree k c n r = rw (first-agree k c n r)
 
-  -- the classes of the search
-  kind0Parent-reached : (c : ClassAt) → R (c .home) → (d : ClassAt) → kind0Parent is c ≡ some d → R (d .home)
-  kind0Parent-reached c r d e = parent-reached c r d ((find-some isKind0 (parentsOf is c) d e) .0)
-
-  chain-reached : (k : ℕ) (c : ClassAt) → R (c .home) → (x : ClassAt) → List·Memᴰ x (chainUpTo is k c) → R (x .home)
-  chain-reached zero c r x m = subst (λ (y : ClassAt). R (y .home)) (sym (List·Memᴰ·eq-of-singleton m)) r
-  chain-reached (suc k) c r x m = go (List·Memᴰ·cases-cons m) (chain-reached k)
-    where
-      go : (x ≡ c) ⊎ List·Memᴰ x (listOf (kind0Parent is c) (chainUpTo is k)) →
-          ((d : ClassAt) → R (d .home) → (y : ClassAt) → List·Memᴰ y (chainUpTo is k d) → R (y .home)) → R (x .home)
-      go (inl e) rec = subst (λ (y : ClassAt). R (y .home)) (sym e) r
-      go (inr h) rec = let d = listOf-mem (kind0Parent is c) (chainUpTo is k) x h in rec (d .0) (kind0Parent-reached c r (d .0) (d .1)) x (d .2)
-
-  chain-agree : (k : ℕ) (c : ClassAt) → R (c .home) → chainUpTo is k c ≡ chainUpTo js k c
-  chain-agree zero c r = refl
-  chain-agree (suc k) c r =
-      let up = listOf-cong (kind0Parent is c) (chainUpTo is k) (chainUpTo js k) (λ d e. chain-agree k d (kind0Parent-reached c r d e)) in
-      ap (λ (t : List ClassAt). c ∷ t) (up ∙ ap (λ (o : Option ClassAt). listOf o (chainUpTo js k)) (kind0Parent-agree c r))
-
-  interfaces-agree : (k : ℕ) (c : ClassAt) → R (c .home) → interfacesUpTo is k c ≡ interfacesUpTo js k c
-  interfaces-agree zero c r = refl
-  interfaces-agree (suc k) c r =
-      let reached : (d : ClassAt) → List·Memᴰ d (interfaceParents is c) → R (d .home) =
-      λ d m. parent-reached c r d ((keep-mem isInterface (parentsOf is c) d m) .0) in
-      let theirs = flat-cong (λ (i : ClassAt). i ∷ interfacesUpTo is k i) (λ (i : ClassAt). i ∷ interfacesUpTo js k i) (interfaceParents is c)
-      (λ d m. ap (λ (t : List ClassAt). d ∷ t) (interfaces-agree k d (reached d m))) in
-      theirs ∙ ap (λ (cs : List ClassAt). flat (λ (i : ClassAt). i ∷ interfacesUpTo js k i) (keep isInterface cs)) (parentsOf-agree c r)
-
-  searched-agree : (k : ℕ) (c : ClassAt) → R (c .home) → searchedUpTo is k c ≡ searchedUpTo js k c
-  searched-agree k c r =
-      let each = flat-cong (interfacesUpTo is k) (interfacesUpTo js k) (chainUpTo is k c) (λ d m. interfaces-agree k d (chain-reached k c r d m)) in
-      ap₂ _++_ (chain-agree k c r) (each ∙ ap (flat (interfacesUpTo js k)) (chain-agree k c r))
-
-  -- what it finds
+  -- what the search finds
   pub search-agree : (k : ℕ) (c : ClassAt) (n : ℕ) → R (c .home) → searchUpTo is k c n ≡ searchUpTo js k c n
-  search-agree k c n r = ap (firstOf (declaredAt n)) (searched-agree k c r)
+  search-agree = search-by (parentsOf is) (parentsOf js) (λ c. R (c .home)) parentsOf-agree parent-reached

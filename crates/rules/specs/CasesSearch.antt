@@ -26,7 +26,7 @@ codeBy interface = hex "0006 8E00000000 7A"
 abbrev sizedFile : Bytes → Bytes
 sizedFile b = hex "42504B 0001" ++ high (length b + 7) ∷ low (length b + 7) ∷ b
 
-abbrev fileOf : String → String → ℕ → CallKind → String → Bytes
+abbrev pub fileOf : String → String → ℕ → CallKind → String → Bytes
 fileOf h r n k t = sizedFile (hex h ++ hex "0001" ++ hex r ++ suc n ∷ hex t ++ hex "00 00 01  60 0001 00" ++ codeBy k)
 
 abbrev calling : String → CallKind → String → ℕ → String → ℕ → Row

@@ -1,4 +1,4 @@
--- Document 01 and requests 5, 2, 7, 12, 9 and 3 of document 02 as definitions, in document 01's order.
+-- Document 01 and requests 5, 2, 7, 12, 9, 3 and 6 of document 02 as definitions, in document 01's order.
 pub mod Bytes
 pub mod Code
 pub mod Subset
@@ -11,6 +11,7 @@ pub mod Classes
 pub mod Search
 pub mod Questions
 pub mod Operations
+pub mod Places
 pub mod Ledger
 pub mod Paths
 pub mod Demands
@@ -37,3 +38,4 @@ pub mod CasesKinds
 pub mod CasesSearch
 pub mod Cases
 pub mod CasesCalls
+pub mod CasesPlaces

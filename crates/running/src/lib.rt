@@ -9,6 +9,8 @@ use chains::Names;
 use chains::RunsFound;
 use classes::ClassSpot;
 use fields::wide;
+use homes::Loaded;
+use homes::Places;
 use slots::parents;
 use visited::Visit;
 use visited::home_of;
@@ -18,7 +20,7 @@ ghost use mathlib.Core.Bool.{true};
 ghost use Prim.Native.Nat.{_+_, _*_, _/_, _≤_};
 ghost use lib.ListN.{length};
 ghost use Rattle.homes.specs.Homes.{ownHome};
-ghost use Rattle.homes.specs.Found.{Indexed};
+ghost use Rattle.homes.specs.Found.{Indexed, ImportPlaces};
 ghost use Rattle.classes.specs.Say.{ClassThere, Kind0Is};
 ghost use Rattle.classes.specs.Keys.{seenLength};
 ghost use Rattle.chains.specs.Names.{namesLength, NamesIs, Kept, AsStored, Room};
@@ -213,31 +215,34 @@ fn names_apart<'a>(
     chains::find_names(f, s, index, names, slots, kept, b)
 }
 
-// Question 20 of a file, over the entries of the store that end at a place, and their index; the domain of its package stands at place
-// `domain` of the store. For an interface nothing runs. What `names` and `seen` hold before and after is of no account.
+// Question 20 of a file that is judged, over the entries of the store before it, and their index; the places of its imports are lent. For an
+// interface nothing runs. What `names` and `seen` hold before and after is of no account.
 pub fn running_ok<'a>(
     f: &'a [u8],
     s: &'a [u8],
-    end: usize,
-    domain: usize,
+    x: Loaded,
     index: &[u16],
+    places: &Places,
     names: &mut [u16],
     seen: &mut [u8],
 ) -> bool
-    requires { ⌜ JudgedThere (now f) (now s) end domain ⌝ }
-    requires { ⌜ Indexed (now s) end (now index) × (length (now s) ≤ 65535) ⌝ }
+    requires { ⌜ JudgedThere (now f) (now s) (x .end) (x .domain) × ImportPlaces (now f) (now s) (x .end) (now places) ⌝ }
+    requires { ⌜ Indexed (now s) (x .end) (now index) × (length (now s) ≤ 65535) ⌝ }
     requires { ⌜ namesLength (now s) ≤ length (now names) ⌝ }
     requires { ⌜ seenLength (now s) ≤ length (now seen) ⌝ }
-    ensures { λ r. ⌜ RunningIs (now (f .entry)) (now (s .entry)) end domain r ⌝ }
+    ensures { λ r. ⌜ RunningIs (now (f .entry)) (now (s .entry)) (x .end) (x .domain) r ⌝ }
 {
+    let end = x.end;
+    let domain = x.domain;
     let mut slots = [0u16; 640];
+    slots::enter_imports(s, &mut slots, end, places);
     let h = homes::own_home(end);
     let mut kept = chains::no_names(end);
     let count = wide(f[files::classes_at(f)]);
     let mut b = 0;
     while b < count {
-        let x = ClassSpot { home: h, number: b };
-        if is_kind0(f, s, &mut slots, x) {
+        let c = ClassSpot { home: h, number: b };
+        if is_kind0(f, s, &mut slots, c) {
             let w = names_apart(f, s, index, &mut *names, &mut slots, kept, b);
             let o = OwnClass {
                 names: w,

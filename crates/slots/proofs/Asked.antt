@@ -4,7 +4,7 @@ use native.Mathlib.Omega.{arith}
 use mathlib.Core.Path.{_≡_, refl, sym, _∙_, ap, subst}
 use mathlib.Core.List.{List}
 use mathlib.Core.Logic.{_⊎_, inl, inr}
-use lib.ListN.{length, getD, set, replicate, length-set, length-replicate}
+use lib.ListN.{length, getD, set, length-set}
 use lib.Seq.{getD-set-same, getD-set-other}
 use Rattle.rules.specs.Bytes.{Bytes}
 use Rattle.rules.proofs.Lists.{same-or-not}
@@ -98,11 +98,3 @@ clear-more t u i b c = record { size = length-set u i 0 ∙ c .size; zeros = λ 
     zeros : (j : ℕ) → j < i + 1 → (j ≡ i) ⊎ (j ≡ i → ⊥) → getD (set u i 0) j 0 ≡ 0
     zeros j q (inl w) = rw w (getD-set-same u i 0 0 (omega (arith, c .size)))
     zeros j q (inr w) = getD-set-other u i j 0 0 w ∙ c .zeros j (omega (arith, w))
-
-pub slots-start : (f s : Bytes) → SlotsTrue f s (replicate 640 0)
-slots-start f s = slots-none f s (replicate 640 0) (omega (arith, length-replicate {A = ℕ} 640 0)) (λ j l. zeros 640 j)
-  where
-    zeros : (n i : ℕ) → _≡_ {A = ℕ} (getD (replicate n 0) i 0) 0
-    zeros zero i = refl
-    zeros (suc n) zero = refl
-    zeros (suc n) (suc i) = zeros n i

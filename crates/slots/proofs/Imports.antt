@@ -31,7 +31,7 @@ module _ (f s : Bytes) (t : List ℕ) (k p : ℕ) (b : k < slotCount) (small : s
   kept-same i (inr w) = home-is (homeIn kept i) (homeIn t i) (kept-other i (inr (omega arith))) (kept-other (i + 1) (inr (omega arith)))
       (kept-other (i + 2) (inr (omega arith)))
 
-  same-slot : slotHome kept k ≡ slotHome t k
+  pub same-slot : slotHome kept k ≡ slotHome t k
   same-slot = kept-same (slotLength * k + 32) (inl (omega arith))
 
   side : (r : ℕ) → (r ≡ p → ⊥) → (slotLength * k + 32 + 3 * suc r + 3 ≤ slotLength * k + 32 + 3 * suc p) ⊎

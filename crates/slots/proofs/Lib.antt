@@ -3,3 +3,4 @@ pub mod Slots
 pub mod Imports
 pub mod Asked
 pub mod Standing
+pub mod Entered

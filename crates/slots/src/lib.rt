@@ -2,16 +2,18 @@
 // truth of the package whose home stands in it.
 pub mod parents;
 
+use fields::long;
 use files::Spot;
 use homes::Home;
 use homes::HomeFound;
+use homes::Places;
 ghost use mathlib.Core.Path.{_≡_};
 ghost use mathlib.Core.Bool.{true};
 ghost use Prim.Native.Nat.{_+_, _*_, _<_, _≤_};
 ghost use lib.ListN.{length, set};
 ghost use Rattle.rules.specs.Bytes.{Bytes};
 ghost use Rattle.homes.specs.Homes.{HomeThere, NumberedIs, ClassPlaced};
-ghost use Rattle.homes.specs.Found.{Indexed};
+ghost use Rattle.homes.specs.Found.{placesLength, Indexed, ImportPlaces, PlacesStand};
 ghost use Rattle.classes.specs.Say.{ClassThere, RecordAt};
 ghost use Rattle.slots.specs.Slots.{slotCount, slotLength, slotsLength, homeIn, withHome, slotHome, SmallHome, Emptied, SlotsTrue, SlotFor};
 
@@ -21,13 +23,6 @@ pub struct Site {
     pub slot: usize,
 }
 
-// A number of the table.
-pub fn number(x: u16) -> usize
-    ensures { λ r. ⌜ (r ≡ x) × (r ≤ 65535) ⌝ }
-{
-    x as usize
-}
-
 // The home that stands in three numbers of the table.
 fn home_in(slots: &[u16], at: usize) -> Home
     requires { ⌜ at + 2 < length (now slots) ⌝ }
@@ -35,9 +30,9 @@ fn home_in(slots: &[u16], at: usize) -> Home
     ensures { λ r. ⌜ r ≡ homeIn (now (slots .entry)) at ⌝ }
 {
     Home {
-        from: number(slots[at]),
-        to: number(slots[at + 1]),
-        before: number(slots[at + 2]),
+        from: long(slots[at]),
+        to: long(slots[at + 1]),
+        before: long(slots[at + 2]),
     }
 }
 
@@ -104,6 +99,25 @@ fn take_slot(slots: &mut [u16], h: Home, k: usize)
     put_home(slots, 80 * k + 32, h);
 }
 
+// Nothing is known in any slot but where the own file's imports lie: slot 0 has their homes, by their places.
+pub fn enter_imports(s: &[u8], slots: &mut [u16], end: usize, places: &Places)
+    requires { ⌜ (slotsLength ≤ length (now slots)) × (end ≤ 65535) × (length (now s) ≤ 65535) ⌝ }
+    requires { ⌜ (length (now places) ≡ placesLength) × PlacesStand (now s) (now places) ⌝ }
+    ensures { λ _. ⌜ ((f : Bytes) → ImportPlaces f (now (s .entry)) end (now (places .entry)) → SlotsTrue f (now (s .entry)) (now (slots .exit))) ⌝ }
+{
+    clear(slots);
+    take_slot(slots, homes::own_home(end), 0);
+    let mut p = 1;
+    while p < 16 {
+        let place = long(places[p - 1]);
+        if place == 0 {
+            return;
+        }
+        put_home(slots, 32 + 3 * p, homes::home_at(s, place));
+        p += 1;
+    }
+}
+
 // The slot that holds the package at a home, or an empty one, or one by the home's place; slot 0 is the own file's.
 pub fn slot_for(slots: &[u16], h: Home) -> usize
     requires { ⌜ slotsLength ≤ length (now slots) ⌝ }
@@ -114,7 +128,7 @@ pub fn slot_for(slots: &[u16], h: Home) -> usize
     }
     let mut k = 1;
     while k < 8 {
-        let to = number(slots[80 * k + 33]);
+        let to = long(slots[80 * k + 33]);
         if to == h.to {
             return k;
         }

@@ -1,11 +1,12 @@
 //! `sequences SEED COUNT`: runs generated sequences through the byte operations
 //! and the ledger side by side and prints how often each number was answered, how deep
-//! the accepted files were and how often FE, handlers, limits, kinds of domains and searches for
-//! declarations decided.
+//! the accepted files were and how often FE, handlers, limits, kinds of domains, searches for
+//! declarations and places of imports decided.
 
 use independent::depths::DepthCounts;
 use independent::generate::sequences::sequence;
 use independent::handler_counts::HandlerCounts;
+use independent::import_counts::ImportCounts;
 use independent::int_counts::IntCounts;
 use independent::ledger::{Call, Ledger};
 use independent::limit_counts::LimitCounts;
@@ -27,6 +28,7 @@ struct Counts {
     limits: LimitCounts,
     int: IntCounts,
     search: SearchCounts,
+    imports: ImportCounts,
     yes: u64,
 }
 
@@ -94,6 +96,7 @@ fn count(counts: &mut Counts, call: &Call, answer: u32, store: &[u8]) {
     counts.limits.note(call, answer, store);
     counts.int.note(call, answer, store);
     counts.search.note(call, answer, store);
+    counts.imports.note(call, answer, store);
     match call {
         Call::Load { .. } if answer & 0xFF == 0 => counts.depths.note(answer >> 8, store),
         Call::Query { .. } => counts.yes += u64::from(answer >> 8),
@@ -118,7 +121,7 @@ fn print_table(counts: &Counts) {
     println!("{accepted}% of {loads} loads accepted: {}", counts.depths);
     println!("{} queries answered yes", counts.yes);
     println!("{}\n{}\n{}", counts.own, counts.handlers, counts.limits);
-    println!("{}\n{}", counts.int, counts.search);
+    println!("{}\n{}\n{}", counts.int, counts.search, counts.imports);
 }
 
 /// A short sequence that shows the difference, in hex.

@@ -3,6 +3,7 @@
 use super::chosen_limits::{bad_limits, good_limits};
 use super::damage::any_damage;
 use super::files::any_file;
+use super::import_sequences::import_sequence;
 use super::random::Random;
 use super::scene::Scene;
 use super::starts::{pools, some_start, Start};
@@ -16,12 +17,15 @@ use crate::without_int::DomainKind;
 /// How many of a hundred new domains are without int.
 const WITHOUT_INT: usize = 40;
 
+/// One sequence of so many is made for where imports lie.
+const OF_IMPORTS: u64 = 16;
+
 /// Builds a sequence while running it, so that later calls suit the store.
-struct Run<'r> {
-    random: &'r mut Random,
+pub(super) struct Run<'r> {
+    pub random: &'r mut Random,
     start: Vec<u8>,
     store: Vec<u8>,
-    scene: Scene,
+    pub scene: Scene,
     steps: Vec<Step>,
     /// The last damage, while it has not been undone.
     damaged: Option<(usize, u8)>,
@@ -32,6 +36,9 @@ struct Run<'r> {
 /// The sequence for this number; equal numbers give equal sequences.
 pub fn sequence(seed: u64) -> Sequence {
     let random = &mut Random::new(seed);
+    if seed.is_multiple_of(OF_IMPORTS) {
+        return import_sequence(random);
+    }
     if random.chance(8) {
         return build_over_store(random);
     }
@@ -78,7 +85,7 @@ fn build_over_store(random: &mut Random) -> Sequence {
 }
 
 impl<'r> Run<'r> {
-    fn new(random: &'r mut Random, start: Vec<u8>, scene: Scene) -> Self {
+    pub fn new(random: &'r mut Random, start: Vec<u8>, scene: Scene) -> Self {
         Run {
             random,
             store: start.clone(),
@@ -104,18 +111,24 @@ impl<'r> Run<'r> {
             let call = self.any_call();
             self.call(call);
         }
+        self.finish()
+    }
+
+    pub fn finish(self) -> Sequence {
         Sequence {
             start: self.start,
             steps: self.steps,
         }
     }
 
-    fn call(&mut self, call: Call) {
-        let answer = Independent.call(&mut self.store, &call);
-        if answer & 0xFF == 0 {
+    /// Makes a call; its number.
+    pub fn call(&mut self, call: Call) -> u8 {
+        let number = Independent.call(&mut self.store, &call) as u8;
+        if number == 0 {
             self.note(&call);
         }
         self.steps.push(Step::Call(call));
+        number
     }
 
     /// Keeps the scene up to date with an accepted call.
@@ -153,7 +166,7 @@ impl<'r> Run<'r> {
         self.steps.push(Step::Damage { place, bits });
     }
 
-    fn any_call(&mut self) -> Call {
+    pub fn any_call(&mut self) -> Call {
         match self.random.below(100) {
             0 => Call::Fresh,
             1..=2 => self.fresh_limits(),
@@ -186,7 +199,7 @@ impl<'r> Run<'r> {
 
     /// A created domain or one from the pool this many times in a hundred; else
     /// bytes of a length that no AID has, now and then.
-    fn domain(&mut self, created: usize, pool: usize) -> Vec<u8> {
+    pub fn domain(&mut self, created: usize, pool: usize) -> Vec<u8> {
         let choice = self.random.below(100);
         if choice < created {
             if let Some(domain) = self.random.pick_any(&self.scene.domains) {
@@ -200,7 +213,7 @@ impl<'r> Run<'r> {
     }
 
     /// An installed package this many times in a hundred.
-    fn package(&mut self, installed: usize) -> Vec<u8> {
+    pub fn package(&mut self, installed: usize) -> Vec<u8> {
         if self.random.chance(installed) {
             if let Some(package) = self.random.pick_any(&self.scene.packages) {
                 return package.model.aid.clone();
@@ -217,34 +230,5 @@ impl<'r> Run<'r> {
             .random
             .pick(&[0, 1, 4, 4, 5, 16, 17, 17, 255, 256, 300]);
         self.random.bytes(length)
-    }
-
-    fn query(&mut self) -> Call {
-        let package = self.package(85);
-        let mut domain = self.domain(40, 55);
-        let mut class = self.random.below(5) as u8;
-        let mut name = self.random.below(9) as u16;
-        if let Some(number) = self.scene.package_named(&package) {
-            let installed = &self.scene.packages[number];
-            if self.random.chance(30) {
-                domain = installed.domain.clone();
-            }
-            let classes = &installed.classes;
-            if self.random.chance(80) && !classes.is_empty() {
-                class = self.random.below(classes.len()) as u8;
-                let methods = &classes[usize::from(class)].methods;
-                if let Some(method) = self.random.pick_any(methods) {
-                    name = method.name;
-                }
-            } else if self.random.chance(50) {
-                class = classes.len() as u8;
-            }
-        }
-        Call::Query {
-            domain,
-            package,
-            class,
-            name,
-        }
     }
 }

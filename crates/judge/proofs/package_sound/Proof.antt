@@ -8,9 +8,11 @@ use borrow.Author.Needs.{needs}
 use Rattle.rules.specs.Bytes.{Bytes, Aid}
 use Rattle.store.specs.Entries.{part}
 use Rattle.homes.specs.Homes.{aidAt}
+use Rattle.homes.specs.Found.{ImportPlaces}
 use Rattle.homes.proofs.Domains.{aid-inside}
+use Rattle.index.proofs.Entering.{zeros}
 use Rattle.depths.specs.Depths.{OwnDepths, DepthsFit, depthWidth}
-use Rattle.judge.specs.Says.{HasRoom, Asked14Some, DepthsTold, InsideAnswer}
+use Rattle.judge.specs.Says.{HasRoom, Asked14Some, TablesTold, InsideAnswer}
 use Rattle.judge.specs.declared.LoadAnswer.the-variants.{Accepted}
 use Rattle.judge.proofs.Entry as entry
 use Rattle.judge.proofs.Loading as loading
@@ -24,13 +26,13 @@ abbrev start : tie.After-slice-known4 → tie.Start
 start k = k .before .before .before .before .before
 
 abbrev begin : tie.After-parents-answer → tie.Start
-begin k = start (k .before .before .before .before .before)
+begin k = start (k .before .before .before .before .before .before)
 
 abbrev answered : tie.After-enum-told2 → tie.After-parents-answer
 answered k = k .before .before .before
 
 abbrev told : tie.After-inside-number → tie.After-enum-told2
-told k = k .before .before .before .before
+told k = k .before .before .before .before .before
 
 abbrev passed : tie.Else1 → tie.After-inside-number
 passed k = k .before .before .before .before .before
@@ -39,7 +41,7 @@ abbrev kept : tie.After-slice-known7 → tie.Else1
 kept k = k .before .before .before .before .before
 
 abbrev ran : tie.After-running-number → tie.After-slice-known7
-ran k = k .before .before .before .before
+ran k = k .before .before .before .before .before
 
 abbrev done : tie.Else2 → tie.After-running-number
 done k = k .before .before .before .before .before
@@ -55,17 +57,19 @@ file b = part (now (b .args .s)) (b .args .x .file) (b .args .x .next)
 inside-store : (b : tie.Start) → (b .args .x .file ≤ b .args .x .next) × (b .args .x .next ≤ length (now (b .args .s)))
 inside-store b = (b .pre .0 .1 .file, b .pre .0 .1 .stands .to)
 
--- the file passed 14, and the depths of its classes are told
+-- the file passed 14, and the depths of its classes and the places of its imports are told
 asked : (k : tie.After-enum-told2) → let b = begin (answered k) in Asked14Some (now (b .args .s)) (b .args .x .at) (domain b) (file b)
 asked k = loading.asked-14 _ _ _ _ _ (answered k .parents-answer .ensures .0) _ (k .enum-told2 .given .1) (begin (answered k) .pre .0 .0)
 
 own : (k : tie.After-enum-told2) →
     let b = begin (answered k) in
     let ds = answered k .parents-answer .last .1 .1 .1 .1 .1 .0 in
+    let places = answered k .parents-answer .last .1 .1 .1 .1 .1 .1 .0 in
     OwnDepths (file b) (now (b .args .s)) (b .args .x .at) ds × DepthsFit (depthWidth (now (b .args .s))) (file b) ds
+    × ImportPlaces (file b) (now (b .args .s)) (b .args .x .at) places
 own k =
     let b = begin (answered k) in
-    subst (DepthsTold (now (b .args .s)) (b .args .x .at) (file b) _) (k .enum-told2 .given .1) (answered k .parents-answer .ensures .1)
+    subst (TablesTold (now (b .args .s)) (b .args .x .at) (file b) _ _) (k .enum-told2 .given .1) (answered k .parents-answer .ensures .1)
 
 -- 10 to 19, where 15 to 19 were answered yes
 inside : (e : tie.Else1) →
@@ -103,16 +107,16 @@ part-g-start c = omega (arith, inside-store (start c))
 part-g-end : tie.Need-part-g-end
 part-g-end c = omega (arith, inside-store (start c))
 
-add-t14 : tie.Need-add-t14
-add-t14 c = omega (arith, aid-inside (start (c .before) .pre .0 .1 .domain))
+add-aid : tie.Need-add-aid
+add-aid c = omega (arith, aid-inside (start (c .before) .pre .0 .1 .domain))
 
 slice-aggregate-parents-answer : tie.Need-slice-aggregate-parents-answer
 slice-aggregate-parents-answer c = search needs
 
 parents-answer-requires : tie.Need-parents-answer-requires
 parents-answer-requires c κs =
-    let pre = start (c .before .before .before .before) .pre in
-    (pre .0 .0, ((entry.indexed _ _ _ (pre .0 .0) (pre .1 .0 .0), pre .1 .0 .1, pre .1 .1 .0), refl))
+    let pre = start (c .before .before .before .before .before) .pre in
+    (pre .0 .0, ((entry.indexed _ _ _ (pre .0 .0) (pre .1 .0 .0), pre .1 .0 .1, pre .1 .1 .0), (refl, refl, zeros 15)))
 
 enum-told : tie.Need-enum-told
 enum-told c = search needs
@@ -120,12 +124,24 @@ enum-told c = search needs
 enum-told-2 : tie.Need-enum-told-2
 enum-told-2 c = search needs
 
+-- the places of the entry and of its domain fit two bytes
+places-small : (b : tie.Start) → b .args .x .at + 3 ≤ 65535
+places-small b = omega (arith, aid-inside (b .pre .0 .1 .domain), b .pre .1 .1 .0)
+
+cast-t28 : tie.Need-cast-t28
+cast-t28 c = omega (arith, places-small (begin (answered c)))
+
+cast-t29 : tie.Need-cast-t29
+cast-t29 c = omega (arith, places-small (begin (answered c)))
+
 inside-number-requires : tie.Need-inside-number-requires
 inside-number-requires c κs =
-    let k = c .before .before .before in
+    let k = c .before .before .before .before in
     let pre = begin (answered k) .pre in
-    let index = entry.indexed _ _ _ (pre .0 .0) (pre .1 .0 .0) in
-    ((asked k, record { there = pre .0 .1 .domain; asked = λ es o p e. sym (pre .0 .1 .known es o .2 p e) }), (index, pre .1 .1 .0, pre .1 .1 .1))
+    let index = entry.indexed _ _ _ (pre .0 .0) (pre .1 .0 .0) in (
+      (asked k, record { there = pre .0 .1 .domain; asked = λ es o p e. sym (pre .0 .1 .known es o .2 p e) }),
+      ((index, own k .2), pre .1 .1),
+    )
 
 same-length : tie.Need-same-length
 same-length c = search needs
@@ -157,15 +173,12 @@ keep-depths-requires c κs =
     let b = begin (answered k) in
     ((inside-store b .0, inside-store b .1, b .pre .1 .0 .1 .room, b .pre .1 .1 .0), (settings.readable _ _ _ _ (asked k), own k .1))
 
-add-running-number : tie.Need-add-running-number
-add-running-number c = omega (arith, aid-inside (begin (answered (told (passed (kept c)))) .pre .0 .1 .domain))
-
 running-number-requires : tie.Need-running-number-requires
 running-number-requires c κs =
-    let e = kept (c .before .before .before) in
+    let e = kept (c .before .before .before .before) in
     let k = told (passed e) in
     let pre = begin (answered k) .pre in
-    ((asked k, entry.indexed _ _ _ (pre .0 .0) (pre .1 .0 .0), pre .0 .1 .domain), (pre .1 .1 .0, room e))
+    ((asked k, pre .0 .1 .domain), ((entry.indexed _ _ _ (pre .0 .0) (pre .1 .0 .0), own k .2), (pre .1 .1 .0, room e)))
 
 same-length-5 : tie.Need-same-length-5
 same-length-5 c = search needs
@@ -232,7 +245,7 @@ returns-4 c =
 pub package-sound-spec : {M : Type 1} → statement M
 package-sound-spec =
     tie.close
-    (tie.spec sub-g part-g-start part-g-end add-t14 slice-aggregate-parents-answer parents-answer-requires enum-told enum-told-2 inside-number-requires
-    same-length same-length-2 same-length-3 same-length-4 returns slice-aggregate-keep-depths keep-depths-requires add-running-number
+    (tie.spec sub-g part-g-start part-g-end add-aid slice-aggregate-parents-answer parents-answer-requires enum-told enum-told-2 cast-t28 cast-t29 inside-number-requires
+    same-length same-length-2 same-length-3 same-length-4 returns slice-aggregate-keep-depths keep-depths-requires
     running-number-requires same-length-5 same-length-6 same-length-7 same-length-8 returns-2 enter-package-requires same-length-9 same-length-10 returns-3
     same-length-11 same-length-12 same-length-13 same-length-14 returns-4)

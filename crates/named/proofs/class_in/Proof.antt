@@ -15,14 +15,14 @@ home-at-requires c κs =
     let start = c .before .before .before in
     let a = start .args in
     let pre = start .pre in
-    ((pre .0 .1) .size, (numbers.number-few (now (a .f)) (now (a .s)) (a .end) (a .p) (pre .0 .0) (pre .1 .0)))
+    ((pre .0 .1) .size, numbers.number-placed (now (a .f)) (now (a .s)) (a .end) (now (a .places)) (pre .0 .1) (a .p) (pre .1 .0) (pre .0 .0))
 
 file-of-requires : tie.Need-file-of-requires
 file-of-requires c κs =
     let start = c .before .before .before .before in
     let a = start .args in
     let pre = start .pre in
-    there-bounds (now (a .f)) (now (a .s)) (c .home-at .result) (numbers.number-at (now (a .f)) (now (a .s)) (a .end) (now (a .homes)) (pre .0 .1) (a .p)
+    there-bounds (now (a .f)) (now (a .s)) (c .home-at .result) (numbers.number-at (now (a .f)) (now (a .s)) (a .end) (now (a .places)) (pre .0 .1) (a .p)
     (c .home-at .result) (c .home-at .ensures) (pre .1 .0) (pre .0 .0))
 
 mul-class-at : tie.Need-mul-class-at
@@ -40,9 +40,9 @@ class-at-requires c κs =
     let a = start .args in
     let pre = start .pre in (
       there-reads (now (a .f)) (now (a .s)) (home-at .result) (now (c .before .file-of .result)) (c .before .file-of .ensures)
-          (numbers.number-at (now (a .f)) (now (a .s)) (a .end) (now (a .homes)) (pre .0 .1) (a .p) (home-at .result) (home-at .ensures) (pre .1 .0)
+          (numbers.number-at (now (a .f)) (now (a .s)) (a .end) (now (a .places)) (pre .0 .1) (a .p) (home-at .result) (home-at .ensures) (pre .1 .0)
           (pre .0 .0)),
-      numbers.row-of (now (a .f)) (now (a .s)) (a .end) (now (a .homes)) (now (a .rows)) (a .p) (home-at .result)
+      numbers.row-of (now (a .f)) (now (a .s)) (a .end) (now (a .places)) (now (a .rows)) (a .p) (home-at .result)
           (now (c .before .file-of .result)) (home-at .ensures) (c .before .file-of .ensures)
           (numbers.number-few (now (a .f)) (now (a .s)) (a .end) (a .p) (pre .0 .0) (pre .1 .0)) (pre .1 .1),
     )
@@ -63,8 +63,8 @@ returns c =
       subst (λ (h : Home). ClassPlaced (now (a .f)) (now (a .s)) h (a .c) (class-at .result)) (home-at .ensures)
           (class-placed (now (a .f)) (now (a .s)) (home-at .result) (now (file-of .result)) (file-of .ensures) (a .c) (class-at .result)
           (class-at .ensures .0)),
-      numbers.rows-written (now (a .f)) (now (a .s)) (a .end) (now (a .homes)) (now (a .rows)) (class-at .last .1 .0) (a .p)
-          (class-at .kept .1 .0) (start .pre .1 .1) (numbers.row-back (now (a .f)) (now (a .s)) (a .end) (now (a .homes)) (class-at .last .1 .0) (a .p)
+      numbers.rows-written (now (a .f)) (now (a .s)) (a .end) (now (a .places)) (now (a .rows)) (class-at .last .1 .0) (a .p)
+          (class-at .kept .1 .0) (start .pre .1 .1) (numbers.row-back (now (a .f)) (now (a .s)) (a .end) (now (a .places)) (class-at .last .1 .0) (a .p)
           (home-at .result) (now (file-of .result)) (home-at .ensures) (file-of .ensures) (class-at .ensures .1 .0)) (class-at .ensures .1 .1),
     )
 

@@ -1,4 +1,4 @@
--- `references::class_named` meets its contract: the package by its number, the class by the slot of the package. Assumes nothing.
+-- `references::class_named` meets its contract: the package by the place of its import, the class by the slot of the package. Assumes nothing.
 use native.Mathlib.Omega.{arith}
 use mathlib.Core.Path.{_≡_, sym, subst}
 use denote.Ref.{now}
@@ -8,17 +8,18 @@ use Rattle.homes.specs.Homes.{ownHome, HomeThere, NumberedIs, ClassPlaced}
 use Rattle.homes.specs.declared.Home.{Home}
 use Rattle.homes.specs.declared.HomeFound.{HomeFound}
 use Rattle.homes.specs.declared.HomeFound.the-variants.{At}
-use Rattle.homes.proofs.Homes.{home-below}
+use Rattle.homes.proofs.Imported.{places-stand, numbered-placed}
+use Rattle.references.specs.Setting.{importsOf}
 use Rattle.references.proofs.Lookups as look
 use Rattle.references.proofs.class_named.Statement.{statement}
 use Rattle.references.proofs.class_named.Tie as tie
 
 -- the start, from where the package is looked for; that, from where it is found; that, from where its class is looked for
-abbrev start : tie.After-import-in → tie.Start
-start k = k .before .before .before .before .before .before .before
+abbrev start : tie.After-placed → tie.Start
+start k = k .before .before .before .before
 
-abbrev asked : tie.After-g → tie.After-import-in
-asked k = k .before .before .before .before
+abbrev asked : tie.After-g → tie.After-placed
+asked k = k .before .before
 
 abbrev found : tie.After-class-in → tie.After-g
 found k = k .before .before .before .before .before
@@ -27,10 +28,11 @@ found k = k .before .before .before .before .before
 abbrev Numbered : tie.Start → HomeFound → Type 0
 Numbered b r = NumberedIs (now (b .args .f)) (now (b .args .s)) (ownHome (b .args .end)) (b .args .p) r
 
-numbered : (k : tie.After-import-in) → Numbered (start k) (k .import-in .result)
+numbered : (k : tie.After-placed) → Numbered (start k) (k .placed .result)
 numbered k =
-    let a = start k .args in
-    subst (λ (h : Home). NumberedIs (now (a .f)) (now (a .s)) h (a .p) (k .import-in .result)) (k .before .before .own-home .ensures) (k .import-in .ensures .0)
+    let b = start k in
+    let a = b .args in
+    subst (Numbered b) (sym (k .placed .ensures)) (numbered-placed (now (a .f)) (now (a .s)) (a .end) (now (a .places)) (b .pre .0 .1) (a .p))
 
 -- the home found
 abbrev home : tie.After-g → Home
@@ -46,28 +48,24 @@ there k = let b = start (asked k) in look.numbered-there (b .args .p) (home k) (
 abbrev Placed : tie.After-g → Spot → Type 0
 Placed k r = let a = start (asked k) .args in ClassPlaced (now (a .f)) (now (a .s)) (home k) (a .c) r
 
-own-home-requires : tie.Need-own-home-requires
-own-home-requires c κs = search needs
-
-import-in-requires : tie.Need-import-in-requires
-import-in-requires c κs =
-    let b = c .before .before .before .before .before .before in
+placed-requires : tie.Need-placed-requires
+placed-requires c κs =
+    let b = c .before .before .before in
     let a = b .args in
-    let own : HomeThere (now (a .f)) (now (a .s)) (ownHome (a .end)) = look.own-there (b .pre .0 .0) in
-    let small = look.there-small (ownHome (a .end)) own (b .pre .0 .2) in
-    rw (c .before .own-home .ensures) ((own, omega arith), ((b .pre .0 .1, omega arith), ((small, b .pre .0 .2), b .pre .1)))
+    let j = b .pre .0 .0 in
+    (b .pre .0 .1 .size, places-stand (now (a .f)) (now (a .s)) (a .end) (now (a .places)) (b .pre .0 .1) (j .0) (j .1) (importsOf (j .2)))
 
 enum-known-g : tie.Need-enum-known-g
 enum-known-g c = search needs
 
 slot-for-requires : tie.Need-slot-for-requires
-slot-for-requires c κs = asked (c .before .before) .import-in .ensures .1 .size
+slot-for-requires c κs = start (asked (c .before .before)) .pre .1 .size
 
 class-in-requires : tie.Need-class-in-requires
 class-in-requires c κs =
     let k = c .before .before .before .before in
     let b = start (asked k) in
-    ((there k, c .before .slot-for .ensures), (look.there-small (home k) (there k) (b .pre .0 .2), asked k .import-in .ensures .1))
+    ((there k, c .before .slot-for .ensures), (look.there-small (home k) (there k) (b .pre .0 .2), b .pre .1))
 
 enum-known-place : tie.Need-enum-known-place
 enum-known-place c = search needs
@@ -79,7 +77,7 @@ enum-told-2 : tie.Need-enum-told-2
 enum-told-2 c = search needs
 
 same-length : tie.Need-same-length
-same-length c = let k = c .before .before .before .before .before in omega (arith, k .class-in .kept, asked (found k) .import-in .kept)
+same-length c = search needs
 
 returns : tie.Need-returns
 returns c =
@@ -89,7 +87,7 @@ returns c =
     (look.class-found (a .p) (a .c) (home (found k)) (c .before .place .given .0 .0) (at-home (found k)) placed, k .class-in .ensures .1)
 
 same-length-2 : tie.Need-same-length-2
-same-length-2 c = let k = c .before .before .before .before in omega (arith, k .class-in .kept, asked (found k) .import-in .kept)
+same-length-2 c = search needs
 
 returns-2 : tie.Need-returns-2
 returns-2 c =
@@ -98,18 +96,15 @@ returns-2 c =
     let none = subst (Placed (found k)) (c .enum-told .given .1) (k .class-in .ensures .0) in
     (look.class-missing (a .p) (a .c) (home (found k)) (at-home (found k)) none, k .class-in .ensures .1)
 
-same-length-3 : tie.Need-same-length-3
-same-length-3 c = omega (arith, c .before .before .before .before .import-in .kept)
-
 returns-3 : tie.Need-returns-3
 returns-3 c =
-    let k = c .before .before .before .before in
-    let a = start k .args in
-    let none = subst (Numbered (start k)) (c .enum-told2 .given .1) (numbered k) in
-    (look.numbered-none (a .p) (a .c) none, k .import-in .ensures .1)
+    let k = c .before .before in
+    let b = start k in
+    let none = subst (Numbered b) (c .enum-told2 .given .1) (numbered k) in
+    (look.numbered-none (b .args .p) (b .args .c) none, b .pre .1)
 
 pub class-named-spec : {M : Type 1} → statement M
 class-named-spec =
     tie.close
-    (tie.spec own-home-requires import-in-requires enum-known-g slot-for-requires class-in-requires enum-known-place enum-told enum-told-2 same-length
-    returns same-length-2 returns-2 same-length-3 returns-3)
+    (tie.spec placed-requires enum-known-g slot-for-requires class-in-requires enum-known-place enum-told enum-told-2 same-length returns same-length-2
+    returns-2 returns-3)

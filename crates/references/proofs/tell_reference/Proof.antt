@@ -13,7 +13,7 @@ use Rattle.references.proofs.tell_reference.Tie as tie
 
 -- the start, from where the reference is read; that, from where it is one; that, from where what it names is known
 abbrev start : tie.After-reference-at → tie.Start
-start k = k .before .before .before .before .before
+start k = k .before .before .before .before
 
 abbrev read : tie.After-p → tie.After-reference-at
 read k = k .before .before
@@ -26,7 +26,7 @@ abbrev Nth : tie.Start → Referenced → Type 0
 Nth b r = ReferenceNth (now (b .args .f)) (b .args .g .at) (b .args .k) r
 
 reference-at-requires : tie.Need-reference-at-requires
-reference-at-requires c κs = let pre = c .before .before .before .before .pre in references-there (pre .0 .1 .stand) (look.judged-reads (pre .0 .0))
+reference-at-requires c κs = let pre = c .before .before .before .pre in references-there (pre .0 .1 .stand) (look.judged-reads (pre .0 .0))
 
 enum-known-p : tie.Need-enum-known-p
 enum-known-p c = search needs

@@ -13,7 +13,7 @@ use Rattle.references.proofs.told_by.Tie as tie
 
 -- the start, from where the class is looked for; that, from where it is found
 abbrev start : tie.After-class-named → tie.Start
-start k = k .before .before .before .before .before .before
+start k = k .before .before .before .before .before
 
 abbrev asked : tie.After-h → tie.After-class-named
 asked k = k .before .before .before .before

@@ -21,20 +21,20 @@ returns c = omega arith
 loop-holds : tie.Need-loop-holds Inv-loop μ-loop
 loop-holds c = omega arith
 
-mul-number : tie.Need-mul-number Inv-loop μ-loop
-mul-number c = omega (arith, c .loop-test .taken)
+mul-long : tie.Need-mul-long Inv-loop μ-loop
+mul-long c = omega (arith, c .loop-test .taken)
 
-add-number : tie.Need-add-number Inv-loop μ-loop
-add-number c = omega (arith, c .loop-test .taken)
+add-long : tie.Need-add-long Inv-loop μ-loop
+add-long c = omega (arith, c .loop-test .taken)
 
-mul-number-2 : tie.Need-mul-number-2 Inv-loop μ-loop
-mul-number-2 c = omega (arith, c .loop-test .taken)
+mul-long-2 : tie.Need-mul-long-2 Inv-loop μ-loop
+mul-long-2 c = omega (arith, c .loop-test .taken)
 
-shared-slice-read-number : tie.Need-shared-slice-read-number Inv-loop μ-loop
-shared-slice-read-number c = omega (arith, c .before .loop-test .taken, c .before .before .before .before .before .before .pre)
+shared-slice-read-long : tie.Need-shared-slice-read-long Inv-loop μ-loop
+shared-slice-read-long c = omega (arith, c .before .loop-test .taken, c .before .before .before .before .before .before .pre)
 
-number-requires : tie.Need-number-requires Inv-loop μ-loop
-number-requires c κs = search needs
+long-requires : tie.Need-long-requires Inv-loop μ-loop
+long-requires c κs = search needs
 
 returns-2 : tie.Need-returns-2 Inv-loop μ-loop
 returns-2 c = turn (c .before) .loop-test .taken
@@ -60,5 +60,5 @@ returns-4 c = omega arith
 pub slot-for-spec : {M : Type 1} → statement M
 slot-for-spec =
     tie.close
-    (tie.spec Inv-loop μ-loop returns loop-holds mul-number add-number mul-number-2 shared-slice-read-number number-requires returns-2 returns-3 add-k
+    (tie.spec Inv-loop μ-loop returns loop-holds mul-long add-long mul-long-2 shared-slice-read-long long-requires returns-2 returns-3 add-k
     loop-less loop-again add-result returns-4)

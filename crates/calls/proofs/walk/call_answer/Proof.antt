@@ -6,10 +6,10 @@ use denote.Ref.{now}
 use borrow.Author.Needs.{needs}
 use borrow.Author.Tests.{not-true, not-false}
 use Rattle.references.specs.Named.{ToldIs}
-use Rattle.references.specs.Kept.{inGroup, toldIn}
+use Rattle.references.specs.Kept.{isTold, inGroup, toldIn}
 use Rattle.references.specs.declared.Told.{Told}
 use Rattle.references.proofs.Filled.{told-true, told-stays}
-use Rattle.calls.specs.Calls.{isTold, withTable}
+use Rattle.calls.specs.Calls.{withTable}
 use Rattle.calls.proofs.Asked as asked
 use Rattle.calls.proofs.Forms as forms
 use Rattle.calls.proofs.walk.call_answer.Statement.{statement}
@@ -75,7 +75,7 @@ want-in-requires : tie.Need-want-in-requires
 want-in-requires c κs =
     let o = c .before in
     let k = o .before .before in
-    (start (asks k .before) .pre .1 .0 .size, there (asks k), is-told k _ (o .enum-told2 .given .1))
+    (start (asks k .before) .pre .1 .0 .size, there (asks k), ap isTold (is-told k _ (o .enum-told2 .given .1)))
 
 same-length : tie.Need-same-length
 same-length c = search needs

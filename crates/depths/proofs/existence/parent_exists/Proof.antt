@@ -33,7 +33,7 @@ there k = exist.imports-there _ _ _ (start k .pre .1 .0) (k .if1 .left)
 abbrev Placed : tie.After-class-in → Spot → Type 0
 Placed k =
     let a = start (small k) .args in
-    ClassPlaced (now (a .f)) (now (a .s)) (homeOf (a .o .end) (now (a .homes)) (a .p)) (a .c)
+    ClassPlaced (now (a .f)) (now (a .s)) (homeOf (now (a .s)) (a .o .end) (now (a .places)) (a .p)) (a .c)
 
 returns : tie.Need-returns
 returns c = let pre = c .before .before .before .before .before .pre in (exist.exists-beyond _ _ _ _ _ _ _ (pre .1 .0) (c .if1 .taken), pre .1 .1)

@@ -47,7 +47,7 @@ reads b = exist.judged-reads (now (b .args .f)) (now (b .args .s)) (b .args .b .
 -- the rows are true behind the search
 rows-true : (k : tie.After-stands-at Inv-loop μ-loop) →
     let a = start (turn k) .args in
-    RowsTrue (now (a .f)) (now (a .s)) (a .b .end) (now (a .homes)) (k .stands-at .last .1 .0)
+    RowsTrue (now (a .f)) (now (a .s)) (a .b .end) (now (a .places)) (k .stands-at .last .1 .0)
 rows-true k = exist.own-written _ _ _ _ _ _ (k .stands-at .kept .1 .0) (turn k .loop .inv .1) (k .stands-at .ensures .1)
 
 -- the class of the turn stands at the place found; its number is below 32

@@ -50,7 +50,7 @@ few b = exist.own-few _ _ _ (exist.judged-reads _ _ _ (judged b)) (b .pre .1 .0 
 listed : (k : tie.After-parent-at Inv-loop μ-loop) →
     let t = turn k in
     let a = start (counted t) .args in
-    parent.Listed (now (a .f)) (now (a .s)) (a .o .end) (a .o .number) (t .loop .i) (now (a .homes)) (k .parent-at .result .pack) (k .parent-at .result .class)
+    parent.Listed (now (a .f)) (now (a .s)) (a .o .end) (a .o .number) (t .loop .i) (now (a .places)) (k .parent-at .result .pack) (k .parent-at .result .class)
 listed k =
     let n = counted (turn k) in
     let pre = start n .pre in

@@ -54,14 +54,16 @@ stands k =
 -- the rows are true behind the search
 rows-true : (k : tie.After-stands-at) →
     let a = begin k .args in
-    RowsTrue (now (a .f)) (now (a .s)) (a .x .end) (now (a .homes)) (k .stands-at .last .1 .0)
+    RowsTrue (now (a .f)) (now (a .s)) (a .x .end) (now (a .places)) (k .stands-at .last .1 .0)
 rows-true k =
     let w = filed k in
     let back = numbers.row-back _ _ _ _ _ _ _ _ (w .before .home-at .ensures) (w .file-of .ensures) (k .stands-at .ensures .1 .0) in
     numbers.rows-written _ _ _ _ _ _ _ (k .stands-at .kept .1 .0) (begin k .pre .1 .1 .0) back (k .stands-at .ensures .1 .1)
 
 home-at-requires : tie.Need-home-at-requires
-home-at-requires c κs = let b = c .before .before .before .before .before in (b .pre .0 .0 .size, few b)
+home-at-requires c κs =
+    let b = c .before .before .before .before .before in
+    (b .pre .0 .0 .size, numbers.number-placed _ _ _ _ (b .pre .0 .0) _ (b .pre .0 .1) (judged b))
 
 file-of-requires : tie.Need-file-of-requires
 file-of-requires c κs = there-bounds _ _ _ (there c)

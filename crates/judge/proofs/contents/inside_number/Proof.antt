@@ -19,13 +19,13 @@ returns : tie.Need-returns
 returns c =
     let a = c .before .before .before .before .before .before .before .args in
     let no = subst (NamesIs (now (a .file))) (not-true _ (c .if1 .taken)) (c .before .names-ok .ensures) in
-    stages.names-before (now (a .s)) (a .end) (aidAt (now (a .s)) (a .domain .aid)) (now (a .file)) no
+    stages.names-before (now (a .s)) (a .x .end) (aidAt (now (a .s)) (a .x .aid)) (now (a .file)) no
 
 codes-number-requires : tie.Need-codes-number-requires
 codes-number-requires c κs =
     let start = c .before .before .before .before .before .before .before in
     let a = start .args in
-    (settings.read-some (now (a .s)) (a .end) (aidAt (now (a .s)) (a .domain .aid)) (now (a .file)) (start .pre .0 .0), start .pre .1 .1)
+    (settings.read-some (now (a .s)) (a .x .end) (aidAt (now (a .s)) (a .x .aid)) (now (a .file)) (start .pre .0 .0), start .pre .1 .1 .0)
 
 is-refusal-requires : tie.Need-is-refusal-requires
 is-refusal-requires c κs = search needs
@@ -45,13 +45,13 @@ returns-2 c =
     let k = c .before .before in
     let a = start k .args in
     let codes = k .codes-number in
-    stages.codes-before (now (a .s)) (a .end) (aidAt (now (a .s)) (a .domain .aid)) (now (a .file)) (fifteen k) (codes .result) (codes .ensures)
+    stages.codes-before (now (a .s)) (a .x .end) (aidAt (now (a .s)) (a .x .aid)) (now (a .file)) (fifteen k) (codes .result) (codes .ensures)
     (sym (c .before .is-refusal .ensures) ∙ c .if2 .taken)
 
 subset-ok-requires : tie.Need-subset-ok-requires
 subset-ok-requires c κs =
     let b = start (c .before .before) in
-    settings.readable (now (b .args .s)) (b .args .end) (aidAt (now (b .args .s)) (b .args .domain .aid)) (now (b .args .file)) (b .pre .0 .0)
+    settings.readable (now (b .args .s)) (b .args .x .end) (aidAt (now (b .args .s)) (b .args .x .aid)) (now (b .args .file)) (b .pre .0 .0)
 
 -- 16, 17 and 24 were answered yes
 passed : (c : tie.Else2) → let n = c .before .before .codes-number .result in (eqb n 0 || eqb n 18) ≡ true
@@ -68,8 +68,8 @@ returns-3 c =
     let a = start k .args in
     let codes = k .codes-number in
     let subset = c .before .subset-ok in
-    stages.subset-before (now (a .s)) (a .end) (aidAt (now (a .s)) (a .domain .aid)) (now (a .file)) (fifteen k) (codes .result) (codes .ensures)
-    (passed told) (a .domain .subset) (subset .result) (subset .ensures) (start k .pre .0 .1 .asked) (not-true _ (c .if3 .taken))
+    stages.subset-before (now (a .s)) (a .x .end) (aidAt (now (a .s)) (a .x .aid)) (now (a .file)) (fifteen k) (codes .result) (codes .ensures)
+    (passed told) (a .x .subset) (subset .result) (subset .ensures) (start k .pre .0 .1 .asked) (not-true _ (c .if3 .taken))
 
 returns-4 : tie.Need-returns-4
 returns-4 c =
@@ -79,19 +79,25 @@ returns-4 c =
     let a = start k .args in
     let codes = k .codes-number in
     let subset = kept .before .subset-ok in
-    stages.quiet-before (now (a .s)) (a .end) (aidAt (now (a .s)) (a .domain .aid)) (now (a .file)) (fifteen k) (codes .result) (codes .ensures)
-    (passed told) (a .domain .subset) (subset .result) (subset .ensures) (start k .pre .0 .1 .asked) (not-false _ (kept .if3 .left)) (c .if4 .taken)
+    stages.quiet-before (now (a .s)) (a .x .end) (aidAt (now (a .s)) (a .x .aid)) (now (a .file)) (fifteen k) (codes .result) (codes .ensures)
+    (passed told) (a .x .subset) (subset .result) (subset .ensures) (start k .pre .0 .1 .asked) (not-false _ (kept .if3 .left)) (c .if4 .taken)
+
+cast-t13 : tie.Need-cast-t13
+cast-t13 c = search needs
+
+cast-t14 : tie.Need-cast-t14
+cast-t14 c = search needs
 
 calls-number-requires : tie.Need-calls-number-requires
 calls-number-requires c κs =
-    let told = c .before .before .before .before .before in
+    let told = c .before .before .before .before .before .before .before in
     let k = told .before .before in
     let b = start k in
     let a = b .args in
     let codes = k .codes-number in
-    let d = aidAt (now (a .s)) (a .domain .aid) in
-    let is-18 = stages.is-18 (now (a .s)) (a .end) d (now (a .file)) (fifteen k) (codes .result) (codes .ensures) (passed told) (c .before .before .if4 .left) in
-    let split = stages.codes-split (now (a .s)) (a .end) d (now (a .file)) (fifteen k) (codes .result) (codes .ensures) (b .pre .0 .0) is-18 in
+    let d = aidAt (now (a .s)) (a .x .aid) in
+    let is-18 = stages.is-18 (now (a .s)) (a .x .end) d (now (a .file)) (fifteen k) (codes .result) (codes .ensures) (passed told) (c .before .before .before .before .if4 .left) in
+    let split = stages.codes-split (now (a .s)) (a .x .end) d (now (a .file)) (fifteen k) (codes .result) (codes .ensures) (b .pre .0 .0) is-18 in
     ((b .pre .0 .0, split, b .pre .0 .1 .there), b .pre .1)
 
 same-length : tie.Need-same-length
@@ -103,18 +109,18 @@ same-length-2 c = search needs
 returns-5 : tie.Need-returns-5
 returns-5 c =
     let number = c .before .before .before .before .calls-number in
-    let kept = c .before .before .before .before .before .before .before .before in
+    let kept = c .before .before .before .before .before .before .before .before .before .before in
     let told = kept .before .before in
     let k = told .before .before in
     let a = start k .args in
     let codes = k .codes-number in
     let subset = kept .before .subset-ok in
-    stages.calls-behind (now (a .s)) (a .end) (aidAt (now (a .s)) (a .domain .aid)) (now (a .file)) (fifteen k) (codes .result) (codes .ensures)
-    (passed told) (a .domain .subset) (subset .result) (subset .ensures) (start k .pre .0 .1 .asked) (not-false _ (kept .if3 .left)) (number .result)
+    stages.calls-behind (now (a .s)) (a .x .end) (aidAt (now (a .s)) (a .x .aid)) (now (a .file)) (fifteen k) (codes .result) (codes .ensures)
+    (passed told) (a .x .subset) (subset .result) (subset .ensures) (start k .pre .0 .1 .asked) (not-false _ (kept .if3 .left)) (number .result)
     (number .ensures)
 
 pub inside-number-spec : {M : Type 1} → statement M
 inside-number-spec =
     tie.close
     (tie.spec names-ok-requires returns codes-number-requires is-refusal-requires cast-result returns-2 subset-ok-requires returns-3 returns-4
-    calls-number-requires same-length same-length-2 returns-5)
+    cast-t13 cast-t14 calls-number-requires same-length same-length-2 returns-5)

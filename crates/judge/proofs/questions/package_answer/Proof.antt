@@ -69,7 +69,10 @@ returns c =
     (parents.parents-12 _ _ _ (o .1) (o .2 .0) (o .2 .1) (new (c .before) _ (not-true _ (c .if1 .taken))), tt)
 
 imports-there-requires : tie.Need-imports-there-requires
-imports-there-requires c κs = let b = start (c .before .before) in (over b, (b .pre .1 .0 .0 .is, refl))
+imports-there-requires c κs =
+    let b = start (c .before .before) in
+    let tables = b .pre .1 .1 in
+    ((over b, b .pre .1 .0 .2), (b .pre .1 .0 .0 .is, (tables .1, tables .2)))
 
 returns-2 : tie.Need-returns-2
 returns-2 c =
@@ -91,7 +94,7 @@ parents-ok-requires c κs =
       (judged k, k .before .imports-there .ensures .1),
       (
         rows-empty (now (b .args .file)) (now (b .args .s)) (b .args .end) _ _ refl (zeros 512),
-        ((b .pre .1 .0 .1, b .pre .1 .0 .2), (settings.depth-limit _ _ (l .limits-of .ensures), b .pre .1 .1)),
+        ((b .pre .1 .0 .1, b .pre .1 .0 .2), (settings.depth-limit _ _ (l .limits-of .ensures), b .pre .1 .1 .0)),
       ),
     )
 
@@ -117,7 +120,8 @@ returns-3 c =
       parents.parents-yes _ _ _ (o .1) (o .2 .0) (o .2 .1) (is-new (k .before)) (is-imported k) (g .0 .0) yes,
       (
         own,
-        depths-fit (now (a .file)) (now (a .s)) (a .end) (g .0 .0) _ (judged k) yes own (omega (arith, p .parents-ok .kept .1 .1 .1 .1 .1 .0, b .pre .1 .1)),
+        depths-fit (now (a .file)) (now (a .s)) (a .end) (g .0 .0) _ (judged k) yes own (omega (arith, p .parents-ok .kept .1 .1 .1 .1 .1 .0, b .pre .1 .1 .0)),
+        k .before .imports-there .ensures .1,
       ),
     )
 

@@ -22,7 +22,7 @@ enum-told-3 c = search needs
 
 package-answer-requires : tie.Need-package-answer-requires
 package-answer-requires c κs =
-    let t = c .before in
+    let t = c .before .before in
     let k = t .before .before in
     let pre = k .before .before .before .before .before .before .before .pre in
     let read = said.said-0 _ _ (k .before .limits-of .ensures) _ _ (k .read-package .ensures) _ (t .enum-told3 .given .1) in

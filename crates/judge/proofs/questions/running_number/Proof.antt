@@ -28,30 +28,30 @@ begin k = start (asked k .before)
 -- the answer to 20
 twenty : (k : tie.After-slice-known4) (r : Bool) → asked k .running-ok .result ≡ r →
     let a = begin k .args in
-    RunningIs (now (a .file)) (now (a .s)) (a .end) (a .domain) r
-twenty k r e = let a = begin k .args in subst (RunningIs (now (a .file)) (now (a .s)) (a .end) (a .domain)) e (asked k .running-ok .ensures)
+    RunningIs (now (a .file)) (now (a .s)) (a .x .end) (a .x .domain) r
+twenty k r e = let a = begin k .args in subst (RunningIs (now (a .file)) (now (a .s)) (a .x .end) (a .x .domain)) e (asked k .running-ok .ensures)
 
 -- the loading domain's bytes, and the answer to 21
-named : (k : tie.After-aid-bytes) → let a = begin (k .before .before) .args in now (k .aid-bytes .result) ≡ aidAt (now (a .s)) (a .domain)
+named : (k : tie.After-aid-bytes) → let a = begin (k .before .before) .args in now (k .aid-bytes .result) ≡ aidAt (now (a .s)) (a .x .domain)
 named k =
-    let e = begin (k .before .before) .pre .0 .2 in
+    let e = begin (k .before .before) .pre .0 .1 in
     k .aid-bytes .ensures (e .0) (e .1) (e .2) ∙ aid-at (e .2)
 
 fits : (k : tie.After-package-fits) (r : Bool) → k .package-fits .result ≡ r →
     let a = begin (k .before .before .before) .args in
-    Fits (now (a .s)) (a .end) (loaded (aidAt (now (a .s)) (a .domain)) (now (a .file))) r
+    Fits (now (a .s)) (a .x .end) (loaded (aidAt (now (a .s)) (a .x .domain)) (now (a .file))) r
 fits k r e =
     let a = begin (k .before .before .before) .args in
-    subst (λ (d : Aid). Fits (now (a .s)) (a .end) (loaded d (now (a .file))) r) (named (k .before))
-    (subst (Fits (now (a .s)) (a .end) (loaded (now (k .before .aid-bytes .result)) (now (a .file)))) e (k .package-fits .ensures))
+    subst (λ (d : Aid). Fits (now (a .s)) (a .x .end) (loaded d (now (a .file))) r) (named (k .before))
+    (subst (Fits (now (a .s)) (a .x .end) (loaded (now (k .before .aid-bytes .result)) (now (a .file)))) e (k .package-fits .ensures))
 
 running-ok-requires : tie.Need-running-ok-requires
 running-ok-requires c κs =
     let a = start c .args in
-    let pre = start c .pre in (
-      stages.judged-there (now (a .s)) (a .end) (aidAt (now (a .s)) (a .domain)) (now (a .file)) (a .domain) (pre .0 .2) refl (pre .0 .0),
-      ((pre .0 .1, pre .1 .0), (pre .1 .1 .0, pre .1 .1 .1)),
-    )
+    let pre = start c .pre in
+    let d = aidAt (now (a .s)) (a .x .domain) in
+    let there = stages.judged-there (now (a .s)) (a .x .end) d (now (a .file)) (a .x .domain) (pre .0 .1) refl (pre .0 .0) in
+    ((there, pre .1 .0 .1), ((pre .1 .0 .0, pre .1 .1 .0), (pre .1 .1 .1 .0, pre .1 .1 .1 .1)))
 
 same-length : tie.Need-same-length
 same-length c = search needs
@@ -60,17 +60,17 @@ returns : tie.Need-returns
 returns c =
     let b = begin (c .before) in
     let a = b .args in
-    stages.number-20 (now (a .s)) (a .end) (aidAt (now (a .s)) (a .domain)) (now (a .file)) (a .domain) (b .pre .0 .2) refl
+    stages.number-20 (now (a .s)) (a .x .end) (aidAt (now (a .s)) (a .x .domain)) (now (a .file)) (a .x .domain) (b .pre .0 .1) refl
     (twenty (c .before) false (not-true _ (c .if1 .taken)))
 
 aid-bytes-requires : tie.Need-aid-bytes-requires
-aid-bytes-requires c κs = begin (c .before) .pre .0 .2
+aid-bytes-requires c κs = begin (c .before) .pre .0 .1
 
 package-fits-requires : tie.Need-package-fits-requires
 package-fits-requires c κs =
     let b = begin (c .before .before) in
     let some = b .pre .0 .0 in
-    over-to (now (b .args .s)) (b .args .end) (some .0, some .2 .read .over)
+    over-to (now (b .args .s)) (b .args .x .end) (some .0, some .2 .read .over)
 
 same-length-2 : tie.Need-same-length-2
 same-length-2 c = search needs
@@ -78,12 +78,12 @@ same-length-2 c = search needs
 -- 20 answered yes, and 21
 number : (c : tie.After-package-fits) (r : Bool) → c .package-fits .result ≡ r →
     let a = begin (c .before .before .before) .args in
-    stages.From20 (now (a .s)) (a .end) (aidAt (now (a .s)) (a .domain)) (now (a .file)) r
+    stages.From20 (now (a .s)) (a .x .end) (aidAt (now (a .s)) (a .x .domain)) (now (a .file)) r
 number c r e =
     let k = c .before .before .before in
     let b = begin k in
     let a = b .args in
-    stages.number-21 (now (a .s)) (a .end) (aidAt (now (a .s)) (a .domain)) (now (a .file)) (a .domain) (b .pre .0 .2) refl r
+    stages.number-21 (now (a .s)) (a .x .end) (aidAt (now (a .s)) (a .x .domain)) (now (a .file)) (a .x .domain) (b .pre .0 .1) refl r
     (twenty k true (not-false _ (c .before .before .if1 .left))) (fits c r e)
 
 returns-2 : tie.Need-returns-2

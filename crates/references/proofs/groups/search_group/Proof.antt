@@ -1,13 +1,12 @@
--- `references::groups::search_group` meets its contract: the loop keeps a true table. Assumes nothing.
-use native.Mathlib.Omega.{arith}
+-- `references::groups::search_group` meets its contract: the loop keeps a true table Assumes nothing.
 use Prim.Native.Nat.{_+_, _-_}
-use mathlib.Core.Path.{_≡_, refl}
+use native.Mathlib.Omega.{arith}
+use mathlib.Core.Path.{_≡_, refl, sym, _∙_, ap, subst}
 use lib.ListN.{length}
 use denote.Ref.{now}
 use borrow.Author.Needs.{needs}
 use Rattle.slots.specs.Slots.{SlotsTrue}
-use Rattle.references.specs.Named.{Lent}
-use Rattle.references.specs.Kept.{keptCount, toldOf, KeptTrue}
+use Rattle.references.specs.Kept.{keptCount, KeptTrue}
 use Rattle.references.proofs.Telling as telling
 use Rattle.references.proofs.Filled as filled
 use Rattle.references.proofs.groups.search_group.Statement.{statement}
@@ -20,94 +19,87 @@ Inv-loop f s packages slots₀ seen₀ table₀ g k₀ slots seen table k =
 abbrev μ-loop : tie.MeasureT-loop
 μ-loop f s packages slots₀ seen₀ table₀ g k₀ slots seen table k = keptCount - k
 
--- the start, from where a turn begins; the turn, from where its reference is searched; that, from where what it names is known
+-- the start, from where a turn begins; the turn, from where its reference is one of the file; that, from where it is searched
 abbrev start : tie.At-loop Inv-loop μ-loop → tie.Start Inv-loop μ-loop
 start k = k .before .before .before .before .before .before .before
 
-abbrev turn : tie.After-is-wanted Inv-loop μ-loop → tie.In-loop Inv-loop μ-loop
-turn k = k .before .before
+abbrev turn : tie.Else1 Inv-loop μ-loop → tie.In-loop Inv-loop μ-loop
+turn k = k .before .before .before
 
-abbrev asked : tie.After-name-reference Inv-loop μ-loop → tie.After-is-wanted Inv-loop μ-loop
-asked k = k .before .before .before .before .before
+abbrev asked : tie.After-is-wanted Inv-loop μ-loop → tie.Else1 Inv-loop μ-loop
+asked k = k .before .before
 
-abbrev named : tie.After-keep Inv-loop μ-loop → tie.After-name-reference Inv-loop μ-loop
-named k = k .before .before .before .before .before .before
+abbrev searched : tie.After-search-place Inv-loop μ-loop → tie.After-is-wanted Inv-loop μ-loop
+searched k = k .before .before .before .before .before
 
 loop-holds : tie.Need-loop-holds Inv-loop μ-loop
 loop-holds c =
     let pre = c .before .before .before .before .before .before .pre in
     (refl, refl, refl, pre .1 .1, pre .0 .2)
 
+add-if1 : tie.Need-add-if1 Inv-loop μ-loop
+add-if1 c = let t = c .before in omega (arith, start (t .before) .pre .0 .1 .first, t .loop-test .taken)
+
+same-length : tie.Need-same-length Inv-loop μ-loop
+same-length c = c .before .before .before .before .loop .inv .0
+
+same-length-2 : tie.Need-same-length-2 Inv-loop μ-loop
+same-length-2 c = c .before .before .before .before .loop .inv .1
+
+same-length-3 : tie.Need-same-length-3 Inv-loop μ-loop
+same-length-3 c = c .before .before .before .before .loop .inv .2
+
+returns : tie.Need-returns Inv-loop μ-loop
+returns c = let inv = c .before .before .before .before .loop .inv in (inv .4, inv .3)
+
 is-wanted-requires : tie.Need-is-wanted-requires Inv-loop μ-loop
-is-wanted-requires c κs = (c .before .loop-test .taken, c .before .before .loop .inv .4 .size)
+is-wanted-requires c κs = let t = turn (c .before) in (t .loop-test .taken, t .before .loop .inv .4 .size)
 
-add-name-reference : tie.Need-add-name-reference Inv-loop μ-loop
-add-name-reference c =
-    let t = turn (c .before .before .before .before) in
-    omega (arith, start (t .before) .pre .0 .1 .first, t .loop-test .taken)
-
-name-reference-requires : tie.Need-name-reference-requires Inv-loop μ-loop
-name-reference-requires c κs =
-    let l = turn (c .before .before .before .before) .before in
+search-place-requires : tie.Need-search-place-requires Inv-loop μ-loop
+search-place-requires c κs =
+    let e = asked (c .before .before .before .before) in
+    let t = turn e in
+    let l = t .before in
     let pre = start l .pre in
-    ((pre .0 .0, pre .0 .1), (telling.lent-on _ (pre .1 .0) (l .loop .inv .1), l .loop .inv .3))
-
-keep-requires : tie.Need-keep-requires Inv-loop μ-loop
-keep-requires c κs =
-    let n = c .before .before .before .before .before in
-    let t = turn (asked n) in
-    let b = start (t .before) in
-    let byte = t .before .before .before .before .before .before .before .shared-slice-known .given in
-    let small = telling.reference-small (b .pre .0 .0) (b .pre .1 .0 .small) (omega (arith, byte 5)) (omega (arith, byte 6)) in (
-      omega (arith, t .loop-test .taken),
-      t .before .loop .inv .4 .size,
-      small (b .args .g .first + t .before .loop .k) (n .name-reference .result) (n .name-reference .ensures .0),
-    )
+    let inv = l .loop .inv in
+    ((pre .0 .0, pre .0 .1, inv .4), ((t .loop-test .taken, omega (arith, e .if1 .left), telling.lent-on _ (pre .1 .0) (inv .1)), inv .3))
 
 add-k : tie.Need-add-k Inv-loop μ-loop
-add-k c = omega (arith, turn (asked (named (c .before .before))) .loop-test .taken)
+add-k c = omega (arith, turn (asked (searched (c .before .before .before .before .before .before))) .loop-test .taken)
 
 loop-less : tie.Need-loop-less Inv-loop μ-loop
-loop-less c = omega (arith, turn (asked (named (c .before .before))) .loop-test .taken)
+loop-less c = omega (arith, turn (asked (searched (c .before .before .before .before .before .before))) .loop-test .taken)
 
 loop-again : tie.Need-loop-again Inv-loop μ-loop
 loop-again c =
-    let w = c .before .before in
-    let n = named w in
-    let t = turn (asked n) .before in
-    let inv = t .loop .inv in
-    let b = start t .args .g in
-    let r = n .name-reference .result in (
-      omega (arith, n .name-reference .kept, inv .0),
-      omega (arith, n .name-reference .kept, inv .1),
-      omega (arith, w .keep .kept, inv .2),
-      n .name-reference .ensures .1,
-      filled.kept-again _ _ b (toldOf r) (telling.named-told _ r (n .name-reference .ensures .0)) (w .keep .ensures) (omega (arith, w .keep .kept)) (inv .4),
-    )
+    let w = c .before .before .before .before .before .before in
+    let inv = turn (asked (searched w)) .before .loop .inv in
+    let r = w .search-place in
+    (omega (arith, r .kept, inv .0), omega (arith, r .kept, inv .1), omega (arith, r .kept, inv .2), r .ensures .1, r .ensures .0 .kept)
 
 add-k-2 : tie.Need-add-k-2 Inv-loop μ-loop
-add-k-2 c = omega (arith, turn (c .before) .loop-test .taken)
+add-k-2 c = omega (arith, turn (asked (c .before)) .loop-test .taken)
 
 loop-less-2 : tie.Need-loop-less-2 Inv-loop μ-loop
-loop-less-2 c = omega (arith, turn (c .before) .loop-test .taken)
+loop-less-2 c = omega (arith, turn (asked (c .before)) .loop-test .taken)
 
 loop-again-2 : tie.Need-loop-again-2 Inv-loop μ-loop
-loop-again-2 c = turn (c .before) .before .loop .inv
+loop-again-2 c = turn (asked (c .before)) .before .loop .inv
 
-same-length : tie.Need-same-length Inv-loop μ-loop
-same-length c = c .before .loop .inv .0
+same-length-4 : tie.Need-same-length-4 Inv-loop μ-loop
+same-length-4 c = c .before .loop .inv .0
 
-same-length-2 : tie.Need-same-length-2 Inv-loop μ-loop
-same-length-2 c = c .before .loop .inv .1
+same-length-5 : tie.Need-same-length-5 Inv-loop μ-loop
+same-length-5 c = c .before .loop .inv .1
 
-same-length-3 : tie.Need-same-length-3 Inv-loop μ-loop
-same-length-3 c = c .before .loop .inv .2
+same-length-6 : tie.Need-same-length-6 Inv-loop μ-loop
+same-length-6 c = c .before .loop .inv .2
 
-returns : tie.Need-returns Inv-loop μ-loop
-returns c = let inv = c .before .loop .inv in (inv .4, inv .3)
+returns-2 : tie.Need-returns-2 Inv-loop μ-loop
+returns-2 c = let inv = c .before .loop .inv in (inv .4, inv .3)
 
 pub search-group-spec : {M : Type 1} → statement M
 search-group-spec =
     tie.close
-    (tie.spec Inv-loop μ-loop loop-holds is-wanted-requires add-name-reference name-reference-requires keep-requires add-k loop-less loop-again add-k-2
-    loop-less-2 loop-again-2 same-length same-length-2 same-length-3 returns)
+    (tie.spec Inv-loop μ-loop loop-holds add-if1 same-length same-length-2 same-length-3 returns is-wanted-requires search-place-requires add-k
+    loop-less loop-again add-k-2 loop-less-2 loop-again-2 same-length-4 same-length-5 same-length-6 returns-2)

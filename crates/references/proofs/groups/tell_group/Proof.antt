@@ -13,16 +13,16 @@ use Rattle.references.proofs.groups.tell_group.Statement.{statement}
 use Rattle.references.proofs.groups.tell_group.Tie as tie
 
 abbrev Inv-loop : tie.InvT-loop
-Inv-loop f s packages slots₀ table₀ g k₀ slots table k =
+Inv-loop f s places slots₀ table₀ g k₀ slots table k =
     (length slots ≡ length slots₀) × (length table ≡ length table₀) × SlotsTrue f s slots × filled.KeptBelow f s g k table
 
 abbrev μ-loop : tie.MeasureT-loop
-μ-loop f s packages slots₀ table₀ g k₀ slots table k = keptCount - k
+μ-loop f s places slots₀ table₀ g k₀ slots table k = keptCount - k
 
 -- the start, from where a turn begins; the turn, from where its reference is one of the file; that, from where it is told of; that, from where
 -- that is kept
 abbrev start : tie.At-loop Inv-loop μ-loop → tie.Start Inv-loop μ-loop
-start k = k .before .before .before .before .before .before
+start k = k .before .before .before .before .before
 
 abbrev turn : tie.Else1 Inv-loop μ-loop → tie.In-loop Inv-loop μ-loop
 turn k = k .before .before .before
@@ -35,7 +35,7 @@ told k = k .before .before .before .before
 
 loop-holds : tie.Need-loop-holds Inv-loop μ-loop
 loop-holds c =
-    let pre = c .before .before .before .before .before .pre in
+    let pre = c .before .before .before .before .pre in
     (refl, refl, pre .1 .1, filled.kept-start _ _ _ (pre .0 .2))
 
 add-if1 : tie.Need-add-if1 Inv-loop μ-loop
@@ -65,7 +65,7 @@ keep-told-requires c κs =
     let t = turn (there n) in
     let b = start (t .before) in
     let inv = t .before .loop .inv in
-    let byte = t .before .before .before .before .before .before .shared-slice-known .given in
+    let byte = t .before .before .before .before .before .shared-slice-known .given in
     let small = telling.told-small (b .pre .0 .0) (b .pre .1 .0 .1) (omega (arith, byte 5)) (omega (arith, byte 6)) in (
       omega (arith, t .loop-test .taken),
       omega (arith, inv .1, b .pre .0 .2),

@@ -3,7 +3,6 @@ use native.Mathlib.Omega.{arith}
 use denote.Ref.{now}
 use borrow.Author.Needs.{needs}
 use mathlib.Core.Path.{refl}
-use Rattle.references.specs.declared.Told.the-variants as told
 use Rattle.references.proofs.Table as table
 use Rattle.references.proofs.kept.want.Statement.{statement}
 use Rattle.references.proofs.kept.want.Tie as tie
@@ -25,7 +24,7 @@ same-length c = search needs
 
 returns : tie.Need-returns
 returns c =
-    table.still-open (now (c .args .table)) _ (c .args .k) (omega (arith, c .pre .0, c .pre .1)) told.Open (c .pre .2) refl
+    table.still-open (now (c .args .table)) _ (c .args .k) (omega (arith, c .pre .0, c .pre .1)) (c .pre .2) refl
 
 pub want-spec : {M : Type 1} → statement M
 want-spec = tie.close (tie.spec mul-table add-table mul-table-2 slice-write-table same-length returns)
