@@ -3,6 +3,7 @@
  *
  *     week         lives through the week and tells it, a line for each call
  *     week card    prints the same calls as lines for the simulated card
+ *     week store   writes the bytes of the card's store as it is on Saturday evening
  *
  * Every answer is compared with the one expected, and after a refusal every byte
  * of the store with what it was. Exit status: 0 if all are as expected, 1 if one
@@ -44,6 +45,7 @@ static const struct store next_card = {copy_bytes, sizeof copy_bytes, false};
 static uint8_t before[CARD_BYTES];
 
 static bool telling = true;
+static bool scripting = false;
 static bool as_expected = true;
 
 /* A sentence of the story. */
@@ -103,7 +105,7 @@ static void print_hex(const uint8_t *bytes, size_t length)
 /* A line for the simulated card: a letter, an AID and, for a load, the file. */
 static void line(struct store store, char letter, const struct aid *aid, const struct file *file)
 {
-    if (telling || !store.scripted) {
+    if (!scripting || !store.scripted) {
         return;
     }
     putchar(letter);
@@ -260,7 +262,7 @@ static void wednesday_on_the_card(void)
     load(card, "meals, another mark,", &CANTEEN, &file, 1, LOADER_FILE_MARK);
     write_requests(&file, BY_DIRECTORY, BEHIND_CALL);
     load(card, "requests, before cabinet,", &DIRECTORY, &file, 1, LOADER_IMPORT_MISSING);
-    if (!telling) {
+    if (scripting) {
         puts("C a0000000e1");
     }
 }
@@ -417,12 +419,22 @@ static void door_readers(void)
     load(next_card, "lock, draft,", &DOORS, &lock, 1, LOADER_DONE);
 }
 
+/* Writes the bytes of the card's store. */
+static void write_store(void)
+{
+    if (fwrite(card_bytes, 1, sizeof card_bytes, stdout) != sizeof card_bytes || fflush(stdout) != 0) {
+        unexpected("standard output", "it cannot be written");
+    }
+}
+
 int main(int count, char **words)
 {
-    if (count == 2 && strcmp(words[1], "card") == 0) {
-        telling = false;
-    } else if (count != 1) {
-        fputs("usage: week [card]\n", stderr);
+    bool storing = count == 2 && strcmp(words[1], "store") == 0;
+
+    scripting = count == 2 && strcmp(words[1], "card") == 0;
+    telling = count == 1;
+    if (!telling && !scripting && !storing) {
+        fputs("usage: week [card|store]\n", stderr);
         return 2;
     }
     say("What was asked, the number answered, the store's used bytes after it, what that means.");
@@ -432,6 +444,10 @@ int main(int count, char **words)
     thursday();
     friday();
     saturday();
+    if (storing) {
+        write_store();
+        return as_expected ? 0 : 1;
+    }
     sunday();
     next_series();
     door_readers();

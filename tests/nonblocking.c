@@ -1,4 +1,5 @@
-/* nonblocking PROGRAM: runs the program with standard input and output that do not wait (O_NONBLOCK). For tests/card.sh. */
+/* nonblocking PROGRAM: runs the program with standard input and output that do not wait (O_NONBLOCK). For tests/card.sh
+ * and tests/inventory.sh. */
 #define _GNU_SOURCE
 #include <fcntl.h>
 #include <unistd.h>

@@ -1,8 +1,9 @@
 /*
- * For tests/card.sh: reads and writes that a program does not expect.
+ * For tests/card.sh and tests/inventory.sh: reads and writes that a program does not expect.
  *
  * Loaded before a program (LD_PRELOAD), it answers the program's own read and write by a fixed round: interrupted,
- * not ready, one byte, some bytes, all. With STREAMS=full, write fails for good after ten lines: the device is full.
+ * not ready, one byte, some bytes, all. With STREAMS=full, write fails for good after ten lines, or after so many calls
+ * as STREAMS_WRITES says: the device is full.
  */
 #define _GNU_SOURCE
 #include <errno.h>
@@ -31,6 +32,13 @@ static size_t allowed(unsigned long n, size_t length)
     }
 }
 
+/* How many calls of write there are before the device is full. */
+static unsigned long writes_before_full(void)
+{
+    const char *said = getenv("STREAMS_WRITES");
+    return said == NULL ? 20 : strtoul(said, NULL, 10);
+}
+
 ssize_t read(int fd, void *bytes, size_t length)
 {
     size_t most = fd == 0 ? allowed(turns[0]++, length) : length;
@@ -44,7 +52,7 @@ ssize_t write(int fd, const void *bytes, size_t length)
 {
     const char *kind = getenv("STREAMS");
     size_t most = fd == 1 ? allowed(turns[1]++, length) : length;
-    if (fd == 1 && kind != NULL && strcmp(kind, "full") == 0 && turns[1] > 20) {
+    if (fd == 1 && kind != NULL && strcmp(kind, "full") == 0 && turns[1] > writes_before_full()) {
         errno = ENOSPC;
         return -1;
     }

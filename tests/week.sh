@@ -1,5 +1,6 @@
 #!/bin/sh
-# week.sh: the example week, through the static library from C and through the simulated card; the tables of examples/README.md.
+# week.sh: the example week, through the static library from C and through the simulated card; the inventory of its store; the tables of
+# examples/README.md.
 #
 # Prints a line that begins with "ok", or what differs; exit status 0 only if all is right.
 set -u
@@ -13,6 +14,15 @@ compile week examples/week.c examples/packages.c include/loader_text.c "$library
 same examples/week.expected "$out/week.out"
 "$out/week" card >"$out/week.card" 2>"$out/week.err" || fail "week card says:" "$out/week.err"
 same examples/week.card "$out/week.card"
+
+need_inventory
+"$out/week" store >"$out/week.store" 2>"$out/week.err" || fail "week store says:" "$out/week.err"
+"$inventory" <"$out/week.store" >"$out/week.inventory" || fail "the inventory failed"
+same examples/week.inventory "$out/week.inventory"
+for page in examples/README.md README.md; do
+    grep -E '^    ([0-9A-F]{10,32} [0-9A-F]{10,32}|[0-9]+) [0-9]+ [0-9]+$' "$page" | sed 's/^    //' >"$out/page"
+    same examples/week.inventory "$out/page"
+done
 
 need_card
 "$card" <examples/week.card >"$out/card.out" || fail "the simulated card failed"
@@ -29,4 +39,4 @@ sed -n '/^Next: /,$s/^  \(.*[^ ]\)  *\([0-9][0-9]*\)   used  *\([0-9]*\)   \(.*\
     awk -F '|' '/^load/ || $2 != 0 { n = split($4, said, "deepest class "); print $2, $3, (n > 1 ? said[2] : "") }' >"$out/series.expected"
 same "$out/series.expected" "$out/series"
 
-echo "ok week: the story and $(($(wc -l <examples/week.card))) lines of the simulated card are as stored"
+echo "ok week: the story, the inventory and $(($(wc -l <examples/week.card))) lines of the simulated card are as stored"

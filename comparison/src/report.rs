@@ -65,7 +65,7 @@ fn line(step: &Step) -> String {
 }
 
 /// The bytes in hex; a long run of one byte at the end is told by its length.
-fn described(bytes: &[u8]) -> String {
+pub fn described(bytes: &[u8]) -> String {
     let Some(&last) = bytes.last() else {
         return "(0 bytes)".into();
     };

@@ -64,20 +64,10 @@ impl Measured {
 
     fn print_times(&self) {
         println!("Microseconds; the ratio is the library's time by the independent reader's.\n");
-        println!("| What | Size | Library, best | median | Independent, best | median | Ratio of bests | of medians |");
+        println!("| What | Size | Library, best | {COLUMNS} |");
         println!("|---|---|---:|---:|---:|---:|---:|---:|");
         for (workload, times) in self.workloads.iter().zip(&self.times) {
-            println!(
-                "| {} | {} | {} | {} | {} | {} | {:.2} | {:.2} |",
-                workload.name,
-                workload.size,
-                microseconds(times.library.best()),
-                microseconds(times.library.median()),
-                microseconds(times.independent.best()),
-                microseconds(times.independent.median()),
-                times.ratio(),
-                times.median_ratio()
-            );
+            println!("{}", row(workload.name, &workload.size, times));
         }
     }
 
@@ -130,6 +120,22 @@ impl Measured {
             aim("every workload: the greatest ratio", worst, 1.0),
         ]
     }
+}
+
+/// The columns of times after the first.
+pub const COLUMNS: &str = "median | Independent, best | median | Ratio of bests | of medians";
+
+/// A row of times.
+pub fn row(name: &str, size: &str, times: &Times) -> String {
+    format!(
+        "| {name} | {size} | {} | {} | {} | {} | {:.2} | {:.2} |",
+        microseconds(times.library.best()),
+        microseconds(times.library.median()),
+        microseconds(times.independent.best()),
+        microseconds(times.independent.median()),
+        times.ratio(),
+        times.median_ratio()
+    )
 }
 
 /// With more places where the time is short.

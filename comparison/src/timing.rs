@@ -52,15 +52,30 @@ pub fn as_expected(workload: &Workload) -> bool {
 
 /// Times every workload once a round, with the one and the other reader first.
 pub fn measure(workloads: &[Workload], rounds: usize) -> Vec<Times> {
-    let mut all: Vec<Times> = workloads.iter().map(|_| Times::default()).collect();
+    taken(
+        workloads.len(),
+        rounds,
+        |number| timed(&Library, &workloads[number]),
+        |number| timed(&Independent, &workloads[number]),
+    )
+}
+
+/// The same for so many things, each timed by its number.
+pub fn taken(
+    count: usize,
+    rounds: usize,
+    library: impl Fn(usize) -> Duration,
+    independent: impl Fn(usize) -> Duration,
+) -> Vec<Times> {
+    let mut all: Vec<Times> = (0..count).map(|_| Times::default()).collect();
     for round in 0..rounds {
-        for (workload, times) in workloads.iter().zip(&mut all) {
+        for (number, times) in all.iter_mut().enumerate() {
             if round % 2 == 0 {
-                times.library.0.push(timed(&Library, workload));
+                times.library.0.push(library(number));
             }
-            times.independent.0.push(timed(&Independent, workload));
+            times.independent.0.push(independent(number));
             if round % 2 == 1 {
-                times.library.0.push(timed(&Library, workload));
+                times.library.0.push(library(number));
             }
         }
     }

@@ -1,4 +1,4 @@
-//! An independent reading of document 01 with requests 2, 3, 5, 6, 7, 9 and 12 of document 02:
+//! An independent reading of document 01 with requests 1, 2, 3, 5, 6, 7, 9 and 12 of document 02:
 //! the staff card loader.
 
 pub mod bytes;
@@ -14,6 +14,8 @@ pub mod import_counts;
 mod import_shapes;
 pub mod int_counts;
 mod int_load_counts;
+pub mod inventory;
+pub mod inventory_counts;
 pub mod ledger;
 pub mod limit_counts;
 pub mod limit_edges;
@@ -23,6 +25,7 @@ pub mod loader;
 mod misread_handlers;
 pub mod misread_imports;
 pub mod misread_int;
+pub mod misread_inventory;
 mod misread_kinds;
 pub mod misread_limits;
 pub mod misread_search;

@@ -1,6 +1,7 @@
 //! The calls of `tests/vectors` with the answers of a third reader: number, depth, yes
-//! or no, and every byte of the buffer after each call.
+//! or no, and every byte of the buffer after each call; and the stores with their pages.
 
+use independent::inventory::inventory;
 use independent::ledger::Call;
 use independent::limits::Limits;
 use independent::loader::{Independent, Loader};
@@ -145,4 +146,19 @@ fn calls_are_answered_as_a_third_reader_answers_them() {
     println!("{all} calls");
     assert_eq!(wrong, []);
     assert!(all > 0, "there are no calls");
+}
+
+#[test]
+fn stores_have_the_pages_of_a_third_reader() {
+    let folder = Path::new(env!("CARGO_MANIFEST_DIR")).join("../tests/vectors/08-request-1");
+    let stores = unpacked(&folder.join("inventory.stores.gz"));
+    let pages = unpacked(&folder.join("inventory.answers.gz"));
+    let mut theirs = pages.split_inclusive("\n\n");
+    for (index, line) in stores.lines().enumerate() {
+        let store = Words(line.split_whitespace()).bytes();
+        let ours = String::from_utf8(inventory(&store)).expect("text") + "\n";
+        assert_eq!(Some(&ours[..]), theirs.next(), "store {index}");
+    }
+    assert_eq!(theirs.next(), None);
+    assert_eq!(stores.lines().count(), 150);
 }

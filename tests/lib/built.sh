@@ -1,8 +1,9 @@
-# For the scripts in tests/: the static library and the simulated card, built where missing or out of date.
+# For the scripts in tests/: the static library, the simulated card and the inventory, built where missing
+# or out of date.
 #
 # A script sets `test` to its name and `out` to its folder below target/, and sources this file from the
-# top of the repository. LOADER_LIBRARY and CARD may name another archive of the eight operations and
-# another simulated card, which are then tested and not built.
+# top of the repository. LOADER_LIBRARY, CARD and INVENTORY may name another archive of the eight
+# operations, another simulated card and another inventory, which are then tested and not built.
 
 # fail WHAT [FILE]: says what went wrong, with what was written about it.
 fail() {
@@ -39,6 +40,15 @@ need_card() {
         rt check card >"$out/card.log" 2>&1 || fail "rt check card failed" "$out/card.log"
     fi
     [ -x "$card" ] || fail "there is no program $card"
+}
+
+# need_inventory: sets `inventory` to a program that prints inventories and is up to date.
+need_inventory() {
+    inventory=${INVENTORY:-target/bin/inventory}
+    if [ -z "${INVENTORY:-}" ] && ! current "$inventory"; then
+        rt check inventory >"$out/inventory.log" 2>&1 || fail "rt check inventory failed" "$out/inventory.log"
+    fi
+    [ -x "$inventory" ] || fail "there is no program $inventory"
 }
 
 # run PROGRAM ARGUMENT..: a program of comparison/

@@ -1,9 +1,11 @@
-//! `bench ROUNDS DATE`: times of the library and the independent reader, and the
-//! library's peak stack. `bench stack`: the peak stack alone. `bench instructions`:
-//! instructions of single calls, where valgrind is at hand.
+//! `bench ROUNDS DATE`: times of the library and the independent reader, times of the
+//! inventory where that program is there, and the library's peak stack. `bench stack`: the
+//! peak stack alone. `bench instructions`: instructions of single calls, where valgrind is at
+//! hand. `bench page`: the inventory of standard input by the independent reader.
 
 use comparison::hostile;
 use comparison::instructions;
+use comparison::inventories;
 use comparison::stack::peaks;
 use comparison::tables::{print_stack, Measured};
 use comparison::timing::{as_expected, measure};
@@ -33,6 +35,7 @@ fn main() -> ExitCode {
     match arguments[..] {
         ["instructions"] => instructions::print(),
         ["stack"] => stack(&workloads::all(), &hostile::all()),
+        ["page"] => return page(),
         ["once", workload, reader, count] => instructions::once(workload, reader, count),
         [rounds, date] => match rounds.parse() {
             Ok(rounds) if rounds >= ROUNDS => bench(rounds, date),
@@ -50,6 +53,13 @@ fn usage() -> ExitCode {
     ExitCode::FAILURE
 }
 
+fn page() -> ExitCode {
+    match inventories::print_page() {
+        Ok(()) => ExitCode::SUCCESS,
+        Err(_) => ExitCode::FAILURE,
+    }
+}
+
 /// The rounds of a hostile vendor's stores: a call on one takes long.
 const HOSTILE_ROUNDS: usize = 5;
 
@@ -65,6 +75,7 @@ fn bench(rounds: usize, date: &str) {
     let times = measure(&workloads, HOSTILE_ROUNDS);
     let hostile = Measured { workloads, times };
     hostile.print_hostile();
+    inventories::print(&hostile, rounds, HOSTILE_ROUNDS);
     stack(&ordinary.workloads, &hostile.workloads);
 }
 

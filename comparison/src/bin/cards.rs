@@ -1,14 +1,15 @@
 //! `cards SEED COUNT [CARD]`: line files through the simulated card, the program at
 //! CARD (or in the variable CARD, or target/bin/card), and through the independent card.
 
+use comparison::process;
 use independent::card::run_card;
 use independent::generate::files::sized_file;
 use independent::generate::lines::line_file;
 use independent::limits::STANDARD_CODE;
 use independent::package::Version;
 use std::collections::BTreeMap;
-use std::io::{self, Read, Write};
-use std::process::{Command, ExitCode, Stdio};
+use std::io;
+use std::process::{Command, ExitCode};
 
 fn main() -> ExitCode {
     let arguments: Vec<String> = std::env::args().skip(1).collect();
@@ -86,23 +87,7 @@ fn full_card(version: Version, past: usize) -> String {
 
 /// What the program prints for this input.
 fn output(card: &str, input: &[u8]) -> io::Result<Vec<u8>> {
-    let mut child = Command::new(card)
-        .stdin(Stdio::piped())
-        .stdout(Stdio::piped())
-        .spawn()?;
-    let mut printed = Vec::new();
-    std::thread::scope(|scope| {
-        let stdin = child.stdin.take();
-        // A program that ends early shows by what it has printed.
-        scope.spawn(move || stdin.map(|mut pipe| pipe.write_all(input)));
-        let mut stdout = child.stdout.take().ok_or(io::ErrorKind::BrokenPipe)?;
-        stdout.read_to_end(&mut printed)
-    })?;
-    let status = child.wait()?;
-    match status.success() {
-        true => Ok(printed),
-        false => Err(io::Error::other(format!("the card ended with {status}"))),
-    }
+    process::output(&mut Command::new(card), input)
 }
 
 fn differs(card: &str, input: &[u8]) -> bool {

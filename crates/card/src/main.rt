@@ -1,6 +1,7 @@
 // The simulated card: a store of 8,192 bytes, fresh at the start, and an operation for each line of standard input (document 01,
-// "The simulated card"). What a program reads and writes is tested; that every call is safe, and that it ends, is proved.
-mod streams;
+// "The simulated card"). What a program reads and writes is tested; that every call is safe, that it ends, and the characters of an answer
+// are proved.
+mod answers;
 
 use lines::Form;
 ghost use Prim.Native.Nat.{_≤_, _<_};
@@ -35,10 +36,10 @@ fn answer(store: &mut [u8], line: &[u8], number: u64) -> bool
     let mut arguments = [0u8; 4000];
     let form = lines::read_line(line, &mut arguments);
     if let Form::Bad = form {
-        return streams::print_bad(number);
+        return answers::print_bad(number);
     }
     let result = operate(store, form, &arguments);
-    streams::print_answer(number, result, fields::u2_at(store, 5))
+    answers::print_answer(number, result, fields::u2_at(store, 5))
 }
 
 // Answers the lines that end in a chunk, and holds the characters after the last newline. The number of a line would start again
@@ -91,7 +92,7 @@ fn take_input(store: &mut [u8], line: &mut [u8], chunk: &mut [u8]) -> Place
     while turns > 0 {
         let got = streams::read_some(chunk);
         if got.failed {
-            streams::tell_input();
+            answers::tell_input();
             return Place {
                 held: 0,
                 number: place.number,

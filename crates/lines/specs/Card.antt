@@ -1,20 +1,26 @@
 -- What the simulated card answers to an input (document 01, "The simulated card"). Assumes nothing.
 --
--- Print        == a line's number, with its answer and used, or bad
+-- Print        == a line's number, with its answer and used, or bad; printText p == its characters
 -- cardOf input == the prints of an input, over a store of version 1 and 8,192 bytes that is fresh at the start
 use Prim.Native.Nat.{ℕ, suc}
-use mathlib.Core.List.{List, [], _∷_}
+use mathlib.Core.List.{List, [], _∷_, _++_}
 use mathlib.Core.Option.{Option, none, some}
 use lib.ListN.{replicate}
 use Rattle.rules.specs.Bytes.{Bytes}
 use Rattle.rules.specs.Code.{u2At}
 use Rattle.rules.specs.Store.{version1}
 use Rattle.rules.specs.Operations.{Operation, number, after, freshBytes}
-use Rattle.lines.specs.Line.{lineOf, linesOf}
+use Rattle.text.specs.Text.{decimal, threeFigures}
+use Rattle.lines.specs.Line.{newline, space, lineOf, linesOf}
 
 pub data Print : Type 0 where
   answered : (line number used : ℕ) → Print
   bad : (line : ℕ) → Print
+
+-- single spaces, a newline at the end
+abbrev pub printText : Print → Bytes
+printText (answered line number used) = threeFigures line number used
+printText (bad line) = decimal line ++ (space ∷ 0x62 ∷ 0x61 ∷ 0x64 ∷ newline ∷ [])
 
 -- the u2 used of a store
 abbrev pub used : Bytes → ℕ

@@ -14,12 +14,7 @@ use lib.ListN.{length, take}
 use Rattle.rules.specs.Bytes.{Bytes, Aid, pick, within, _andThen_}
 use Rattle.rules.specs.Store.{full}
 use Rattle.rules.specs.Operations.{Operation, create, delete, remove, load}
-
-abbrev pub newline : ℕ
-newline = 0x0A
-
-abbrev pub space : ℕ
-space = 0x20
+pub use Rattle.text.specs.Text.{newline, space}
 
 -- the most characters of a line without the newline
 abbrev pub longest : ℕ

@@ -3,6 +3,7 @@
 pub mod call_faults;
 pub mod chosen_limits;
 pub mod codes;
+pub mod crowded;
 pub mod damage;
 pub mod facts;
 pub mod faults;
@@ -16,6 +17,7 @@ pub mod import_moves;
 mod import_sequences;
 pub mod imports;
 pub mod int_cases;
+pub mod inventories;
 pub mod kind_cases;
 pub mod limit_cases;
 pub mod limits;

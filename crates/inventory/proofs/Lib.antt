@@ -1,0 +1,2 @@
+-- The laws of the page.
+pub mod Pages

@@ -1,0 +1,2 @@
+-- What the functions that put a page promise.
+pub mod Says
