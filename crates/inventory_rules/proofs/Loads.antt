@@ -45,7 +45,8 @@ methods-loads l [] = refl
 methods-loads l (domain k a ∷ es) = let r = methods-loads l es in omega arith
 methods-loads l (loaded d f ∷ es) = ap (λ (n : ℕ). methodsOf (readFile l f) + n) (methods-loads l es)
 
-totals-same : {p q b c m n : ℕ} → p ≡ q → b ≡ c → m ≡ n →
+-- the same figures, the same totals
+pub totals-same : {p q b c m n : ℕ} → p ≡ q → b ≡ c → m ≡ n →
     _≡_ {A = Totals} (record { packages = p; bytes = b; methods = m }) (record { packages = q; bytes = c; methods = n })
 totals-same e f g = rw (e, f, g)
 

@@ -1,4 +1,6 @@
 // The lines of the simulated card: gathering them from chunks of input, and reading one (document 01, "The simulated card").
+pub mod answers;
+
 use fields::wide;
 ghost use mathlib.Core.Path.{_≡_};
 ghost use mathlib.Core.List.{_++_};

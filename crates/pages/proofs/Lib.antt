@@ -1,3 +1,4 @@
 -- The laws of lines.
 pub mod Methods
 pub mod Lines
+pub mod Left

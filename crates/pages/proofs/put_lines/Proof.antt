@@ -11,7 +11,7 @@ use Rattle.store.proofs.Find.{part-told}
 use Rattle.store.proofs.Sound.{small}
 use Rattle.store.proofs.Stand.{entries-to}
 use Rattle.rules.specs.Store.{storeLimits}
-use Rattle.pages.proofs.Lines.{Left, PackageIn, left-stand, left-start, domain-in, package-in, left-domain, left-package, left-end}
+use Rattle.pages.proofs.Left.{Left, PackageIn, left-stand, left-start, domain-in, package-in, left-domain, left-package, left-end}
 use Rattle.pages.proofs.put_lines.Statement.{statement}
 use Rattle.pages.proofs.put_lines.Tie as tie
 

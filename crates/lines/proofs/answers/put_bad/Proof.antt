@@ -1,10 +1,10 @@
--- `card::answers::put_bad` meets its contract: a figure of at most twenty digits and a word. Assumes nothing.
+-- `lines::answers::put_bad` meets its contract: a figure of at most twenty digits and a word. Assumes nothing.
 use native.Mathlib.Omega.{arith}
 use borrow.Author.Needs.{needs}
 use Rattle.text.proofs.Puts.{put-then, put-counts}
 use Rattle.text.proofs.Digits.{decimal-most}
-use Rattle.card.proofs.answers.put_bad.Statement.{statement}
-use Rattle.card.proofs.answers.put_bad.Tie as tie
+use Rattle.lines.proofs.answers.put_bad.Statement.{statement}
+use Rattle.lines.proofs.answers.put_bad.Tie as tie
 
 -- the start, from where the figure is put; that, from where the word is
 abbrev start : tie.After-put-decimal → tie.Start

@@ -1,11 +1,11 @@
--- `card::answers::put_answer` meets its contract: three figures of at most twenty digits. Assumes nothing.
+-- `lines::answers::put_answer` meets its contract: three figures of at most twenty digits. Assumes nothing.
 use native.Mathlib.Omega.{arith}
 use Prim.Native.Nat.{_%_}
 use borrow.Author.Needs.{needs}
 use Rattle.text.proofs.Puts.{put-counts}
 use Rattle.text.proofs.Digits.{decimal-most}
-use Rattle.card.proofs.answers.put_answer.Statement.{statement}
-use Rattle.card.proofs.answers.put_answer.Tie as tie
+use Rattle.lines.proofs.answers.put_answer.Statement.{statement}
+use Rattle.lines.proofs.answers.put_answer.Tie as tie
 
 cast-put-three : tie.Need-cast-put-three
 cast-put-three c = search needs
