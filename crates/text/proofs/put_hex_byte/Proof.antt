@@ -19,6 +19,16 @@ made k = k .before .before .before
 abbrev first : tie.After-put-byte2 → tie.After-put-byte
 first k = k .before .before .before .before .before
 
+-- the byte as a number, and its digits
+number : (k : tie.After-wide) → k .wide .result ≡ start k .args .b
+number k = k .wide .ensures .0
+
+high : (k : tie.After-put-byte) → k .before .hex-digit .result ≡ hexDigit (start (made k) .args .b / 16)
+high k = k .before .hex-digit .ensures ∙ ap (λ (x : ℕ). hexDigit (x / 16)) (number (made k))
+
+low : (k : tie.After-put-byte2) → k .before .hex-digit2 .result ≡ hexDigit (start (made (first k)) .args .b % 16)
+low k = k .before .hex-digit2 .ensures ∙ ap (λ (x : ℕ). hexDigit (x % 16)) (number (made (first k)))
+
 wide-requires : tie.Need-wide-requires
 wide-requires c κs = search needs
 
@@ -41,10 +51,7 @@ returns : tie.Need-returns
 returns c =
     let second = c .before .before in
     let one = first second in
-    let n = made one .wide .result in
-    let high : one .before .hex-digit .result ≡ hexDigit (start (made one) .args .b / 16) = one .before .hex-digit .ensures ∙ ap (λ (x : ℕ). hexDigit (x / 16)) (made one .wide .ensures .0) in
-    let low : second .before .hex-digit2 .result ≡ hexDigit (start (made one) .args .b % 16) = second .before .hex-digit2 .ensures ∙ ap (λ (x : ℕ). hexDigit (x % 16)) (made one .wide .ensures .0) in
-    put-as (ap₂ (λ (h l : ℕ). h ∷ l ∷ []) high low) (put-then (one .put-byte .ensures) (second .put-byte2 .ensures))
+    put-as (ap₂ (λ (h l : ℕ). h ∷ l ∷ []) (high one) (low second)) (put-then (one .put-byte .ensures) (second .put-byte2 .ensures))
 
 pub put-hex-byte-spec : {M : Type 1} → statement M
 put-hex-byte-spec =
