@@ -82,20 +82,13 @@ static void end_file(struct file *file)
     file->bytes[SIZE_PLACE + 1] = (uint8_t)(file->length % 256);
 }
 
-/* The domain list: the first three or four of these, so that a policy's indexes are 0, 1, 2 and 3. */
-static void put_first_domains(struct file *file, unsigned count)
-{
-    static const struct aid *const domains[] = {&CANTEEN, &DIRECTORY, &PHARMACY, &RADIOLOGY};
-
-    put_u1(file, count);
-    for (unsigned i = 0; i < count; i++) {
-        put_aid(file, domains[i]);
-    }
-}
-
+/* The domain list: these three, so that a policy's indexes are 0, 1, 2. */
 static void put_domains(struct file *file)
 {
-    put_first_domains(file, 3);
+    put_u1(file, 3);
+    put_aid(file, &CANTEEN);
+    put_aid(file, &DIRECTORY);
+    put_aid(file, &PHARMACY);
 }
 
 /* No domain list: policies may have FE or FF alone. */
@@ -164,19 +157,18 @@ static void put_bare_class(struct file *file, unsigned kind, unsigned parents, u
 /* The allowed count, and the index of each domain of the set, FE for the own one; FF alone for every domain. */
 static void put_allowed(struct file *file, unsigned allowed)
 {
-    static const unsigned indexes[] = {0, 1, 2, 3, 0xFE};
-    enum { INDEXES = sizeof indexes / sizeof indexes[0] };
+    static const unsigned indexes[] = {0, 1, 2, 0xFE};
     unsigned count = 0;
 
     if (allowed == BY_EVERY) {
         put_u1(file, 0xFF);
         return;
     }
-    for (unsigned i = 0; i < INDEXES; i++) {
+    for (unsigned i = 0; i < 4; i++) {
         count += allowed >> i & 1u;
     }
     put_u1(file, count);
-    for (unsigned i = 0; i < INDEXES; i++) {
+    for (unsigned i = 0; i < 4; i++) {
         if (allowed >> i & 1u) {
             put_u1(file, indexes[i]);
         }
@@ -265,12 +257,12 @@ void write_cabinet(struct file *file)
     static const uint8_t book_code[] = {0x7A /* return */};
 
     begin_file(file, VERSION_1, &CABINET);
-    put_first_domains(file, 4);
+    put_domains(file);
     put_no_imports(file);
     put_no_references(file);
     put_one_class(file, 1);
-    put_method(file, VISIBLE | STATIC, NAME_BOOK, BY_DIRECTORY | BY_PHARMACY | BY_RADIOLOGY,
-               book_code, sizeof book_code);
+    put_method(file, VISIBLE | STATIC, NAME_BOOK, BY_DIRECTORY | BY_PHARMACY, book_code,
+               sizeof book_code);
     end_file(file);
 }
 

@@ -15,7 +15,7 @@ struct aid {
     uint8_t bytes[LOADER_AID_MOST];
 };
 
-/* Domains: the canteen, the staff directory, the pharmacy and the doors; radiology is named and never created. */
+/* Domains: the canteen, the staff directory, the pharmacy and the doors; radiology is never created. */
 extern const struct aid CANTEEN, DIRECTORY, PHARMACY, DOORS, RADIOLOGY;
 
 /* Packages: each vendor's bytes and a number of its own. */
@@ -39,9 +39,8 @@ enum {
     BY_CANTEEN = 1,
     BY_DIRECTORY = 2,
     BY_PHARMACY = 4,
-    BY_RADIOLOGY = 8, /* of a file that lists it */
-    BY_OWN = 16,      /* FE: the domain that the package is loaded in */
-    BY_EVERY = 32     /* FF: every domain; it stands alone */
+    BY_OWN = 8,   /* FE: the domain that the package is loaded in */
+    BY_EVERY = 16 /* FF: every domain; it stands alone */
 };
 
 /* A package file while it is written. */
@@ -59,7 +58,7 @@ void write_statements(struct file *file, unsigned statement_allows);
 /* Pharmacy: class 0, a diet meal below the canteen's meal, with a price of its own. */
 void write_diet(struct file *file, unsigned price_allows);
 
-/* Pharmacy: book takes a drug out of the cabinet; the directory, the pharmacy and radiology may call it. */
+/* Pharmacy: book takes a drug out of the cabinet; the directory and the pharmacy may call it. */
 void write_cabinet(struct file *file);
 
 /* Offsets in the code of forward: the last byte of its call, and where the next instruction starts. */

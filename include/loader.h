@@ -172,16 +172,14 @@ extern "C" {
  * refused with 26. To a library before 1.5, a store that has one is not sound.
  * Since 1.6 a call may name a class that inherits the method; before, it was refused
  * with 18. To a library before 1.6, a store that holds a package with such a call is
- * not sound. Since 2.0 a domain that an installed method's list names is not
- * deleted (25); before, it was. Every store that was sound is sound, those among
- * them in which this happened.
+ * not sound.
  */
-#define LOADER_VERSION_MAJOR 2u
-#define LOADER_VERSION_MINOR 0u
+#define LOADER_VERSION_MAJOR 1u
+#define LOADER_VERSION_MINOR 6u
 #define LOADER_VERSION (LOADER_VERSION_MAJOR * 256u + LOADER_VERSION_MINOR)
 
-/* The number of an answer: the question that was answered no. 22, 23 and 27 to 29 are no numbers
-   of the loader. */
+/* The number of an answer: the question that was answered no. 22, 23, 25 and 27 to 29 are no
+   numbers of the loader. */
 enum loader_number {
     /* Done: every question was answered yes. */
     LOADER_DONE = 0,
@@ -238,8 +236,6 @@ enum loader_number {
     /* Is each handler's start below its end, its end at most the code length; do start and target
        begin an instruction, and does end begin one or equal the length? */
     LOADER_HANDLER = 24,
-    /* Does no installed method's list name it by an index? FF and FE do not. */
-    LOADER_DOMAIN_NAMED = 25,
     /* If the domain is of kind 3, is no instruction of any code barred? */
     LOADER_CODE_INT = 26,
     /* Does each limit given lie in its range: depth 1 to 16, parents 1 to 8, code length 1 to
@@ -324,13 +320,11 @@ uint32_t loader_create_without_int(uint8_t *store, size_t store_length,
                                    const uint8_t *domain, size_t domain_length);
 
 /*
- * Deletes a domain, of either kind, in which no package lies and that no installed
- * method's list names by an index. FF names no domain, and an AID that stands in
- * a file's list of domains alone is not named. Whoever creates the AID anew is
- * allowed what packages loaded since then list, and what allows every domain.
+ * Deletes a domain, of either kind, in which no package lies. Policies that name
+ * it stay as they are, and do not prevent it.
  *
  * In:      store; domain: the AID of a created domain.
- * Numbers: 1, 2, 3, 5, 6, 25, asked in this order.
+ * Numbers: 1, 2, 3, 5, 6, asked in this order.
  * Changes: the domain's entry is cut out: the later entries move up in their
  *          order, used shrinks by 3 + domain_length, and the freed bytes at the
  *          end are zero. All bytes before the entry but used stay.

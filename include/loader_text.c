@@ -35,7 +35,7 @@ static const struct {
     {NO_NAME, NO_TEXT},
     {NO_NAME, NO_TEXT},
     {"LOADER_HANDLER", "a handler's offsets do not fit its code"},
-    {"LOADER_DOMAIN_NAMED", "a method's list names the domain"},
+    {NO_NAME, NO_TEXT},
     {"LOADER_CODE_INT", "a code does not keep to the subset without int"},
     {NO_NAME, NO_TEXT},
     {NO_NAME, NO_TEXT},

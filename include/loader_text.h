@@ -8,7 +8,7 @@
 extern "C" {
 #endif
 
-/* One more than the greatest number. Below it 22, 23 and 27 to 29 are no numbers of the loader. */
+/* One more than the greatest number. Below it 22, 23, 25 and 27 to 29 are no numbers of the loader. */
 #define LOADER_NUMBERS 31u
 
 /* The name of a number, as enum loader_number has it; for any other number "". */

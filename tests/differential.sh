@@ -4,9 +4,9 @@
 #
 # Prints the table of numbers answered and a line that begins with "ok", or what differs; exit
 # status 0 only if nothing does and, from 20,000 sequences on, every number, depth and edge of limits
-# was reached, FE decided, searches, imports and deletions met all that they can meet and wrong readings
-# of versions, handlers, limits, kinds of domains, each opcode, searches, imports and named domains were
-# told apart often enough.
+# was reached, FE decided, searches and imports met all that they can meet and wrong readings of
+# versions, handlers, limits, kinds of domains, each opcode, searches and imports were told apart often
+# enough.
 # Builds what is missing or out of date; writes only under target/ and comparison/target/.
 # LOADER_LIBRARY and CARD may name another archive of the operations, called libloader.a, and
 # another simulated card, which are then tested and not built.

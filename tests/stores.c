@@ -1,22 +1,14 @@
 /*
  * For tests/inventory.sh: stores as files.
  *
- * stores each FOLDER       a store a line in hex on standard input, `-` for none: FOLDER/1, FOLDER/2, ...
- * stores full STORE PAGE   a store as full of small packages as one can be, their AIDs of 16 bytes, and its page
- * stores names STORE PAGE  a store of packages that each name 32 other AIDs of 16 bytes, none of them created, and its page
+ * stores each FOLDER      a store a line in hex on standard input, `-` for none: FOLDER/1, FOLDER/2, ...
+ * stores full STORE PAGE  a store as full of small packages as one can be, their AIDs of 16 bytes, and its page
  */
 #include <stdio.h>
 #include <stdlib.h>
 #include <string.h>
 
-/* An AID's bytes, and those of an entry before its file. */
-enum { LARGEST = 65535, AID = 16, HEADING = 3 + 1 + AID };
-
-/* The first byte of AIDs: of the one domain, which has 16 of them; of packages and of names, which end in a number. */
-enum { DOMAIN = 0xD0, PACKAGE = 0xC0, NAME = 0xE0 };
-
-/* A file's names; a file without them ends with its counts, one with them with an interface of one method that lists all. */
-enum { NAMES = 32, SMALL = 7 + 1 + AID + 5, NAMING = SMALL + NAMES * (1 + AID) + 3 + 4 + NAMES };
+enum { LARGEST = 65535, AID = 16, FILE_BYTES = 13 + AID, ENTRY = 3 + 1 + AID + FILE_BYTES };
 
 static FILE *opened(const char *path)
 {
@@ -44,82 +36,28 @@ static int each(const char *folder)
     return 0;
 }
 
-static void put_u2(FILE *file, unsigned value)
-{
-    fputc((int)(value >> 8), file);
-    fputc((int)(value & 255), file);
-}
-
-/* 14 bytes and a number; the domain has no number but its byte twice more. */
-static void put_aid(FILE *file, unsigned first, unsigned number)
-{
-    for (int i = 0; i < AID - 2; i++) {
-        fputc((int)first, file);
-    }
-    put_u2(file, number);
-}
-
-static void print_aid(FILE *page, unsigned first, unsigned number, const char *end)
-{
-    for (int i = 0; i < AID - 2; i++) {
-        fprintf(page, "%02X", first);
-    }
-    fprintf(page, "%04X%s", number, end);
-}
-
-/* The package of a number, with the names from number * NAMES on if it has so many. */
-static void put_package(FILE *store, unsigned number, unsigned names, unsigned bytes)
-{
-    fputc(2, store);
-    put_u2(store, HEADING - 3 + bytes);
-    fputc(AID, store);
-    put_aid(store, DOMAIN, DOMAIN * 257);
-    fprintf(store, "BPK");
-    put_u2(store, 1);
-    put_u2(store, bytes);
-    fputc(AID, store);
-    put_aid(store, PACKAGE, number);
-    fputc((int)names, store);
-    for (unsigned i = 0; i < names; i++) {
-        fputc(AID, store);
-        put_aid(store, NAME, number * NAMES + i);
-    }
-    /* no imports, no references */
-    fprintf(store, "%c%c%c", 0, 0, 0);
-    if (names == 0) {
-        fputc(0, store);
-        return;
-    }
-    /* an interface without parents, whose method is visible and has name 1 */
-    fprintf(store, "%c%c%c%c%c", 1, 1, 0, 1, 0x80);
-    put_u2(store, 1);
-    fputc((int)names, store);
-    for (unsigned i = 0; i < names; i++) {
-        fputc((int)i, store);
-    }
-}
-
-/* As many packages with so many names as fit, in a file of so many bytes each. */
-static int filled(unsigned names, unsigned bytes, const char *store_path, const char *page_path)
+/* The domain's AID is 16 bytes D0, a package's 14 bytes C0 and its number. */
+static int full(const char *store_path, const char *page_path)
 {
     FILE *store = opened(store_path), *page = opened(page_path);
-    unsigned entry = HEADING + bytes, packages = (LARGEST - 7 - 3 - AID) / entry, used = 7 + 3 + AID + packages * entry;
-    fprintf(store, "BCS");
-    put_u2(store, 1);
-    put_u2(store, used);
-    fputc(1, store);
-    put_u2(store, AID);
-    put_aid(store, DOMAIN, DOMAIN * 257);
+    unsigned packages = (LARGEST - 7 - 3 - AID) / ENTRY, used = 7 + 3 + AID + packages * ENTRY;
+    fprintf(store, "BCS%c%c%c%c%c%c%c", 0, 1, (int)(used >> 8), (int)(used & 255), 1, 0, AID);
+    for (int i = 0; i < AID; i++) {
+        fputc(0xD0, store);
+    }
     for (unsigned number = 0; number < packages; number++) {
-        put_package(store, number, names, bytes);
-        print_aid(page, PACKAGE, number, " ");
-        print_aid(page, DOMAIN, DOMAIN * 257, "");
-        fprintf(page, " %u %d\n", bytes, names > 0);
+        char domain[AID + 1] = "", aid[AID + 1] = "";
+        memset(domain, 0xD0, AID);
+        memset(aid, 0xC0, AID - 2);
+        fprintf(store, "%c%c%c%c%s", 2, 0, ENTRY - 3, AID, domain);
+        fprintf(store, "BPK%c%c%c%c%c%s", 0, 1, 0, FILE_BYTES, AID, aid);
+        fprintf(store, "%c%c%c%c%c%c%c", (int)(number >> 8), (int)(number & 255), 0, 0, 0, 0, 0);
+        for (int i = 0; i < AID - 2; i++) {
+            fprintf(page, "C0");
+        }
+        fprintf(page, "%04X D0D0D0D0D0D0D0D0D0D0D0D0D0D0D0D0 %d 0\n", number, FILE_BYTES);
     }
-    for (unsigned number = 0; number < packages * names; number++) {
-        print_aid(page, NAME, number, "\n");
-    }
-    fprintf(page, "%u %u %u\n", packages, packages * bytes, names > 0 ? packages : 0);
+    fprintf(page, "%u %u 0\n", packages, packages * FILE_BYTES);
     for (unsigned i = used; i < LARGEST; i++) {
         fputc(0, store);
     }
@@ -132,11 +70,8 @@ int main(int count, char **words)
         return each(words[2]);
     }
     if (count == 4 && strcmp(words[1], "full") == 0) {
-        return filled(0, SMALL, words[2], words[3]);
+        return full(words[2], words[3]);
     }
-    if (count == 4 && strcmp(words[1], "names") == 0) {
-        return filled(NAMES, NAMING, words[2], words[3]);
-    }
-    fprintf(stderr, "usage: stores each FOLDER | stores full STORE PAGE | stores names STORE PAGE\n");
+    fprintf(stderr, "usage: stores each FOLDER | stores full STORE PAGE\n");
     return 2;
 }

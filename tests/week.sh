@@ -20,7 +20,7 @@ need_inventory
 "$inventory" <"$out/week.store" >"$out/week.inventory" || fail "the inventory failed"
 same examples/week.inventory "$out/week.inventory"
 for page in examples/README.md README.md; do
-    grep -E '^    (([0-9A-F]{10,32} [0-9A-F]{10,32}|[0-9]+) [0-9]+ [0-9]+|[0-9A-F]{10,32})$' "$page" | sed 's/^    //' >"$out/page"
+    grep -E '^    ([0-9A-F]{10,32} [0-9A-F]{10,32}|[0-9]+) [0-9]+ [0-9]+$' "$page" | sed 's/^    //' >"$out/page"
     same examples/week.inventory "$out/page"
 done
 

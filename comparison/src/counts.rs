@@ -1,6 +1,6 @@
 //! How often each operation answered each number, loads by their depth figure, and what
-//! FE, handlers, limits, kinds of domains, searches for declarations, places of imports and named
-//! domains decided.
+//! FE, handlers, limits, kinds of domains, searches for declarations and places of imports
+//! decided.
 
 use independent::depths::DepthCounts;
 use independent::handler_counts::HandlerCounts;
@@ -10,7 +10,6 @@ use independent::ledger::Call;
 use independent::limit_counts::LimitCounts;
 use independent::limits::Limits;
 use independent::loader::{Independent, Loader};
-use independent::named_counts::NamedCounts;
 use independent::own_domain::OwnCounts;
 use independent::questions::NUMBERS;
 use independent::search_counts::SearchCounts;
@@ -26,7 +25,7 @@ const CAN_ANSWER: [&[usize]; Call::OPERATIONS.len()] = [
     &[0, 1, 30],
     &CREATION,
     &CREATION,
-    &[0, 1, 2, 3, 5, 6, 25],
+    &[0, 1, 2, 3, 5, 6],
     &[
         0, 1, 2, 3, 5, 10, 11, 12, 13, 14, 15, 16, 17, 24, 26, 18, 19, 20, 21,
     ],
@@ -45,7 +44,6 @@ pub struct Counts {
     int: IntCounts,
     search: SearchCounts,
     imports: ImportCounts,
-    named: NamedCounts,
     /// Queries answered yes.
     yes: u64,
 }
@@ -64,7 +62,6 @@ impl Counts {
         self.limits.note(call, answer, store);
         self.int.note(call, answer, store);
         self.imports.note(call, answer, store);
-        self.named.note(call, answer, store);
         match (operation, number) {
             (LOAD, 0) => self.depths.note(figure, store),
             (QUERY, 0) => self.yes += u64::from(figure),
@@ -101,13 +98,11 @@ impl Counts {
         println!("{yes} of {queries} queries answered yes");
         println!("{}\n{}\n{}", self.own, self.handlers, self.limits);
         println!("{}\n{}\n{}", self.int, self.search, self.imports);
-        println!("{}", self.named);
     }
 
     /// What falls short of this many answers of each number, this many accepted loads by
     /// each depth and origin, this many decisions of each kind by FE, by handlers, by limits,
-    /// by kinds of domains, by searches, by places of imports and by named domains, and a fifth of
-    /// loads accepted.
+    /// by kinds of domains, by searches and by places of imports, and a fifth of loads accepted.
     pub fn shortfalls(&self, least: u64) -> Vec<String> {
         let mut found = Vec::new();
         for (operation, numbers) in CAN_ANSWER.iter().enumerate() {
@@ -129,7 +124,6 @@ impl Counts {
         found.extend(self.int.shortfalls(least));
         found.extend(self.search.shortfalls(least));
         found.extend(self.imports.shortfalls(least));
-        found.extend(self.named.shortfalls(least));
         found
     }
 }

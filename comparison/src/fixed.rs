@@ -9,7 +9,6 @@ use independent::generate::int_cases;
 use independent::generate::kind_cases;
 use independent::generate::limit_cases;
 use independent::generate::lineages::lineages;
-use independent::generate::named_cases;
 use independent::generate::own_pairs::own_pairs;
 use independent::generate::reference_cases;
 use independent::generate::search_cases;
@@ -37,7 +36,6 @@ pub fn groups(seed: u64) -> Vec<Group> {
     found.extend(of_kinds());
     found.extend(of_searches());
     found.extend(of_imports());
-    found.extend(of_names());
     found.extend(given());
     found.extend(seeded(seed));
     found
@@ -154,14 +152,6 @@ fn of_imports() -> Vec<Group> {
             import_moves::sequences().into_iter(),
         ),
     ]
-}
-
-/// Domains that lists name.
-fn of_names() -> Vec<Group> {
-    vec![group(
-        "domains named in every form and deleted",
-        named_cases::sequences().into_iter(),
-    )]
 }
 
 /// Stores and codes that are the same in every run.

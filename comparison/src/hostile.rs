@@ -9,7 +9,6 @@ use crate::hostile_imports::with_imports;
 use crate::hostile_kinds::with_kinds;
 use crate::hostile_limits::with_limits;
 use crate::hostile_lists::Lists;
-use crate::hostile_named::with_names;
 use crate::hostile_searches::with_searches;
 use crate::hostile_tables::{below, crossing, domains, maps, names, packages, references};
 use crate::hostile_tables::{shuffle, Levels};
@@ -147,7 +146,6 @@ pub fn all() -> Vec<Workload> {
     found.extend(with_kinds());
     found.extend(with_searches());
     found.extend(with_imports());
-    found.extend(with_names());
     found
 }
 

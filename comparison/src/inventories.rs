@@ -6,7 +6,6 @@ use crate::tables::{row, Measured, COLUMNS};
 use crate::timing::{taken, Times};
 use crate::workloads::{self, written, Workload};
 use independent::generate::crowded::{full_of_methods, full_of_packages};
-use independent::generate::named_stores::{full_of_created, full_of_names};
 use independent::inventory::inventory;
 use independent::package::Version;
 use independent::store::StoreVersion;
@@ -30,8 +29,7 @@ fn input(name: &str, size: &str, store: Vec<u8>) -> Input {
     }
 }
 
-/// An empty store, ordinary ones, and those of as many packages, as many methods and as many names
-/// as fit.
+/// An empty store, ordinary ones, and those of as many packages and as many methods as fit.
 pub fn ordinary() -> Vec<Input> {
     let mut found = vec![input("an empty store", "64 bytes", written(&[], 64))];
     let queried = workloads::all()
@@ -48,15 +46,6 @@ pub fn ordinary() -> Vec<Input> {
     found.extend(packages.map(|(name, store)| input(name, "64 KB", store)));
     let methods = full_of_methods(store, file);
     found.push(input("as many methods as fit", "64 KB", methods));
-    let names = [
-        ("as many names as fit, none created", 5),
-        ("the same with the longest AIDs", 16),
-    ];
-    found.extend(
-        names.map(|(name, length)| input(name, "64 KB", full_of_names(store, file, length))),
-    );
-    let created = full_of_created(store, file, 5);
-    found.push(input("half domains, half names of these", "64 KB", created));
     found
 }
 

@@ -5,7 +5,6 @@ use crate::ordinary_handlers as handled;
 use crate::ordinary_imports as imports;
 use crate::ordinary_kinds as kinds;
 use crate::ordinary_limits as limited;
-use crate::ordinary_named as deleted;
 use crate::ordinary_searches as searches;
 use crate::stack::Peaks;
 use crate::timing::Times;
@@ -93,8 +92,6 @@ impl Measured {
             searches::LOAD,
             searches::QUERY,
             imports::QUERY,
-            deleted::NAMED,
-            deleted::UNNAMED,
         ] {
             // What the library does not answer as it should was left out.
             if !self.workloads.iter().any(|w| w.name == name) {

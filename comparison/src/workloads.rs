@@ -6,7 +6,6 @@ use crate::ordinary_handlers::with_handlers;
 use crate::ordinary_imports::with_imports;
 use crate::ordinary_kinds::{of_domains, with_kinds};
 use crate::ordinary_limits::with_limits;
-use crate::ordinary_named::with_names;
 use crate::ordinary_searches::with_searches;
 use independent::generate::limits::ladder;
 use independent::generate::model::FileModel;
@@ -76,7 +75,6 @@ pub fn all() -> Vec<Workload> {
     found.extend(with_kinds());
     found.extend(with_searches());
     found.extend(with_imports());
-    found.extend(with_names());
     found
 }
 

@@ -1,7 +1,6 @@
-//! The printed inventory of a store (requests 1 and 8).
+//! The printed inventory of a store (request 1).
 
 use crate::contents::{Contents, Installed};
-use crate::named::uncreated;
 use crate::questions::{number, q1, q2};
 use crate::store::ENTRY_HEAD;
 
@@ -51,33 +50,6 @@ impl Totals {
     }
 }
 
-/// What the page of a sound store says, line after line.
-#[derive(Clone, Debug)]
-pub struct Page<'a> {
-    pub lines: Vec<Line<'a>>,
-    /// The AIDs named but not created.
-    pub uncreated: Vec<&'a [u8]>,
-    pub totals: Totals,
-}
-
-impl<'a> Page<'a> {
-    pub fn of(contents: &Contents<'a>) -> Self {
-        let lines = lines(contents);
-        Page {
-            totals: Totals::of(&lines),
-            uncreated: uncreated(contents),
-            lines,
-        }
-    }
-
-    pub fn written(&self) -> Vec<u8> {
-        let lines = self.lines.iter().map(text);
-        let names = self.uncreated.iter().map(|aid| name(aid));
-        let text: String = lines.chain(names).chain([last(self.totals)]).collect();
-        text.into_bytes()
-    }
-}
-
 /// The bytes of a package's entry before its file: kind, length, and the domain's AID with
 /// its length.
 pub fn heading(domain: &[u8]) -> usize {
@@ -87,7 +59,7 @@ pub fn heading(domain: &[u8]) -> usize {
 /// The page of a store's bytes.
 pub fn inventory(store: &[u8]) -> Vec<u8> {
     match judged(store) {
-        Ok(contents) => Page::of(&contents).written(),
+        Ok(contents) => page(&lines(&contents)),
         Err(question) => refusal(question),
     }
 }
@@ -103,29 +75,30 @@ pub fn lines<'a>(contents: &Contents<'a>) -> Vec<Line<'a>> {
     contents.packages.iter().map(Line::of).collect()
 }
 
-/// The line of a package.
-pub fn text(line: &Line) -> String {
-    let (aid, domain) = (digits(line.aid), digits(line.domain));
-    format!("{aid} {domain} {} {}\n", line.bytes, line.methods)
+/// These lines and their totals.
+pub fn page(lines: &[Line]) -> Vec<u8> {
+    page_with(lines, Totals::of(lines))
 }
 
-/// The line of an AID named but not created.
-pub fn name(aid: &[u8]) -> String {
-    digits(aid) + "\n"
-}
-
-/// The last line.
-pub fn last(totals: Totals) -> String {
+/// These lines, with these totals in the last one.
+pub fn page_with(lines: &[Line], totals: Totals) -> Vec<u8> {
+    let mut text: String = lines.iter().map(text).collect();
     let Totals {
         packages,
         bytes,
         methods,
     } = totals;
-    format!("{packages} {bytes} {methods}\n")
+    text += &format!("{packages} {bytes} {methods}\n");
+    text.into_bytes()
+}
+
+fn text(line: &Line) -> String {
+    let (aid, domain) = (digits(line.aid), digits(line.domain));
+    format!("{aid} {domain} {} {}\n", line.bytes, line.methods)
 }
 
 /// Two capital hex digits for each byte.
-pub fn digits(bytes: &[u8]) -> String {
+fn digits(bytes: &[u8]) -> String {
     bytes.iter().map(|byte| format!("{byte:02X}")).collect()
 }
 

@@ -2,9 +2,8 @@
 
 use crate::bytes::AID_LENGTHS;
 use crate::contents::{Contents, Installed};
-use crate::inventory::{judged, refusal, Line, Page};
+use crate::inventory::{judged, lines, page, refusal, Line};
 use crate::misread_inventory::InventoryMisreading;
-use crate::name_line_counts::NameLineCounts;
 use crate::package::Version;
 use crate::store::StoreVersion;
 use crate::without_int::DomainKind;
@@ -62,7 +61,6 @@ pub struct InventoryCounts {
     domains: [u64; LENGTHS],
     unimplemented: u64,
     told: [u64; READINGS],
-    names: NameLineCounts,
 }
 
 impl InventoryCounts {
@@ -72,12 +70,10 @@ impl InventoryCounts {
         let right = match &judged {
             Ok(contents) => {
                 self.note_page(store, contents);
-                let page = Page::of(contents);
-                let both = page.lines.iter().zip(&contents.packages);
+                let lines = lines(contents);
+                let both = lines.iter().zip(&contents.packages);
                 both.for_each(|(line, package)| self.note_line(line, package, contents));
-                let written = page.written();
-                self.names.note(contents, &written);
-                written
+                page(&lines)
             }
             Err(question) => {
                 let place = match question {
@@ -164,7 +160,6 @@ impl InventoryCounts {
             .chain([unimplemented])
             .chain(aids)
             .chain(told)
-            .chain(self.names.counts())
     }
 
     /// What was counted fewer times than this.

@@ -1,5 +1,5 @@
-//! An independent reading of document 01 with requests 1, 2, 3, 5 to 9 and 12 of document 02: the
-//! staff card loader.
+//! An independent reading of document 01 with requests 1, 2, 3, 5, 6, 7, 9 and 12 of document 02:
+//! the staff card loader.
 
 pub mod bytes;
 pub mod card;
@@ -28,13 +28,8 @@ pub mod misread_int;
 pub mod misread_inventory;
 mod misread_kinds;
 pub mod misread_limits;
-pub mod misread_name_lines;
-pub mod misread_named;
 pub mod misread_search;
 pub mod misreadings;
-pub mod name_line_counts;
-pub mod named;
-pub mod named_counts;
 pub mod operations;
 pub mod own_domain;
 pub mod package;

@@ -1,8 +1,7 @@
-//! Wrong readings of the printed inventory (request 1); `misread_name_lines` has those of request
-//! 8.
+//! Wrong readings of the printed inventory (request 1).
 
 use crate::contents::{Contents, Installed};
-use crate::inventory::{heading, inventory, refusal, Line, Page, Totals};
+use crate::inventory::{heading, inventory, lines, page, page_with, refusal, Line, Totals};
 use crate::package::{self, Class};
 use crate::questions::q2;
 use crate::store::{self, Body, ENTRY_HEAD};
@@ -96,7 +95,7 @@ impl InventoryMisreading {
             (_, Ok(contents)) => self.page_of(store, contents),
             (LaidOutAlone, Err(2)) => laid_out(store).unwrap_or_else(|| refusal(2)),
             (AnyLength, Err(1)) => match q2(store) {
-                Some(contents) => Page::of(&contents).written(),
+                Some(contents) => page(&lines(&contents)),
                 None => refusal(2),
             },
             (CutOff, Err(1)) => inventory(&store[..store.len().min(GREATEST)]),
@@ -107,23 +106,22 @@ impl InventoryMisreading {
 
     /// The page of a sound store.
     fn page_of(self, store: &[u8], contents: &Contents) -> Vec<u8> {
-        let mut page = Page::of(contents);
-        let lines = &mut page.lines;
+        let mut lines = lines(contents);
         for (line, installed) in lines.iter_mut().zip(&contents.packages) {
             self.misread(line, installed);
         }
         match self {
-            DomainLines => *lines = with_domains(store, lines),
+            DomainLines => lines = with_domains(store, &lines),
             SortedByAid => lines.sort_by_key(|line| line.aid),
             ByDomain => lines.sort_by_key(|line| contents.domains[line.domain].entry.start),
             LastFirst => lines.reverse(),
             NothingWithout if lines.is_empty() => return Vec::new(),
             _ => {}
         }
-        page.totals = self.totals(store, contents, lines);
+        let page = page_with(&lines, self.totals(store, contents, &lines));
         match self {
-            SmallLetters => page.written().to_ascii_lowercase(),
-            _ => page.written(),
+            SmallLetters => page.to_ascii_lowercase(),
+            _ => page,
         }
     }
 
@@ -180,7 +178,7 @@ impl InventoryMisreading {
     }
 }
 
-/// The page of a store whose layout holds and whose files read, names apart.
+/// The page of a store whose layout holds and whose files read.
 fn laid_out(store: &[u8]) -> Option<Vec<u8>> {
     let layout = store::layout(store)?;
     let mut lines = Vec::new();
@@ -195,13 +193,7 @@ fn laid_out(store: &[u8]) -> Option<Vec<u8>> {
             });
         }
     }
-    let totals = Totals::of(&lines);
-    let page = Page {
-        lines,
-        uncreated: Vec::new(),
-        totals,
-    };
-    Some(page.written())
+    Some(page(&lines))
 }
 
 /// These lines, and one for each domain where its entry stands.

@@ -1,13 +1,11 @@
 //! Wrong readings of FE, of handlers, of limits, of domains without int, of the search for
-//! declarations, of where imports lie and of which domains are named. Tests show that generated
-//! sequences find them, and counts ask by them on what an answer hangs; the loader itself uses
-//! none.
+//! declarations and of where imports lie. Tests show that generated sequences find them, and counts ask by them on what
+//! an answer hangs; the loader itself uses none.
 
 use crate::handler_faults::HandlerFault;
 use crate::misread_imports::ImportMisreading;
 use crate::misread_int::IntMisreading;
 use crate::misread_limits::LimitMisreading;
-use crate::misread_named::NamedMisreading;
 use crate::misread_search::SearchMisreading;
 use crate::policy::{Policy, Role, Standing, OWN};
 
@@ -92,9 +90,6 @@ pub enum Misreading {
 
     /// Something about where imports lie.
     Imports(ImportMisreading),
-
-    /// Something about which domains are named.
-    Named(NamedMisreading),
 }
 
 impl Misreading {

@@ -1,4 +1,4 @@
-//! Questions 1 to 9, 21 and 30, and the orders in which questions are asked; `named` has 25.
+//! Questions 1 to 9, 21 and 30, and the orders in which questions are asked.
 
 use crate::bytes::AID_LENGTHS;
 use crate::contents::{Contents, Domain, MethodPlace, Place};
@@ -6,15 +6,14 @@ use crate::handlers::q24;
 use crate::limits::Limits;
 use crate::load_questions::{q10, q11, q12, q13, q14, q15, q16, q17, q18, q19, q20, Code};
 use crate::misreadings::Misreading;
-use crate::named::q25;
 use crate::package::{Package, Reading};
 use crate::store::{self, Body};
 use crate::without_int::{q26, DomainKind};
 use std::ops::Range;
 
 /// Every number that a call can answer, 0 among them.
-pub const NUMBERS: [u8; 26] = [
-    0, 1, 2, 3, 4, 5, 6, 7, 8, 9, 10, 11, 12, 13, 14, 15, 16, 17, 18, 19, 20, 21, 24, 25, 26, 30,
+pub const NUMBERS: [u8; 25] = [
+    0, 1, 2, 3, 4, 5, 6, 7, 8, 9, 10, 11, 12, 13, 14, 15, 16, 17, 18, 19, 20, 21, 24, 26, 30,
 ];
 
 /// The questions about a file, in the order in which a load asks them.
@@ -62,8 +61,7 @@ pub fn q2_by(store: &[u8], misreading: Option<Misreading>) -> Option<Contents<'_
         }
         used = entry.bytes.end;
     }
-    let unsound = |wrong: Misreading| wrong.refuses_contents(&contents);
-    (!misreading.is_some_and(unsound)).then_some(contents)
+    Some(contents)
 }
 
 /// Has every AID given to the call 5 to 16 bytes?
@@ -150,17 +148,13 @@ pub fn judge_creation(
     number(q21(room, &Body::Domain(kind, domain)), 21)
 }
 
-/// Asks 3, 5, 6 and 25 of a deletion; gives the bytes of the domain's entry.
+/// Asks 3, 5 and 6 of a deletion; gives the bytes of the domain's entry.
 pub fn judge_deletion(contents: &Contents, domain: &[u8]) -> Result<Range<usize>, u8> {
-    if let Some(Misreading::Named(wrong)) = contents.misreading {
-        return wrong.judge_deletion(contents, domain);
-    }
     number(q3(&[domain]), 3)?;
     let found = q5(contents, domain).ok_or(5)?;
     let overlooks = |wrong: Misreading| wrong.overlooks_in_deletion(found.kind);
     number(!contents.misreading.is_some_and(overlooks), 5)?;
     number(q6(contents, domain), 6)?;
-    number(q25(contents, domain), 25)?;
     Ok(found.entry.clone())
 }
 

@@ -100,9 +100,7 @@ fn methods_of_every_form_and_version_count() {
         let long = "0F".repeat(16);
         let (two, three) = (second.len(), third.len());
         let lines = format!("{long} A0000000D1 {two} 5\nA0000B000C {long} {three} 5\n");
-        // Both name D2, which is not created.
-        let name = "A0000000D2\n";
-        assert_eq!(page(&store), format!("{lines}{name}2 {} 10\n", two + three));
+        assert_eq!(page(&store), format!("{lines}2 {} 10\n", two + three));
         // Question 2 alone is answered for a store with one wrong byte at its end.
         *store.last_mut().unwrap() = 1;
         assert_eq!(page(&store), "2\n");

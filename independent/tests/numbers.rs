@@ -71,11 +71,6 @@ fn delete_numbers() {
     assert_eq!(delete(&mut store, D2).number, 0);
     assert_eq!(delete(&mut store, D2).number, 5);
     assert_eq!(create(&mut store, D2).number, 0);
-    let naming = package(P2, vec![class(&[], vec![method(BODY, 1, Some(&[1]))])]);
-    assert_eq!(load(&mut store, D1, &naming.bytes()).number, 0);
-    assert_eq!(delete(&mut store, D2).encoded(), 25);
-    assert_eq!(remove(&mut store, P2).number, 0);
-    assert_eq!(delete(&mut store, D2).number, 0);
 }
 
 #[test]

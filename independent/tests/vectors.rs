@@ -150,7 +150,7 @@ fn calls_are_answered_as_a_third_reader_answers_them() {
 
 #[test]
 fn stores_have_the_pages_of_a_third_reader() {
-    let folder = Path::new(env!("CARGO_MANIFEST_DIR")).join("../tests/vectors/09-request-8");
+    let folder = Path::new(env!("CARGO_MANIFEST_DIR")).join("../tests/vectors/08-request-1");
     let stores = unpacked(&folder.join("inventory.stores.gz"));
     let pages = unpacked(&folder.join("inventory.answers.gz"));
     let mut theirs = pages.split_inclusive("\n\n");

@@ -16,7 +16,6 @@ use independent::generate::import_cases;
 use independent::generate::int_cases;
 use independent::generate::kind_cases;
 use independent::generate::limit_cases;
-use independent::generate::named_cases;
 use independent::generate::own_pairs::own_pairs;
 use independent::generate::search_cases;
 use independent::generate::sequences::sequence;
@@ -95,7 +94,7 @@ fn processor() -> String {
 }
 
 /// Calls that reach deep: limits, lists with FE, handlers, limits of stores, kinds of domains,
-/// searches, imports, named domains, ladders, full stores, all that is timed, and others.
+/// searches, imports, ladders, full stores, all that is timed, and others.
 fn stack_sequences<'a>(workloads: impl Iterator<Item = &'a Workload>) -> Vec<Sequence> {
     let mut found = special::lengths();
     found.extend(Version::BOTH.map(special::limits));
@@ -111,7 +110,6 @@ fn stack_sequences<'a>(workloads: impl Iterator<Item = &'a Workload>) -> Vec<Seq
     found.extend(search_cases::places());
     found.extend(search_cases::lists());
     found.extend(import_cases::sequences());
-    found.extend(named_cases::sequences());
     found.extend(full_stores());
     found.extend(special::hostile());
     found.extend((0..300).map(sequence));

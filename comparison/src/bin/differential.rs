@@ -12,14 +12,14 @@ use std::process::ExitCode;
 use std::time::Instant;
 
 /// From this many sequences on, each number and depth must have been answered often enough,
-/// and FE, handlers, limits, kinds of domains, searches, places of imports and named domains must
-/// have decided often enough.
+/// and FE, handlers, limits, kinds of domains, searches and places of imports must have decided
+/// often enough.
 const FULL_RUN: u64 = 20_000;
 
 /// How often each operation must answer each of its numbers in a full run, loads carry each
-/// depth, FE decide, each side of each edge of limits be reached, searches, imports and deletions
-/// meet each thing that they can meet, and answers tell each wrong reading of handlers, of limits,
-/// of kinds, of each opcode, of searches, of imports and of named domains apart.
+/// depth, FE decide, each side of each edge of limits be reached, searches and imports meet each
+/// thing that they can meet, and answers tell each wrong reading of handlers, of limits, of kinds,
+/// of each opcode, of searches and of imports apart.
 const LEAST: u64 = 100;
 
 const LIBRARY: Guarded<Library> = Guarded(Library);

@@ -11,7 +11,7 @@ use lib.Seq.{get_or-set_same}
 use borrow.Author.Tests.{le-leb, lt-leb}
 use Rattle.rules.specs.Bytes.{Bytes, Aid, any, same, aid_length}
 use Rattle.rules.specs.Code.{u2_at}
-use Rattle.rules.specs.Store.{DomainKind, full, without_int, domain_byte, Entry, domain, loaded, first_entry, store_limits}
+use Rattle.rules.specs.Store.{DomainKind, Entry, domain, loaded, first_entry, store_limits}
 use Rattle.rules.specs.Questions.{q3_lengths, q4_new, q5_created, keeps_subset}
 use Rattle.rules.specs.Operations.{is_domain}
 use Rattle.rules.proofs.Tests.{none_some, and_l, and_r, of_true, is_true, same_eq, same_refl}
@@ -68,22 +68,17 @@ range_high n h = rw (le-leb 5 n h) refl
 pub part_range : (s : Bytes) (i j : ℕ) → j ≤ length s → (b c : Bool) → b ≡ aid_length (j - i) → b ≡ c → aid_length (length (part s i j)) ≡ c
 part_range s i j h b c e f = ap aid_length (part_length s i j h) ∙ sym e ∙ f
 
--- a kind of domains is told by 1 or 3
-kind_most : (k : DomainKind) → domain_byte k ≤ 3
-kind_most full = omega arith
-kind_most without_int = omega arith
-
 -- a domain's entry by its bytes
 module _ (s : Bytes) (at next : ℕ) {k : DomainKind} (a : Aid) (t : EntryAt s at (domain k a) next) where
   by : EntryBy s at (domain k a) next
   by = entry_by s at (domain k a) next t
 
   -- kind and AID
-  pub domain_by_lem : (get_or s at 0 ≡ domain_byte (kind_at s at)) × (a ≡ part s (at + 3) next)
+  pub domain_by_lem : (get_or s at 0 ≡ 2 → ⊥) × (a ≡ part s (at + 3) next)
   domain_by_lem = go (kind_by s at (domain k a) next by)
     where
-      go : KindBy s at (domain k a) next → (get_or s at 0 ≡ domain_byte (kind_at s at)) × (a ≡ part s (at + 3) next)
-      go (domain_by x) = (x.kind, let e = x.is in cc)
+      go : KindBy s at (domain k a) next → (get_or s at 0 ≡ 2 → ⊥) × (a ≡ part s (at + 3) next)
+      go (domain_by x) = (λ h. not_loaded (kind_at s at) (sym x.kind ∙ h), let e = x.is in cc)
       go (loaded_by x) = let e = x.is in let z : ◌≡◌ {A = ℕ} 0 1 = cc in absurd (omega arith)
 
   pub domain_long : length a ≡ next - (at + 3)
@@ -97,7 +92,7 @@ module _ (s : Bytes) (at next : ℕ) {k : DomainKind} (a : Aid) (t : EntryAt s a
     low = let e : at + 1 + 1 ≡ at + 2 = omega arith in omega (arith, by.next, domain_long, range.1, ap (λ (i : ℕ). get_or s i 0) e)
 
     place : key_place s at ≡ at + 2
-    place = key_place_domain s at (λ h. not_loaded (kind_at s at) (sym domain_by_lem.0 ∙ h)) (omega (arith, domain_by_lem.0, kind_most (kind_at s at)))
+    place = key_place_domain s at domain_by_lem.0
 
     -- the AID that it is sorted by
     pub domain_key_lem : key_at s at ≡ a

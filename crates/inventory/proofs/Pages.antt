@@ -1,11 +1,11 @@
--- The page of a store that questions 1 and 2 refuse, and that of a sound one from its lines, the AIDs named but not created, and its totals. Assumes nothing.
+-- The page of a store that questions 1 and 2 refuse, and that of a sound one from its lines and totals. Assumes nothing.
 use Prim.Native.Nat.{ℕ, ◌+◌, ◌*◌, ◌≤◌, ◌<◌}
 use native.Mathlib.Omega.{arith}
 use mathlib.Core.Path.{◌≡◌, refl, sym, ◌∙◌, ap, ap₂}
 use mathlib.Core.List.{[], ◌++◌}
 use lib.ListN.{length, take, length-append}
 use lib.Seq.{length-take-le}
-use Rattle.rules.specs.Bytes.{Bytes, flat}
+use Rattle.rules.specs.Bytes.{Bytes}
 use Rattle.rules.specs.Store.{store_limits}
 use Rattle.rules.specs.Operations.{on_store, entries, if_done}
 use Rattle.store.specs.Sound.{SoundAt}
@@ -13,9 +13,8 @@ use Rattle.store.proofs.Sound.{kept, sound_store}
 use Rattle.sound.specs.Says.{Unopened}
 use Rattle.text.specs.Text.{decimal}
 use Rattle.text.specs.Put.{Put}
-use Rattle.text.proofs.Puts.{put_then}
 use Rattle.text.proofs.Digits.{decimal_few}
-use Rattle.inventory_rules.specs.Inventory.{uncreated, aid_text, totals_text, page, number_text, inventory}
+use Rattle.inventory_rules.specs.Inventory.{totals_text, page, number_text, inventory}
 use Rattle.pages.specs.Says.{most_page, totals, LinesSay}
 use Rattle.pages.specs.declared.Listed.{Listed}
 
@@ -31,36 +30,25 @@ pub sound_page : (s : Bytes) (u : ℕ) → SoundAt s u → inventory s ≡ page 
 unfolding inventory
 sound_page s u h = let x = sound_store s u h in rw (x.size, x.is)
 
--- the lines of AIDs named but not created
-abbrev name_lines : Bytes → Bytes
-name_lines s = flat aid_text (uncreated (store_limits s) (entries s))
-
 module _ {s : Bytes} {u : ℕ} {c : Bytes} {x : Listed} (w : LinesSay s u c x) (long : most_page ≤ length c) where
-  -- there is room for these
-  pub names_room : x.at + 2 * u ≤ length c
-  names_room = omega (arith, w.room, w.inside, long)
-
-  -- and for the last line
-  pub totals_room : {n i : ℕ} → n ≡ length c → i ≤ x.at + 2 * u →
-      i + length (decimal x.packages) + length (decimal x.bytes) + length (decimal x.methods) + 3 ≤ n
-  totals_room same h =
+  -- there is room for the last line
+  pub totals_room : x.at + length (decimal x.packages) + length (decimal x.bytes) + length (decimal x.methods) + 3 ≤ length c
+  totals_room =
       let packages = decimal_few 4 x.packages (omega (arith, w.few.0, w.inside)) in
       let bytes = decimal_few 4 x.bytes (omega (arith, w.few.1, w.inside)) in
       let methods = decimal_few 9 x.methods (omega (arith, w.few.2, w.inside)) in
-      omega (arith, packages, bytes, methods, w.room, w.inside, long, same, h)
+      omega (arith, packages, bytes, methods, w.room, w.inside, long)
 
-  -- all lines are the page
-  pub page_put : SoundAt s u → {b d e : Bytes} {i j : ℕ} → length c ≡ length b → Put c x.at (name_lines s) d i →
-      Put d i (totals_text (totals x.packages x.bytes x.methods)) e j → Put b 0 (inventory s) e j
-  page_put h {b} {d} {e} {i} {j} same names last =
-      let p = put_then names last in
-      let behind = name_lines s ++ totals_text (totals x.packages x.bytes x.methods) in
-      let whole : take x.at c ++ behind ≡ inventory s =
-      ap₂ (λ (y z : Bytes). y ++ (name_lines s ++ z)) w.lines (ap totals_text w.sums) ∙ sym (sound_page s u h) in
+  -- the lines and the last line are the page
+  pub page_put : SoundAt s u → {b d : Bytes} {j : ℕ} → length c ≡ length b → Put c x.at (totals_text (totals x.packages x.bytes x.methods)) d j →
+      Put b 0 (inventory s) d j
+  page_put h {b} {d} {j} same p =
+      let last = totals_text (totals x.packages x.bytes x.methods) in
+      let whole : take x.at c ++ last ≡ inventory s = ap₂ ◌++◌ w.lines (ap totals_text w.sums) ∙ sym (sound_page s u h) in
       let at = length-take-le x.at c (omega (arith, w.room, w.inside, long)) in
       record {
         text = p.text ∙ whole;
-        to = omega (arith, p.to, at, length-append (take x.at c) behind, ap length whole);
+        to = omega (arith, p.to, at, length-append (take x.at c) last, ap length whole);
         kept = p.kept ∙ same;
       }
 

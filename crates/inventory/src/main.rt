@@ -1,16 +1,15 @@
-// The printed inventory: the page of the store that standard input holds, on standard output (document 02, requests 1 and 8). What a program reads
+// The printed inventory: the page of the store that standard input holds, on standard output (document 02, request 1). What a program reads
 // and writes is tested; that the bytes it hands on to be written are the page of those it was given is proved.
 mod page;
 
 ghost use Rattle.std.specs.Prelude.{◌≤◌, length};
-ghost use Rattle.naming.specs.Says.{most_names};
 ghost use Rattle.pages.specs.Says.{most_page};
 
 // Prints the page of a store's bytes.
-fn print_page(store: &[u8], table: &mut [u16], page: &mut [u8])
-    requires { (most_names ≤ length table.old) × (length table.old ≤ 65536) × (most_page ≤ length page.old) }
+fn print_page(store: &[u8], page: &mut [u8])
+    requires { most_page ≤ length page.old }
 {
-    let n = page::put_page(store, table, page);
+    let n = page::put_page(store, page);
     if !streams::write_out(&page[..n]) {
         streams::tell(b"inventory: standard output cannot be written\n");
     }
@@ -19,12 +18,11 @@ fn print_page(store: &[u8], table: &mut [u16], page: &mut [u8])
 // One byte more than a store may have is read: it tells that there are too many.
 fn main() {
     let mut store = [0u8; 65536];
-    let mut table = [0u16; 10930];
-    let mut page = [0u8; 262170];
+    let mut page = [0u8; 131100];
     let got = streams::read_whole(&mut store);
     if got.failed {
         streams::tell(b"inventory: standard input cannot be read\n");
         return;
     }
-    print_page(&store[..got.count], &mut table, &mut page);
+    print_page(&store[..got.count], &mut page);
 }

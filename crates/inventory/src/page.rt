@@ -1,10 +1,9 @@
-// The inventory's page: its bytes, put into a buffer (document 02, requests 1 and 8). What a page is: inventory_rules.
+// The inventory's page: its bytes, put into a buffer (document 02, request 1). What a page is: inventory_rules.
 ghost use Rattle.std.specs.Prelude.{◌+◌, ◌≤◌, length};
 ghost use Rattle.io.specs.Counts.{IsPrefixLen};
 ghost use Rattle.text.specs.Text.{decimal};
 ghost use Rattle.text.specs.Put.{Put};
 ghost use Rattle.inventory_rules.specs.Inventory.{number_text, inventory};
-ghost use Rattle.naming.specs.Says.{most_names};
 ghost use Rattle.pages.specs.Says.{most_page};
 
 use sound::Opened;
@@ -19,9 +18,9 @@ fn put_number(out: &mut [u8], n: u32) -> usize
     put_byte(out, a, b'\n')
 }
 
-// Puts the page of a store's bytes, and answers its length. The table is for the AIDs that have been looked at.
-pub fn put_page(s: &[u8], table: &mut [u16], out: &mut [u8]) -> usize
-    requires { (most_names ≤ length table.old) × (length table.old ≤ 65536) × (most_page ≤ length out.old) }
+// Puts the page of a store's bytes, and answers its length.
+pub fn put_page(s: &[u8], out: &mut [u8]) -> usize
+    requires { most_page ≤ length out.old }
     ensures put { Put out.old 0 (inventory s.now) out.new result }
     ensures prefix_len { IsPrefixLen result out.new }
 {
@@ -29,8 +28,7 @@ pub fn put_page(s: &[u8], table: &mut [u16], out: &mut [u8]) -> usize
         Opened::Refused(n) => put_number(out, n),
         Opened::Used(used) => {
             let x = pages::put_lines(s, used, out);
-            let at = naming::put_names(s, used, table, out, x.at);
-            put_three(out, at, x.packages, x.bytes, x.methods)
+            put_three(out, x.at, x.packages, x.bytes, x.methods)
         }
     }
 }

@@ -3,16 +3,25 @@ use Prim.Native.Nat.{ℕ, zero, suc, ◌+◌, ◌*◌, ◌≤◌}
 use native.Mathlib.Omega.{arith}
 use native.Mathlib.Numerals.{unary_clauses}
 use mathlib.Core.Path.{◌≡◌, refl, ap, subst}
+use mathlib.Core.Bool.{Bool, true, false}
 use mathlib.Core.List.{List, [], ◌∷◌}
 use mathlib.Core.Option.{some, some-injective}
-use lib.Dec.{leb, leb→le, eqb}
+use lib.Dec.{T, leb, leb→le, eqb}
 use lib.ListN.{length, drop}
-use Rattle.rules.specs.Bytes.{Bytes, Aid, Reader, u1, u2, many, counted, at_end, aid}
+use Rattle.rules.specs.Bytes.{Bytes, Aid, Reader, when, u1, u2, many, counted, at_end, aid}
 use Rattle.rules.specs.Package.{Limits, Format, format_of, most_domains, most_imports, most_references, most_classes, most_methods, Reference, Method, Class, Package, class_number, reference, method, class, contents, file_mark, edition_of, sized, read_file}
 use Rattle.rules.proofs.Tails.{classes_of}
-use Rattle.rules.proofs.Tests.{and_then_is}
+use Rattle.rules.proofs.Tests.{none_some, and_then_is}
 use Rattle.inventory_rules.specs.Inventory.{sum_of, methods_in}
-use Rattle.inventory_rules.proofs.Reading.{when_is, end_is}
+
+-- what is read behind a test, and at the end of the bytes
+when_is : {A : Type 0} (b : Bool) (r : Reader A) (bs : Bytes) (x : A × Bytes) → when b r bs ≡ some x → T b × (r bs ≡ some x)
+when_is true r bs x e = (tt, e)
+when_is false r bs x e = absurd (none_some e)
+
+end_is : {A : Type 0} (a b : A) (bs : Bytes) → at_end a bs ≡ some b → a ≡ b
+end_is a b [] e = some-injective _ _ e
+end_is a b (c ∷ cs) e = absurd (none_some e)
 
 module _ {A : Type 0} where
   -- what a reader of so many values reads: so many, and their sum where each gives at most m

@@ -3,7 +3,7 @@ use Prim.Native.Nat.{ℕ}
 use mathlib.Core.Path.{◌≡◌, refl, sym, ◌∙◌, ap, subst}
 use mathlib.Core.Bool.{Bool, true}
 use mathlib.Core.Logic.{◌⊎◌, inl, inr}
-use mathlib.Core.List.{List}
+use mathlib.Core.List.{List, [], ◌∷◌, ◌++◌}
 use mathlib.Core.Option.{Option, some}
 use lib.Dec.{T, eqb→eq}
 use lib.ListN.{length, take}
@@ -11,12 +11,11 @@ use Rattle.rules.specs.Bytes.{Bytes, all, is_some, list_of}
 use Rattle.rules.specs.Package.{Limits, read_file}
 use Rattle.rules.specs.Store.{Opening, version1, version2, opening_limits, Entry, domain, loaded, store_mark, opening_length, entries_of, store_opening}
 use Rattle.rules.specs.Questions.{q1_size}
-use Rattle.rules.specs.Operations.{accepted, sound_entries, sound, entries}
-use Rattle.rules.proofs.Tests.{and_l, and_r, is_true, same_eq, some_and_is}
+use Rattle.rules.specs.Operations.{accepted, accepted_all, sound_entries, sound, entries}
+use Rattle.rules.proofs.Tests.{and_l, and_r, and_i, is_true, same_eq, some_and_is}
 use Rattle.rules.proofs.Lists.{is_some_lem}
 use Rattle.rules.proofs.Asked.{load_yes}
 use Rattle.rules.proofs.Opens.{OpenedAs, first, second, opened_as, entries_opened}
-use Rattle.inventory_rules.proofs.Accepted.{sound_each}
 
 -- question 1 says yes of a sound store
 pub sound_size : (s : Bytes) → T (sound s) → q1_size s ≡ true
@@ -49,5 +48,13 @@ accepted_reads : (v : Opening) (n : ℕ) (pre : List Entry) (e : Entry) → T (a
 accepted_reads v n pre (domain k a) h = tt
 accepted_reads v n pre (loaded d f) h = is_some_lem (load_yes v n pre d f (eqb→eq _ 0 h)).1.q11
 
+accepted_all_read : (v : Opening) (n : ℕ) (pre es : List Entry) → T (accepted_all v n pre es) → T (all (reads (opening_limits v)) es)
+accepted_all_read v n pre [] h = tt
+accepted_all_read v n pre (e ∷ es) h =
+    let l : Limits = opening_limits v in
+    let here : T (reads l e) = accepted_reads v n pre e (and_l (accepted v n pre e) _ h) in
+    and_i (reads l e) (all (reads l) es) here (accepted_all_read v n (pre ++ e ∷ []) es (and_r (accepted v n pre e) _ h))
+
 pub sound_reads : (v : Opening) (n : ℕ) (es : List Entry) → T (sound_entries v n es) → T (all (reads (opening_limits v)) es)
-sound_reads v n es h = sound_each v n (reads (opening_limits v)) (accepted_reads v n) es h
+unfolding sound_entries
+sound_reads v n es h = accepted_all_read v n [] es h

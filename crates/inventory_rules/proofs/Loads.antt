@@ -54,7 +54,7 @@ pub totals_loads : (l : Limits) (es : List Entry) → totals_of l es ≡ sums l 
 totals_loads l es = totals_same (packages_loads es) (bytes_loads es) (methods_loads l es)
 
 -- the packages after an operation that was accepted
-pub loads_domain : (a : Aid) (es : List Entry) → loads_in (without (is_domain a) es) ≡ loads_in es
+loads_domain : (a : Aid) (es : List Entry) → loads_in (without (is_domain a) es) ≡ loads_in es
 loads_domain a [] = refl
 loads_domain a (domain k b ∷ es) = go (is_domain a (domain k b)) (loads_domain a es)
   where
@@ -63,7 +63,7 @@ loads_domain a (domain k b ∷ es) = go (is_domain a (domain k b)) (loads_domain
     go false h = h
 loads_domain a (loaded d f ∷ es) = ap (λ (xs : List Load). record { domain = d; file = f } ∷ xs) (loads_domain a es)
 
-pub loads_package : (l : Limits) (a : Aid) (es : List Entry) → loads_in (without (is_package l a) es) ≡ without_load l a (loads_in es)
+loads_package : (l : Limits) (a : Aid) (es : List Entry) → loads_in (without (is_package l a) es) ≡ without_load l a (loads_in es)
 loads_package l a [] = refl
 loads_package l a (domain k b ∷ es) = loads_package l a es
 loads_package l a (loaded d f ∷ es) = go (is_of l a (record { domain = d; file = f })) (loads_package l a es)

@@ -1,7 +1,7 @@
 -- REQUEST 1, a printed inventory: the page of a store, from its bytes alone (inventory: specs/Inventory.antt). Assumes nothing.
 --   Let one of the two fresh calls have answered 0, and let a list of calls run on the buffer as in demand 3. Then every byte of the page is told
---   from the calls and their answers: a line for each file accepted and not since removed, in the order of their loads, one for each AID that
---   these files name and that is not created, by request 8, and the sums over these files (kept, created, sums: specs/Kept.antt).
+--   from the calls and their answers: a line for each file accepted and not since removed, in the order of their loads, and the sums over
+--   these files (kept, sums: specs/Kept.antt).
 --   The totals of the last store's entries are these sums.
 --   In a sound store opening bytes, headings, whole domain entries and the file bytes of the totals add up to the used field.
 --   The opening bytes are seven where the store says version 1 and eleven where it says version 2; a sound store says one of the two.
@@ -25,8 +25,6 @@ use Rattle.rules.specs.Bytes.{Bytes, Aid, flat, all, within}
 use Rattle.rules.specs.Code.{u2_at}
 use Rattle.rules.specs.Package.{Package, read_file}
 use Rattle.rules.specs.Store.{Opening, version1, opening_limits, loaded, store_mark, opening_length, store_opening, store_limits}
-use Rattle.rules.specs.Classes.{installed}
-use Rattle.rules.specs.Naming.{names_of}
 use Rattle.rules.specs.Questions.{q1_size}
 use Rattle.rules.specs.Operations.{sound, entries, Operation, fresh_number, fresh_bytes}
 use Rattle.rules.specs.Ledger.{Run}
@@ -36,8 +34,8 @@ use Rattle.rules.proofs.Opens.{is_byte}
 use Rattle.text.specs.Text.{hex_bytes, decimal, value}
 use Rattle.text.proofs.Back.{value_decimal, decimal_within, decimal_zero}
 use Rattle.lines.specs.Line.{bytes_of}
-use Rattle.inventory_rules.specs.Inventory.{sum_of, Line, methods_in, line_of, lines_of, totals_of, beyond, headings, domain_bytes, line_text, totals_text, aid_text, page, inventory}
-use Rattle.inventory_rules.specs.Kept.{kept, created, files_of, sums, as_loaded}
+use Rattle.inventory_rules.specs.Inventory.{sum_of, Line, methods_in, line_of, lines_of, totals_of, headings, domain_bytes, line_text, totals_text, page, inventory}
+use Rattle.inventory_rules.specs.Kept.{kept, files_of, sums, as_loaded}
 use Rattle.inventory_rules.specs.CasesForm.{text}
 use Rattle.inventory_rules.specs.Cases.{growing, growing_answers}
 use Rattle.inventory_rules.proofs.Grown.{page_grown, totals_grown}
@@ -51,8 +49,7 @@ use Rattle.inventory_rules.proofs.Witness as witness
 
 pub request1 : (s : Bytes) (v : Opening) → fresh_number s v ≡ 0 → (os : List Operation) (ks : List ℕ) (t : Bytes) → Run (fresh_bytes s v) os ks t →
     inventory t ≡ flat line_text (lines_of (opening_limits v) (map as_loaded (kept (opening_limits v) [] os ks)))
-    ++ (flat aid_text (beyond (created [] os ks) (names_of (installed (opening_limits v) (map as_loaded (kept (opening_limits v) [] os ks)))))
-    ++ totals_text (sums (opening_limits v) (files_of (kept (opening_limits v) [] os ks))))
+    ++ totals_text (sums (opening_limits v) (files_of (kept (opening_limits v) [] os ks)))
 request1 = page_grown
 
 pub request1_totals : (s : Bytes) (v : Opening) → fresh_number s v ≡ 0 → (os : List Operation) (ks : List ℕ) (t : Bytes) → Run (fresh_bytes s v) os ks t →

@@ -1,5 +1,5 @@
--- Rows of the inventory (request 1 of document 02): what is printed of a store, figures and digits, and the bytes of a store by what they are; no row,
--- those of CasesNames included, fails. Assumes nothing.
+-- Rows of the inventory (request 1 of document 02): what is printed of a store, figures and digits, and the bytes of a store by what they are; no row
+-- fails. Assumes nothing.
 use Rattle.std.specs.Prelude.{ℕ, zero, suc, ◌+◌, ◌*◌, ◌≡◌, refl, List, [], ◌∷◌, ◌++◌, length, replicate}
 use Rattle.rules.specs.Bytes.{Bytes, Aid, high, low}
 use Rattle.rules.specs.Store.{Opening, version1, full, without_int, domain, loaded, write}
@@ -8,7 +8,6 @@ use Rattle.rules.specs.CasesForm.{hex, times, buffer}
 use Rattle.rules.specs.CasesFiles.{D1, D2, P1, P2, bare, importer, library}
 use Rattle.rules.specs.CasesOpening.{limited, nine}
 use Rattle.inventory_rules.specs.CasesForm.{PageRow, prints, grown, adds, figure, digits, failing_pages}
-use Rattle.inventory_rules.specs.CasesNames.{name_rows}
 
 -- P2 with no class and no imports: 18 bytes
 abbrev bare2 : Bytes
@@ -166,7 +165,7 @@ abbrev pub growing_answers : List ℕ
 growing_answers = 0 ∷ 0 ∷ 0 ∷ 12 ∷ 0 ∷ 8 ∷ 0 ∷ 0 ∷ 0 ∷ []
 
 abbrev pub page_rows : List PageRow
-page_rows = refused_rows ++ empty_rows ++ line_rows ++ name_rows ++ grown_rows ++ used_rows ++ text_rows
+page_rows = refused_rows ++ empty_rows ++ line_rows ++ grown_rows ++ used_rows ++ text_rows
 
 pub pages_hold : failing_pages page_rows ≡ []
 unfolding failing_pages

@@ -1,19 +1,15 @@
--- The printed inventory of a store (document 02, requests 1 and 8). Assumes nothing.
+-- The printed inventory of a store (document 02, request 1). Assumes nothing.
 --
 -- Line              == of a package: AID, domain, file length, number of methods; lines_of l es == those of the entries, in store order
 -- Totals            == packages, file bytes and methods in all; totals_of l es == those of the entries
--- uncreated l es    == the AIDs that lists name and that are not created, once each, in order of first naming
 -- headings, domain_bytes, file_bytes == the bytes of the entries, by what they are
 -- page l es         == every byte of the page of these entries, in a store of the limits l
 -- inventory s       == what is printed of the bytes s
-use Rattle.std.specs.Prelude.{ℕ, ◌+◌, not, List, [], ◌∷◌, ◌++◌, length}
+use Rattle.std.specs.Prelude.{ℕ, ◌+◌, List, [], ◌∷◌, ◌++◌, length}
 use Rattle.std.proofs.Math.Option.{Option, none, some}
-use Rattle.rules.specs.Bytes.{Bytes, Aid, any, keep, list_of, flat, same}
+use Rattle.rules.specs.Bytes.{Bytes, Aid, list_of, flat}
 use Rattle.rules.specs.Package.{Limits, Package, read_file}
 use Rattle.rules.specs.Store.{Entry, domain, loaded, entry_bytes, store_limits}
-use Rattle.rules.specs.Classes.{installed}
-use Rattle.rules.specs.Naming.{names_of}
-use Rattle.rules.specs.Questions.{domains}
 use Rattle.rules.specs.Operations.{on_store, entries, if_done}
 use Rattle.text.specs.Text.{space, newline, hex_bytes, decimal}
 
@@ -67,19 +63,6 @@ pub record Totals : Type 0 where
 abbrev pub totals_of : Limits → List Entry → Totals
 totals_of l es = record { packages = sum_of package_of es; bytes = sum_of file_bytes_of es; methods = sum_of (entry_methods l) es }
 
--- each AID once, where it stands first
-abbrev pub once : List Aid → List Aid
-once [] = []
-once (a ∷ xs) = a ∷ keep (λ b. not (same a b)) (once xs)
-
--- the AIDs that are none of those known, once each, in order
-abbrev pub beyond : List Aid → List Aid → List Aid
-beyond known xs = once (keep (λ a. not (any (same a) known)) xs)
-
--- named but not created, by a domain of either kind
-abbrev pub uncreated : Limits → List Entry → List Aid
-uncreated l es = beyond (domains es) (names_of (installed l es))
-
 -- a package entry's heading: its kind, its length and its domain's AID with length
 abbrev pub heading_of : Entry → ℕ
 heading_of (domain k a) = 0
@@ -107,13 +90,9 @@ line_text x =
 abbrev pub totals_text : Totals → Bytes
 totals_text t = decimal t.packages ++ (space ∷ decimal t.bytes ++ (space ∷ decimal t.methods ++ newline ∷ []))
 
--- an AID alone on its line
-abbrev pub aid_text : Aid → Bytes
-aid_text a = hex_bytes a ++ newline ∷ []
-
--- a line for each package, one for each AID named but not created, then the totals
+-- a line for each package, then the totals
 abbrev pub page : Limits → List Entry → Bytes
-page l es = flat line_text (lines_of l es) ++ (flat aid_text (uncreated l es) ++ totals_text (totals_of l es))
+page l es = flat line_text (lines_of l es) ++ totals_text (totals_of l es)
 
 -- a number alone
 abbrev pub number_text : ℕ → Bytes

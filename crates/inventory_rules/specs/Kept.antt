@@ -1,9 +1,7 @@
--- The files accepted and not since removed, and the domains created and not since deleted, from the calls and their answers (document 02,
--- requests 1 and 8). Assumes nothing.
+-- The files accepted and not since removed, from the calls and their answers (document 02, request 1). Assumes nothing.
 --
 -- Load              == the domain and the file of a load
 -- kept l xs os ks   == from the loads xs on, the loads that the calls os with the answers ks accepted and no later removal took out
--- created xs os ks  == from the AIDs xs on, those of the domains that the calls os with the answers ks created and no later deletion took out
 -- sums l fs         == the sums over files: how many, their bytes, their methods
 -- as_loaded x        == a load as the entry that it leaves
 use Rattle.std.specs.Prelude.{ℕ, Bool, List, [], ◌∷◌, ◌++◌, map, length}
@@ -37,23 +35,6 @@ abbrev pub kept : Limits → List Load → List Operation → List ℕ → List 
 kept l xs [] ks = xs
 kept l xs (o ∷ os) [] = xs
 kept l xs (o ∷ os) (k ∷ ks) = kept l (kept_step l xs o k) os ks
-
--- the AIDs without the first one that is a
-abbrev pub without_aid : Aid → List Aid → List Aid
-without_aid a [] = []
-without_aid a (b ∷ bs) = pick (same a b) bs (b ∷ without_aid a bs)
-
--- an accepted creation of either kind is added, an accepted deletion takes one out
-abbrev pub created_step : List Aid → Operation → ℕ → List Aid
-created_step xs (create k a) n = if_done n (xs ++ a ∷ []) xs
-created_step xs (delete a) n = if_done n (without_aid a xs) xs
-created_step xs (load d f) n = xs
-created_step xs (remove a) n = xs
-
-abbrev pub created : List Aid → List Operation → List ℕ → List Aid
-created xs [] ks = xs
-created xs (o ∷ os) [] = xs
-created xs (o ∷ os) (k ∷ ks) = created (created_step xs o k) os ks
 
 -- their files
 abbrev pub files_of : List Load → List Bytes

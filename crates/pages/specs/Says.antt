@@ -14,9 +14,9 @@ use Rattle.text.specs.Put.{Put}
 use Rattle.inventory_rules.specs.Inventory.{methods_in, lines_of, line_text, Totals, totals_of}
 use Rattle.pages.specs.declared.Listed.{Listed}
 
--- twice the longest store for the packages' lines, twice for those of AIDs named but not created, and the last line
+-- twice the longest store, and the last line
 abbrev pub most_page : ℕ
-most_page = 262170
+most_page = 131100
 
 abbrev pub MethodsSay : Bytes → ℕ → Type 0
 MethodsSay f n = ((l : Limits) (p : Package) → read_file l f ≡ some p → n ≡ methods_in p) × (n ≤ 65025)

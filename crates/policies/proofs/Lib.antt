@@ -5,7 +5,6 @@ pub mod Numbers
 pub mod Compared
 pub mod Rules
 pub mod Listed
-pub mod Named
 pub mod Masks
 pub mod Gathered
 pub mod Kept

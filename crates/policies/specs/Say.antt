@@ -8,12 +8,10 @@
 -- OfPolicy s d i q    == q holds of whatever policy over whatever domains stands there
 -- HasSlot, SlotIs     == slot k of the list at d stands for an AID; x is that AID
 -- Admits, AdmitsAllOf == the answer is that of `admits`, `admits_all_of`
--- Names s d i x r     == the policy names x by an index of its list
 use Rattle.std.specs.Prelude.{ℕ, ◌+◌, ◌≤◌, ◌<◌, ◌≡◌, List, [], Bool, ◌&&◌, ◌⊎◌, eqb, length, take, drop, get_or}
 use Rattle.rules.specs.Bytes.{Bytes, Aid, pick, any, same, u1, aid, counted}
 use Rattle.rules.specs.Package.{most_domains, own_index, Policy, policy}
 use Rattle.rules.specs.Classes.{meant, admits, admits_all_of}
-use Rattle.rules.specs.Naming.{policy_names}
 use Rattle.places.specs.Reads.{Reads, Ends}
 
 -- FE behind the domains
@@ -55,10 +53,6 @@ OfPolicy s d i q = (ds : List Aid) (j : ℕ) → Reads (counted most_domains u1 
 -- the policy at i allows x, in a file of domain e
 abbrev pub Admits : Bytes → ℕ → Aid → ℕ → Aid → Bool → Type 0
 Admits s d e i x r = OfPolicy s d i λ p. r ≡ admits (meant e p) x
-
--- an index of the policy at i names x; neither FF nor FE does
-abbrev pub Names : Bytes → ℕ → ℕ → Aid → Bool → Type 0
-Names s d i x r = OfPolicy s d i λ p. r ≡ any (same x) (policy_names p)
 
 -- a list of domains in which slot k stands for an AID
 abbrev pub HasSlot : Bytes → ℕ → ℕ → Type 0

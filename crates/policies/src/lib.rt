@@ -1,11 +1,11 @@
-// What a policy allows in the domain of its entry, and what it names: a policy stands in a file at one place, the domains that its indexes
-// count at another, and index FE means the domain that the file's package lies in.
+// What a policy allows in the domain of its entry: a policy stands in a file at one place, the domains that its indexes count at another,
+// and index FE means the domain that the file's package lies in.
 pub mod rows;
 
 ghost use Rattle.std.specs.Prelude.{◌≡◌, ◌≤◌};
 ghost use Rattle.rules.specs.Bytes.{aid};
 ghost use Rattle.places.specs.Reads.{Ends};
-ghost use Rattle.policies.specs.Say.{slot_of, IndexesThere, ListsIs, ListedIs, PolicyOver, HasSlot, SlotIs, Admits, AdmitsAllOf, Names};
+ghost use Rattle.policies.specs.Say.{slot_of, IndexesThere, ListsIs, ListedIs, PolicyOver, HasSlot, SlotIs, Admits, AdmitsAllOf};
 ghost use Rattle.policies.specs.Numbers.{DomainsThere, NumberIs, ListedDomain, ListedSlot};
 ghost use Rattle.policies.specs.Rows.{ListOver};
 
@@ -113,18 +113,6 @@ pub fn admits(s: &[u8], own: &[u8], p: RightsPlace, x: &[u8]) -> bool
         return true;
     }
     listed_slot(s, own, p, x) < 33
-}
-
-// Does the policy name x by an index of its list? FF and FE do not.
-pub fn names(s: &[u8], p: RightsPlace, x: &[u8]) -> bool
-    requires { PolicyOver s.now p.domains p.policy }
-    ensures { Names s.now p.domains p.policy x.now result }
-{
-    let list = p.policy;
-    if wide(s[list]) == 255 {
-        return false;
-    }
-    listed_domain(s, p.domains, list, x) < 32
 }
 
 // What slot k of the list of domains at u stands for, in a file of domain `own`.

@@ -11,10 +11,10 @@ use Rattle.rules.specs.Classes.{installed, allows}
 use Rattle.rules.specs.Questions.{q1_size, method_queried}
 use Rattle.rules.specs.Operations.{Question, query_questions, sound, entries, Operation, create, delete, load, remove, questions, fresh_questions}
 
--- Create: 1 to 4, 21. Delete: 1 to 3, 5, 6, 25. Load: 1 to 3, 5, 10 to 17, 24, 26, 18 to 21. Remove: 1 to 3, 7, 8
+-- Create: 1 to 4, 21. Delete: 1 to 3, 5, 6. Load: 1 to 3, 5, 10 to 17, 24, 26, 18 to 21. Remove: 1 to 3, 7, 8
 abbrev pub refusals_of : Operation → List ℕ
 refusals_of (create k a) = 1 ∷ 2 ∷ 3 ∷ 4 ∷ 21 ∷ []
-refusals_of (delete a) = 1 ∷ 2 ∷ 3 ∷ 5 ∷ 6 ∷ 25 ∷ []
+refusals_of (delete a) = 1 ∷ 2 ∷ 3 ∷ 5 ∷ 6 ∷ []
 refusals_of (load d f) = 1 ∷ 2 ∷ 3 ∷ 5 ∷ 10 ∷ 11 ∷ 12 ∷ 13 ∷ 14 ∷ 15 ∷ 16 ∷ 17 ∷ 24 ∷ 26 ∷ 18 ∷ 19 ∷ 20 ∷ 21 ∷ []
 refusals_of (remove a) = 1 ∷ 2 ∷ 3 ∷ 7 ∷ 8 ∷ []
 

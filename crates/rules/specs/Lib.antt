@@ -1,4 +1,4 @@
--- Document 01 and requests 5, 2, 7, 12, 9, 3, 6 and 8 of document 02 as definitions, in document 01's order.
+-- Document 01 and requests 5, 2, 7, 12, 9, 3 and 6 of document 02 as definitions, in document 01's order.
 pub mod Bytes
 pub mod Code
 pub mod Subset
@@ -9,7 +9,6 @@ pub mod Entries
 pub mod Store
 pub mod Classes
 pub mod Search
-pub mod Naming
 pub mod Questions
 pub mod Operations
 pub mod Places
@@ -37,7 +36,6 @@ pub mod CasesOpening
 pub mod CasesSubset
 pub mod CasesKinds
 pub mod CasesSearch
-pub mod CasesNaming
 pub mod Cases
 pub mod CasesCalls
 pub mod CasesPlaces

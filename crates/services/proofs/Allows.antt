@@ -4,9 +4,9 @@ use mathlib.Core.Path.{◌≡◌, sym, ◌∙◌, ap, subst}
 use mathlib.Core.Bool.{Bool}
 use mathlib.Core.Option.{Option, some}
 use Rattle.rules.specs.Bytes.{Bytes, Aid, at, ◌and_then◌}
-use Rattle.rules.specs.Package.{Limits, format_of, Class, Method, Package, method, class, read_file}
+use Rattle.rules.specs.Package.{format_of, Class, Method, method, class}
 use Rattle.rules.specs.Classes.{declared, meant, admits}
-use Rattle.places.specs.Reads.{Ends, Placed}
+use Rattle.places.specs.Reads.{Placed}
 use Rattle.places.proofs.Track.{placed_at, placed_none}
 use Rattle.files.specs.Say.{spot, Readable, ClassThere, MethodThere, DeclaredPlaced, PolicyAt, DomainsAt, ClassPlaced}
 use Rattle.files.specs.declared.Spot.{Spot}
@@ -17,24 +17,12 @@ use Rattle.services.specs.Answers.{ClassOf, ClassAllows, FileAllows, allowed}
 use Rattle.services.specs.declared.Allowed.{Allowed}
 use Rattle.services.specs.declared.Allowed.TheVariants.{Undeclared}
 
--- a method of the package that a file reads as stands at place m
-abbrev MethodOf : Bytes → ℕ → Type 0
-MethodOf g m = (l : Limits) × (p : Package) × (read_file l g ≡ some p) × Ends (method (format_of l g) p.domains) g m
-
 -- the file reads, and the class is there
 pub class_reads : (g : Bytes) (c : ℕ) → ClassOf g c → Readable g
 class_reads g c o = (o.0, o.1, o.2)
 
 pub class_there : (g : Bytes) (c : ℕ) → ClassOf g c → ClassThere g c
 class_there g c o = (o.0, o.1.domains, o.3)
-
--- a method's policy stands over the file's domains
-pub method_over : (g : Bytes) (m d i : ℕ) → DomainsAt g d → PolicyAt g m i → MethodOf g m → PolicyOver g d i
-method_over g m d i ds pl o =
-    let domains = domains_read ds o.0 o.1 o.2 in
-    let x = o.3 in
-    let policy = pl o.0 o.1.domains x.0 x.1 x.2 in
-    (o.1.domains, domains.0, domains.1, (x.0.policy, policy.0, policy.1))
 
 module _ (g : Bytes) (c n : ℕ) (r : Spot) (m : ℕ) (q : DeclaredPlaced g c n r) (z : r ≡ spots.At m) where
   -- the method there
@@ -47,7 +35,11 @@ module _ (g : Bytes) (c n : ℕ) (r : Spot) (m : ℕ) (q : DeclaredPlaced g c n 
 
   -- its policy over the file's domains
   pub policy_over : (d i : ℕ) → DomainsAt g d → PolicyAt g m i → ClassOf g c → PolicyOver g d i
-  policy_over d i ds pl o = let x = placed_at (placed o) in method_over g m d i ds pl (o.0, o.1, o.2, (x.0, x.1, x.3))
+  policy_over d i ds pl o =
+      let x = placed_at (placed o) in
+      let e = domains_read ds o.0 o.1 o.2 in
+      let y = pl o.0 o.1.domains x.0 x.1 x.3 in
+      (o.1.domains, e.0, e.1, (x.0.policy, y.0, y.1))
 
   -- what it says of a domain
   pub class_says : (d : ℕ) (u : Aid) (i : ℕ) (b : Bool) (x : Aid) (v : Allowed) → DomainsAt g d → PolicyAt g m i → Admits g d u i x b → allowed v ≡ some b →

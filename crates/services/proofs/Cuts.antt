@@ -3,13 +3,13 @@ use Prim.Native.Nat.{ℕ}
 use native.Mathlib.Omega.{arith}
 use mathlib.Core.Path.{◌≡◌, refl, sym, ◌∙◌, ap, subst}
 use mathlib.Core.Bool.{Bool, true, false, not}
-use mathlib.Core.List.{List, [], ◌∷◌}
+use mathlib.Core.List.{List, []}
 use lib.ListN.{length}
 use Rattle.rules.specs.Bytes.{Bytes, Aid, is_some, aid_length}
 use Rattle.rules.specs.Store.{Entry, store_opening, first_entry, store_limits}
 use Rattle.rules.specs.Classes.{installed}
-use Rattle.rules.specs.Questions.{q5_created, q6_empty, q25_unnamed, q7_installed, q8_unused}
-use Rattle.rules.specs.Operations.{first_no, delete, remove, delete_questions, remove_questions, is_domain, is_package}
+use Rattle.rules.specs.Questions.{q5_created, q6_empty, q7_installed, q8_unused}
+use Rattle.rules.specs.Operations.{delete, remove, delete_questions, remove_questions, is_domain, is_package}
 use Rattle.store.specs.Entries.{StandFrom, FilesStand, AllRead}
 use Rattle.store.specs.Answers.{spot, SpotAt, FileAt, FileSays, InUse}
 use Rattle.store.specs.declared.Spot.{Spot}
@@ -20,7 +20,7 @@ use Rattle.store.proofs.Asked.{created_place}
 use Rattle.store.specs.Sound.{Over, SoundAt}
 use Rattle.store.proofs.Sound.{one_length, sound_store}
 use Rattle.homes.proofs.Homes.{all_read}
-use Rattle.services.specs.Answers.{CutSays, ImportedSays, NamedSays}
+use Rattle.services.specs.Answers.{CutSays, ImportedSays}
 use Rattle.services.specs.declared.Cut.TheVariants as cut
 
 -- the contrary of an answer
@@ -52,28 +52,29 @@ module _ (s : Bytes) (u : ℕ) (a : Aid) where
     unfolding delete_questions
     delete_5 q z = (λ e. omega arith, λ es o. rw (one_length a ∙ q, created_is false (ap (λ (x : Spot). is_some (spot x)) z) es o))
 
-    -- 3 and 5 are answered yes
-    module _ (i j : ℕ) (q : aid_length (length a) ≡ true) (z : r ≡ At i j) where
-      from_6 : (es : List Entry) → Over s u es → first_no (delete_questions (store_limits s) es a) ≡ first_no
-          ((6, q6_empty (installed (store_limits s) es) a) ∷ (25, q25_unnamed (installed (store_limits s) es) a) ∷ [])
-      unfolding delete_questions
-      from_6 es o = rw (one_length a ∙ q, created_is true (ap (λ (x : Spot). is_some (spot x)) z) es o)
+    pub delete_6 : (i j : ℕ) → aid_length (length a) ≡ true → r ≡ At i j → InUse s u a true → CutSays s u (delete a) (is_domain a) (cut.Refused 6)
+    unfolding delete_questions
+    delete_6 i j q z w = (
+      λ e. omega arith,
+      λ es o. rw (
+        one_length a ∙ q,
+        created_is true (ap (λ (x : Spot). is_some (spot x)) z) es o,
+        turned true
+            (q6_empty (installed (store_limits s) es) a) (w es o.stand (over_reads s u es o)),
+      ),
+    )
 
-      -- a question's answer, by what was asked for
-      six : (b : Bool) → InUse s u a b → (es : List Entry) → Over s u es → q6_empty (installed (store_limits s) es) a ≡ not b
-      six b w es o = turned b (q6_empty (installed (store_limits s) es) a) (w es o.stand (over_reads s u es o))
-
-      twenty_five : (b : Bool) → NamedSays s u a b → (es : List Entry) → Over s u es → q25_unnamed (installed (store_limits s) es) a ≡ not b
-      twenty_five b w es o = turned b (q25_unnamed (installed (store_limits s) es) a) (w es o.stand (over_reads s u es o))
-
-      pub delete_6 : InUse s u a true → CutSays s u (delete a) (is_domain a) (cut.Refused 6)
-      delete_6 w = (λ e. omega arith, λ es o. rw (from_6 es o, six true w es o))
-
-      pub delete_25 : InUse s u a false → NamedSays s u a true → CutSays s u (delete a) (is_domain a) (cut.Refused 25)
-      delete_25 w v = (λ e. omega arith, λ es o. rw (from_6 es o, six false w es o, twenty_five true v es o))
-
-      pub delete_0 : InUse s u a false → NamedSays s u a false → CutSays s u (delete a) (is_domain a) (cut.Entry i j)
-      delete_0 w v = (λ es o. rw (from_6 es o, six false w es o, twenty_five false v es o), λ es o. sym (p es o.stand) ∙ ap spot z)
+    pub delete_0 : (i j : ℕ) → aid_length (length a) ≡ true → r ≡ At i j → InUse s u a false → CutSays s u (delete a) (is_domain a) (cut.Entry i j)
+    unfolding delete_questions
+    delete_0 i j q z w = (
+      λ es o. rw (
+        one_length a ∙ q,
+        created_is true (ap (λ (x : Spot). is_some (spot x)) z) es o,
+        turned false
+            (q6_empty (installed (store_limits s) es) a) (w es o.stand (over_reads s u es o)),
+      ),
+      λ es o. sym (p es o.stand) ∙ ap spot z,
+    )
 
   pub delete_3 : aid_length (length a) ≡ false → CutSays s u (delete a) (is_domain a) (cut.Refused 3)
   unfolding delete_questions

@@ -1,10 +1,10 @@
--- Question 8: the walk over a file's imports, and over the installed packages, as other questions have it. Assumes nothing.
+-- Question 8: the walk over a file's imports, and over the installed packages. Assumes nothing.
 use Prim.Native.Nat.{ℕ, ◌-◌, ◌≤◌, ◌<◌}
 use mathlib.Core.Path.{◌≡◌, refl, sym, ◌∙◌, ap}
 use mathlib.Core.Bool.{Bool, true, false, ◌&&◌, ◌||◌, not}
 use mathlib.Core.List.{List, [], ◌∷◌}
 use mathlib.Core.Option.{some}
-use Rattle.rules.specs.Bytes.{Bytes, Aid, is_some, some_and, any, all, u1, aid, counted, same}
+use Rattle.rules.specs.Bytes.{Bytes, Aid, is_some, any, all, u1, aid, counted, same}
 use Rattle.rules.specs.Package.{Limits, Package, most_imports, read_file}
 use Rattle.rules.specs.Store.{Entry, domain, loaded, store_limits, first_entry}
 use Rattle.rules.specs.Classes.{Installed, installed, has_aid}
@@ -21,7 +21,7 @@ use Rattle.store.specs.Answers.{PartAt}
 use Rattle.store.specs.declared.EntryPart.TheVariants.{Package as PackagePart, AtEnd}
 use Rattle.store.proofs.Walk.{place_any}
 use Rattle.store.proofs.Find.{Walks, found_package, found_none}
-use Rattle.services.specs.Answers.{ImportsSays, OtherSays, importer, EntriesSay, ImportedSays}
+use Rattle.services.specs.Answers.{ImportsSays, OtherSays, importer, ImportedSays}
 
 -- the walk over a list of AIDs for one
 abbrev pub Seeks : Aid → Bytes → ℕ → ℕ → ℕ → Type 0
@@ -48,13 +48,12 @@ other_own g a q l p e = let t = file_parts l g p e in rw (sym (q p.aid t.domains
 pub other_is : (g a : Bytes) (b : Bool) → AidIs g 7 a false → ImportsSays g a b → OtherSays g a b
 other_is g a b q r l p e = let t = file_parts l g p e in r l p e ∙ rw (sym (q p.aid t.domains_at t.named))
 
--- a test of the package of an entry's file, by the answer on the file
-pub file_told : (f : Package → Bool) (l : Limits) (g : Bytes) (b : Bool) (p : Package) → read_file l g ≡ some p →
-    ((l₁ : Limits) (p₁ : Package) → read_file l₁ g ≡ some p₁ → b ≡ f p₁) → some_and (read_file l g) f ≡ b
-file_told f l g b p e q = rw e (sym (q l p e))
+-- an entry's file with another AID that imports this one, or not
+pub importer_is : (l : Limits) (a d g : Bytes) (b : Bool) (p : Package) → read_file l g ≡ some p → OtherSays g a b → importer l a (loaded d g) ≡ b
+importer_is l a d g b p e q = rw e (sym (q l p e))
 
 -- 8 is the contrary of finding an importer
-used_any : (l : Limits) (es : List Entry) (a : Aid) → AllRead l es → not (q8_unused (installed l es) a) ≡ any (importer l a) es
+pub used_any : (l : Limits) (es : List Entry) (a : Aid) → AllRead l es → not (q8_unused (installed l es) a) ≡ any (importer l a) es
 unfolding q8_unused
 used_any l [] a h = refl
 used_any l (domain k b ∷ es) a h = used_any l es a h.1
@@ -68,14 +67,11 @@ used_any l (loaded d f ∷ es) a h = rw h.0.1 (go (same a h.0.0.aid) (any (same 
     go false true e = refl
     go false false e = e
 
--- 8, by whether the walk found an importer
-pub imported : (s : Bytes) (k : ℕ) (a : Aid) (b : Bool) → EntriesSay s k (any (importer (store_limits s) a)) b → ImportedSays s k a b
-imported s k a b h es r reads = h es r reads ∙ sym (used_any (store_limits s) es a reads)
+module _ (a : Aid) (s : Bytes) (k i : ℕ) (w : Walks (importer (store_limits s) a) s k i) where
+  pub imported_yes : (d m j : ℕ) → PartAt s i k (PackagePart d m j) → importer (store_limits s) a (loaded (part s d m) (part s m j)) ≡ true → ImportedSays
+      s k a true
+  imported_yes d m j p h es r reads = sym (used_any (store_limits s) es a reads ∙ sym (place_any (importer (store_limits s) a) (first_entry s) es) ∙ ap is_some
+      (found_package w p h es r))
 
--- the walk over the entries for one that a test finds: it is found, or there is none
-module _ {q : Entry → Bool} {s : Bytes} {k i : ℕ} (w : Walks q s k i) where
-  pub entries_yes : {d m j : ℕ} → PartAt s i k (PackagePart d m j) → q (loaded (part s d m) (part s m j)) ≡ true → EntriesSay s k (any q) true
-  entries_yes p h es r reads = sym (sym (place_any q (first_entry s) es) ∙ ap is_some (found_package w p h es r))
-
-  pub entries_no : PartAt s i k AtEnd → EntriesSay s k (any q) false
-  entries_no p es r reads = sym (found_none w p es r)
+  pub imported_no : PartAt s i k AtEnd → ImportedSays s k a false
+  imported_no p es r reads = sym (used_any (store_limits s) es a reads ∙ found_none w p es r)

@@ -2,6 +2,5 @@
 pub mod Creation
 pub mod Allows
 pub mod Importers
-pub mod Namers
 pub mod Queries
 pub mod Cuts

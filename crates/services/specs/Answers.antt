@@ -3,12 +3,8 @@
 -- CutSays s u o q r    == a deletion or removal: its number, or the place of the entry that the test q finds
 -- ImportsSays g a r    == the file g imports the AID a
 -- importer l a e       == e is a package of another AID that imports a
--- EntriesSay s k v r   == r is v of the entries that end at place k, if their files read
 -- ImportedSays s k a r == question 8 is answered no, among the entries that end at place k
 -- OtherSays g a r      == it does and has another AID
--- ClassNames, FileNames == a method of the class at place c, or of the file, names the AID a by an index of its list
--- namer l a e          == e is a package that does
--- NamedSays s k a r    == question 25 is answered no, among the entries that end at place k
 -- allowed r            == what an answer says of a domain, if there is such a method
 -- ClassOf g c          == a class of the file's package stands at place c
 -- ClassAllows, FileAllows == the answer is that of a class's or a file's method of a name, where the package lies in domain e
@@ -18,8 +14,7 @@ use Rattle.rules.specs.Bytes.{Bytes, Aid, any, at, some_and, ◌and_then◌, sam
 use Rattle.rules.specs.Package.{Limits, format_of, Class, Package, class, read_file}
 use Rattle.rules.specs.Store.{Entry, domain, loaded, first_entry, store_limits}
 use Rattle.rules.specs.Classes.{installed, declared, meant, admits}
-use Rattle.rules.specs.Naming.{class_names, package_names}
-use Rattle.rules.specs.Questions.{q8_unused, q25_unnamed}
+use Rattle.rules.specs.Questions.{q8_unused}
 use Rattle.rules.specs.Operations.{Operation}
 use Rattle.store.specs.Entries.{Entries, AllRead, place_of}
 use Rattle.store.specs.Sound.{Over, Asked}
@@ -49,30 +44,9 @@ abbrev pub importer : Limits → Aid → Entry → Bool
 importer l a (domain k b) = false
 importer l a (loaded d f) = some_and (read_file l f) (otherImports a)
 
--- of whatever entries whose files read end at place k
-abbrev pub EntriesSay : Bytes → ℕ → (List Entry → Bool) → Bool → Type 0
-EntriesSay s k v r = (es : List Entry) → Entries s (first_entry s) es k → AllRead (store_limits s) es → r ≡ v es
-
--- 8
+-- 8, of whatever entries whose files read end at place k
 abbrev pub ImportedSays : Bytes → ℕ → Aid → Bool → Type 0
-ImportedSays s k a r = EntriesSay s k (λ es. not (q8_unused (installed (store_limits s) es) a)) r
-
--- a method of whatever class stands at place c names the AID
-abbrev pub ClassNames : Bytes → ℕ → Aid → Bool → Type 0
-ClassNames g c a r = (l : Limits) (p : Package) → read_file l g ≡ some p → (k : Class) (j : ℕ) → Reads (class (format_of l g) p.domains) g c k j →
-    r ≡ any (same a) (class_names k)
-
--- a method of the file does
-abbrev pub FileNames : Bytes → Aid → Bool → Type 0
-FileNames g a r = (l : Limits) (p : Package) → read_file l g ≡ some p → r ≡ any (same a) (package_names p)
-
-abbrev pub namer : Limits → Aid → Entry → Bool
-namer l a (domain k b) = false
-namer l a (loaded d f) = some_and (read_file l f) (λ p. any (same a) (package_names p))
-
--- 25
-abbrev pub NamedSays : Bytes → ℕ → Aid → Bool → Type 0
-NamedSays s k a r = EntriesSay s k (λ es. not (q25_unnamed (installed (store_limits s) es) a)) r
+ImportedSays s k a r = (es : List Entry) → Entries s (first_entry s) es k → AllRead (store_limits s) es → r ≡ not (q8_unused (installed (store_limits s) es) a)
 
 -- what an answer says of the domain, if there is such a method
 abbrev pub allowed : Allowed → Option Bool

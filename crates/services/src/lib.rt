@@ -1,6 +1,4 @@
 // The questions of a creation, a deletion, a removal and a query on a sound store, from 3 on.
-pub mod naming;
-
 ghost use Rattle.std.specs.Prelude.{◌≡◌, ◌+◌, ◌*◌};
 ghost use Rattle.rules.specs.Bytes.{pick};
 ghost use Rattle.rules.specs.Store.{DomainKind, store_limits};
@@ -132,7 +130,7 @@ pub fn create_answer(s: &[u8], used: usize, domain: &[u8]) -> u32
     }
 }
 
-// Delete: 3, 5, 6, 25, and the place of the domain's entry.
+// Delete: 3, 5, 6, and the place of the domain's entry.
 pub fn delete_answer(s: &[u8], used: usize, domain: &[u8]) -> Cut
     requires { SoundAt s.now used }
     ensures { CutSays s.now used (delete domain.now) (is_domain domain.now) result }
@@ -144,9 +142,6 @@ pub fn delete_answer(s: &[u8], used: usize, domain: &[u8]) -> Cut
         Place::At(at, next) => {
             if store::domain_in_use(s, used, domain) {
                 return Cut::Refused(6);
-            }
-            if naming::named_apart(s, used, domain) {
-                return Cut::Refused(25);
             }
             Cut::Entry(at, next)
         }

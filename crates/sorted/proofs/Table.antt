@@ -7,7 +7,7 @@ use mathlib.Core.List.{List}
 use mathlib.Core.Logic.{◌⊎◌, inl, inr, ⊎_elim}
 use lib.Dec.{eqb, ltb}
 use lib.ListN.{length, get_or}
-use borrow.Author.Tests.{ltb-true, ltb-false, eqb-true, eqb-false, eq-eqb, ne_eqb, lt-ltb, le-ltb}
+use borrow.Author.Tests.{ltb-true, ltb-false, eqb-true, eqb-false, eq-eqb, ne_eqb}
 use Rattle.rules.specs.Bytes.{Bytes, Aid, pick, same}
 use Rattle.rules.proofs.Tests.{of_true, is_true, same_eq, same_refl}
 use Rattle.store.specs.Entries.{part}
@@ -28,18 +28,14 @@ equal_or a b = go (eqb a b) refl
     go true e = inl (eqb-true a b e)
     go false e = inr (eqb-false a b e)
 
--- where the AID of a domain stands, that of a package, and one by itself
-pub key_place_domain : (s : Bytes) (p : ℕ) → (get_or s p 0 ≡ 2 → ⊥) → get_or s p 0 ≤ 4 → key_place s p ≡ p + 2
+-- where the AID of a domain stands, and that of a package
+pub key_place_domain : (s : Bytes) (p : ℕ) → (get_or s p 0 ≡ 2 → ⊥) → key_place s p ≡ p + 2
 unfolding key_place
-key_place_domain s p e h = rw (ne_eqb (get_or s p 0) 2 e, le-ltb 4 (get_or s p 0) h) refl
+key_place_domain s p e = rw (ne_eqb (get_or s p 0) 2 e) refl
 
 pub key_place_package : (s : Bytes) (p : ℕ) → get_or s p 0 ≡ 2 → key_place s p ≡ p + 11 + get_or s (p + 3) 0
 unfolding key_place
 key_place_package s p e = rw (eq-eqb (get_or s p 0) 2 e) refl
-
-pub key_place_aid : (s : Bytes) (p : ℕ) → 4 < get_or s p 0 → key_place s p ≡ p
-unfolding key_place
-key_place_aid s p h = rw (ne_eqb (get_or s p 0) 2 (λ e. omega arith), lt-ltb 4 (get_or s p 0) h) refl
 
 -- the AID as a part of the bytes
 pub key_part : (s : Bytes) (p i w : ℕ) → i ≡ key_place s p → w ≡ get_or s i 0 → part s (i + 1) (i + 1 + w) ≡ key_at s p

@@ -1,8 +1,7 @@
--- Places of a store's entries, sorted by the AIDs that the entries are known by, or of AIDs themselves. Assumes nothing.
+-- Places of a store's entries, sorted by the AIDs that the entries are known by. Assumes nothing.
 --
 -- below a b         == a comes before b: the first bytes that differ decide, and the shorter comes first
--- key_place s p      == where the length stands of the AID at place p of s, or of the one that the entry there is known by: a domain's own, a
---                      package's in its file
+-- key_place s p      == where the length stands of the AID that the entry at place p of s is known by: a domain's own, a package's in its file
 -- key_at s p         == that AID
 -- Keyed s p         == it stands whole in s, and p is not 0
 -- count l           == how many places the table l has: its first number
@@ -25,10 +24,9 @@ below [] (y ∷ ys) = true
 below (x ∷ xs) [] = false
 below (x ∷ xs) (y ∷ ys) = pick (eqb x y) (below xs ys) (ltb x y)
 
--- kind 2: place 7 of the file, which stands behind the loading domain's AID; kinds 1 and 3: the low byte of the body's length; 5 or more is no
--- kind, but the length of an AID
+-- kind 2: place 7 of the file, which stands behind the loading domain's AID; else the low byte of the body's length
 unfoldable pub key_place : Bytes → ℕ → ℕ
-key_place s p = pick (eqb (get_or s p 0) 2) (p + 11 + get_or s (p + 3) 0) (pick (ltb 4 (get_or s p 0)) p (p + 2))
+key_place s p = pick (eqb (get_or s p 0) 2) (p + 11 + get_or s (p + 3) 0) (p + 2)
 
 -- the bytes behind their length
 abbrev pub aid_at : Bytes → ℕ → Aid

@@ -1,4 +1,4 @@
-// Places of a store's entries, sorted by the AIDs that the entries are known by, or of AIDs themselves: found by halving, entered one after the other.
+// Places of a store's entries, sorted by the AIDs that the entries are known by: found by halving, entered one after the other.
 // A table's first number is the count of its places; they follow it.
 ghost use Rattle.std.specs.Prelude.{◌≡◌, ◌+◌, ◌<◌, ◌≤◌, length};
 ghost use Rattle.sorted.specs.Sorted.{below, key_place, key_at, Keyed, count, Sorted, Lower, HereIs, Found, Opened, Entered};
@@ -29,19 +29,15 @@ fn before(a: &[u8], b: &[u8]) -> bool
     i < b.len()
 }
 
-// Where the length stands of the AID at a place, or of the one that the entry there is known by: a domain's own, a package's in its file.
-// An AID's length is 5 or more, a kind at most 3.
+// Where the length stands of the AID that the entry at a place is known by: a domain's own, a package's in its file.
 fn key_place(s: &[u8], p: usize) -> usize
     requires { p + 3 < length s.now }
     ensures { result ≡ key_place s.now p }
 {
-    if s[p] == 2 {
-        return p + 11 + wide(s[p + 3]);
+    if s[p] != 2 {
+        return p + 2;
     }
-    if 4 < s[p] {
-        return p;
-    }
-    p + 2
+    p + 11 + wide(s[p + 3])
 }
 
 // That AID.

@@ -1,7 +1,7 @@
 //! `sequences SEED COUNT`: runs generated sequences through the byte operations
 //! and the ledger side by side and prints how often each number was answered, how deep
 //! the accepted files were and how often FE, handlers, limits, kinds of domains, searches for
-//! declarations, places of imports and named domains decided.
+//! declarations and places of imports decided.
 
 use independent::depths::DepthCounts;
 use independent::generate::sequences::sequence;
@@ -11,7 +11,6 @@ use independent::int_counts::IntCounts;
 use independent::ledger::{Call, Ledger};
 use independent::limit_counts::LimitCounts;
 use independent::loader::{damage, shrink, Independent, Loader, Sequence, Step};
-use independent::named_counts::NamedCounts;
 use independent::own_domain::OwnCounts;
 use independent::questions::{q2, NUMBERS};
 use independent::search_counts::SearchCounts;
@@ -30,7 +29,6 @@ struct Counts {
     int: IntCounts,
     search: SearchCounts,
     imports: ImportCounts,
-    named: NamedCounts,
     yes: u64,
 }
 
@@ -99,7 +97,6 @@ fn count(counts: &mut Counts, call: &Call, answer: u32, store: &[u8]) {
     counts.int.note(call, answer, store);
     counts.search.note(call, answer, store);
     counts.imports.note(call, answer, store);
-    counts.named.note(call, answer, store);
     match call {
         Call::Load { .. } if answer & 0xFF == 0 => counts.depths.note(answer >> 8, store),
         Call::Query { .. } => counts.yes += u64::from(answer >> 8),
@@ -125,7 +122,6 @@ fn print_table(counts: &Counts) {
     println!("{} queries answered yes", counts.yes);
     println!("{}\n{}\n{}", counts.own, counts.handlers, counts.limits);
     println!("{}\n{}\n{}", counts.int, counts.search, counts.imports);
-    println!("{}", counts.named);
 }
 
 /// A short sequence that shows the difference, in hex.

@@ -19,17 +19,16 @@ pub const BOTH_VERSIONS: [StoreVersion; 2] =
     [StoreVersion::First, StoreVersion::Second(Limits::GREATEST)];
 
 /// A store that is being filled.
-pub(super) struct Crowd {
+struct Crowd {
     ledger: Ledger,
-    /// Those in which packages are loaded.
-    pub domains: Vec<Vec<u8>>,
+    domains: Vec<Vec<u8>>,
     length: usize,
     /// Bytes after used.
     free: usize,
 }
 
 impl Crowd {
-    pub fn new(version: StoreVersion, length: usize) -> Self {
+    fn new(version: StoreVersion, length: usize) -> Self {
         let mut ledger = Ledger::new(length);
         ledger.version = version;
         Crowd {
@@ -54,26 +53,26 @@ impl Crowd {
         fits
     }
 
-    pub fn create(&mut self, kind: DomainKind, aid: Vec<u8>) {
+    fn create(&mut self, kind: DomainKind, aid: Vec<u8>) {
         if self.put(Entry::Domain(kind, aid.clone())) {
             self.domains.push(aid);
         }
     }
 
     /// Loads a file in one of the domains, by turns.
-    pub fn load(&mut self, number: usize, model: &FileModel) -> bool {
+    fn load(&mut self, number: usize, model: &FileModel) -> bool {
         let domain = self.domains[number % self.domains.len()].clone();
         let file = model.bytes();
         self.put(Entry::Package { domain, file })
     }
 
-    pub fn written(&self) -> Vec<u8> {
+    fn written(&self) -> Vec<u8> {
         self.ledger.written_out(self.length)
     }
 }
 
 /// An AID of this length; other numbers give others, in no order.
-pub(super) fn numbered(length: usize, number: usize) -> Vec<u8> {
+fn numbered(length: usize, number: usize) -> Vec<u8> {
     let mut aid = vec![0xAB; length - 2];
     aid.extend((number as u16).wrapping_mul(40_503).to_be_bytes());
     aid
@@ -164,7 +163,7 @@ pub fn crowded(random: &mut Random) -> Vec<u8> {
     crowd.written()
 }
 
-pub(super) fn some_aid(random: &mut Random, number: usize) -> Vec<u8> {
+fn some_aid(random: &mut Random, number: usize) -> Vec<u8> {
     let length = random.between(*AID_LENGTHS.start(), *AID_LENGTHS.end());
     numbered(length, number)
 }

@@ -8,9 +8,10 @@ use super::model::{FileModel, MethodModel};
 use super::random::Random;
 use super::scene::Scene;
 use super::sequences::Run;
-use super::starts::{pools, some_fresh};
+use super::starts::pools;
 use super::without_int::some_kind;
 use crate::ledger::Call;
+use crate::limits::Limits;
 use crate::loader::Sequence;
 use crate::package::VISIBLE;
 
@@ -72,7 +73,11 @@ pub(super) fn import_sequence(random: &mut Random) -> Sequence {
         ..pools(random)
     };
     let length = random.between(2_500, 6_000);
-    let first = some_fresh(random);
+    let first = match random.below(4) {
+        0 => Call::FreshLimits(Limits::STANDARD),
+        1 => Call::FreshLimits(Limits::GREATEST),
+        _ => Call::Fresh,
+    };
     let mut run = Run::new(random, vec![0x5A; length], scene);
     run.call(first);
     for place in 0..2 {

@@ -2,7 +2,6 @@
 
 use super::crowded::{crowded, largest, BOTH_VERSIONS, LARGEST};
 use super::damage::any_damage;
-use super::named_stores::{largest_names, named};
 use super::random::Random;
 use super::sequences::sequence;
 use super::special::{test_store, BOTH_FRESH};
@@ -33,7 +32,7 @@ const LENGTHS: [usize; 14] = [
 /// Inputs that are the same in every run: fresh stores and other bytes of these lengths, a
 /// store of several packages cut and drawn out to them, the largest stores.
 pub fn fixed() -> Vec<Vec<u8>> {
-    let mut found = [largest(), largest_names()].concat();
+    let mut found = largest();
     let test_stores = BOTH_FRESH.map(|first| test_store(&first));
     for length in LENGTHS {
         found.extend([vec![0; length], vec![0xFF; length], vec![b'\n'; length]]);
@@ -54,12 +53,11 @@ pub fn fixed() -> Vec<Vec<u8>> {
 pub fn input(seed: u64) -> Vec<u8> {
     let random = &mut Random::new(seed ^ 0x1A7E_4702);
     match random.below(100) {
-        0..=22 => grown(random),
-        23..=34 => planted(random),
-        35..=41 => damaged(random),
-        42..=49 => too_long(random),
-        50..=54 => too_short(random),
-        55..=74 => named(random),
+        0..=29 => grown(random),
+        30..=46 => planted(random),
+        47..=55 => damaged(random),
+        56..=63 => too_long(random),
+        64..=69 => too_short(random),
         _ => crowded(random),
     }
 }
@@ -93,10 +91,9 @@ fn planted(random: &mut Random) -> Vec<u8> {
 
 /// One byte of another store changed.
 fn damaged(random: &mut Random) -> Vec<u8> {
-    let mut store = match random.below(4) {
+    let mut store = match random.below(3) {
         0 => grown(random),
         1 => planted(random),
-        2 => named(random),
         _ => crowded(random),
     };
     if store.len() > HEAD {

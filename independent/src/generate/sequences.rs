@@ -4,7 +4,6 @@ use super::chosen_limits::{bad_limits, good_limits};
 use super::damage::any_damage;
 use super::files::any_file;
 use super::import_sequences::import_sequence;
-use super::naming::{naming_over, naming_sequence};
 use super::random::Random;
 use super::scene::Scene;
 use super::starts::{pools, some_start, Start};
@@ -18,11 +17,8 @@ use crate::without_int::DomainKind;
 /// How many of a hundred new domains are without int.
 const WITHOUT_INT: usize = 40;
 
-/// One sequence of so many is made for where imports lie, and one for which domains are named: those
-/// with these numbers.
-const OF_SO_MANY: u64 = 16;
-const OF_IMPORTS: u64 = 0;
-const OF_NAMES: u64 = 8;
+/// One sequence of so many is made for where imports lie.
+const OF_IMPORTS: u64 = 16;
 
 /// Builds a sequence while running it, so that later calls suit the store.
 pub(super) struct Run<'r> {
@@ -34,16 +30,14 @@ pub(super) struct Run<'r> {
     /// The last damage, while it has not been undone.
     damaged: Option<(usize, u8)>,
     /// How many of a hundred new domains are without int.
-    pub without_int: usize,
+    without_int: usize,
 }
 
 /// The sequence for this number; equal numbers give equal sequences.
 pub fn sequence(seed: u64) -> Sequence {
     let random = &mut Random::new(seed);
-    match seed % OF_SO_MANY {
-        OF_IMPORTS => return import_sequence(random),
-        OF_NAMES => return naming_sequence(random),
-        _ => {}
+    if seed.is_multiple_of(OF_IMPORTS) {
+        return import_sequence(random);
     }
     if random.chance(8) {
         return build_over_store(random);
@@ -54,11 +48,7 @@ pub fn sequence(seed: u64) -> Sequence {
 
 /// A sequence over a buffer of this length, of version 1 at first, its domains with int.
 pub fn sequence_over(length: usize, seed: u64) -> Sequence {
-    let random = &mut Random::new(seed);
-    match seed % OF_SO_MANY {
-        OF_NAMES => naming_over(random, length, Call::Fresh, 0),
-        _ => build(random, length, Call::Fresh, 0),
-    }
+    build(&mut Random::new(seed), length, Call::Fresh, 0)
 }
 
 fn build(random: &mut Random, length: usize, first: Call, without_int: usize) -> Sequence {

@@ -4,7 +4,6 @@ use super::chosen_limits::good_limits;
 use super::random::Random;
 use super::scene::Scene;
 use crate::ledger::Call;
-use crate::limits::Limits;
 
 /// The buffer's length, and the fresh call that makes it a store.
 pub struct Start {
@@ -27,15 +26,6 @@ pub fn some_start(random: &mut Random) -> Start {
     };
     let first = Call::FreshLimits(limits);
     Start { length, first }
-}
-
-/// Either fresh call; the second with the standard limits or the greatest.
-pub fn some_fresh(random: &mut Random) -> Call {
-    match random.below(4) {
-        0 => Call::FreshLimits(Limits::STANDARD),
-        1 => Call::FreshLimits(Limits::GREATEST),
-        _ => Call::Fresh,
-    }
 }
 
 fn buffer_length(random: &mut Random) -> usize {

@@ -28,11 +28,8 @@ slice-aggregate-print-page c = search rules
 slice-aggregate-print-page-2 : tie.Need-slice-aggregate-print-page-2
 slice-aggregate-print-page-2 c = search rules
 
-slice-aggregate-print-page-3 : tie.Need-slice-aggregate-print-page-3
-slice-aggregate-print-page-3 c = search rules
-
 print-page-requires : tie.Need-print-page-requires
-print-page-requires c κs = (omega arith, omega arith, omega arith)
+print-page-requires c κs = omega arith
 
 returns_2 : tie.Need-returns-2
 returns_2 c = search rules
@@ -41,4 +38,4 @@ pub main_spec : {M : Type 1} → statement M
 main_spec =
     tie.close
     (tie.spec slice-aggregate-read-whole read-whole-requires slice-aggregate-tell tell-requires returns array-share-prefix-store
-    slice-aggregate-print-page slice-aggregate-print-page-2 slice-aggregate-print-page-3 print-page-requires returns_2)
+    slice-aggregate-print-page slice-aggregate-print-page-2 print-page-requires returns_2)

@@ -89,13 +89,13 @@ abbrev parents-pass-μ-loop : parents-pass-lts.decreases-loop
 parents-pass-μ-loop f s index names seen₀ slots₀ v count i₀ seen slots i = count - i
 
 -- the function's start, where the class's bit is asked; that where its record is at hand
-abbrev class_start : (t : ℕ) → class-passes-lts.After-get (class-passes-claims t) (class-passes-at t) class-passes.Post →
+abbrev class-start : (t : ℕ) → class-passes-lts.After-get (class-passes-claims t) (class-passes-at t) class-passes.Post →
     class-passes-lts.Start (class-passes-claims t) (class-passes-at t) class-passes.Post
-class_start t k = k.before.before.before.before.before.before.before.before
+class-start t k = k.before.before.before.before.before.before.before.before
 
 abbrev class-begin : (t : ℕ) → class-passes-lts.After-placed (class-passes-claims t) (class-passes-at t) class-passes.Post →
     class-passes-lts.Start (class-passes-claims t) (class-passes-at t) class-passes.Post
-class-begin t k = class_start t k.before.before.before
+class-begin t k = class-start t k.before.before.before
 
 -- the function's start, where the parents are counted; that where a parent is at hand, and the turn where it was walked
 abbrev parents-start : (t : ℕ) →
@@ -140,7 +140,7 @@ class-passes-returns : (t : ℕ) →
     class-passes-lts.Need-returns (class-passes-claims t) (class-passes-at t) class-passes.Post
 class-passes-returns t c =
     let k = c.before in
-    let b = class_start t k in
+    let b = class-start t k in
     let f = b.args.f.now in
     let s = b.args.s.now in
     let v = b.args.v in
@@ -152,7 +152,7 @@ class-passes-returns t c =
 class-passes-placed-requires : (t : ℕ) →
     class-passes-lts.Need-placed-requires (class-passes-claims t) (class-passes-at t) class-passes.Post
 class-passes-placed-requires t c κs =
-    let b = class_start t c.before.before in
+    let b = class-start t c.before.before in
     ((b.pre.1.0.there, b.pre.1.0.small), b.pre.1.1.1)
 
 class-passes-methods-apart-requires : (t : ℕ) →

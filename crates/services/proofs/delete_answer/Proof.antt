@@ -1,7 +1,5 @@
 -- `services::delete_answer` meets its contract, question by question. Assumes nothing.
 use Rattle.store.specs.Answers.{InUse}
-use Rattle.services.specs.Answers.{NamedSays}
-use Rattle.store.proofs.Sound.{small}
 use Rattle.services.proofs.Cuts as cuts
 use borrow.Author.Tests.{not-true, not-false}
 use lib.ListN.{length}
@@ -12,8 +10,7 @@ use borrow.Author.Rules.{rules}
 use Rattle.services.proofs.delete_answer.Statement.{statement}
 use Rattle.services.proofs.delete_answer.Tie as tie
 
--- the start, from where the length was asked; that it is right, from where the domain was found; that, from where its use was asked; that, from where
--- its being named was asked
+-- the start, from where the length was asked; that it is right, from where the domain was found; that, from where its use was asked
 abbrev start : tie.After-length-ok → tie.Start
 start k = k.before.before.before
 
@@ -23,27 +20,17 @@ right k = k.before.before.before
 abbrev found : tie.After-domain-in-use → tie.After-at
 found k = k.before.before
 
-abbrev unused : tie.After-named-apart → tie.After-domain-in-use
-unused k = k.before.before
-
 -- question 3 was answered yes
 three : (k : tie.Else1) → aid_length (length (start k.before).args.domain.now) ≡ true
 three k = sym k.before.length-ok.ensures ∙ not-false _ k.if1.false
 
--- the answer on its use; on its being named
+-- the answer on its use
 said : (k : tie.After-domain-in-use) (b : Bool) → k.domain-in-use.result ≡ b →
     let a = (start (right (found k)).before).args in
     InUse a.s.now a.used a.domain.now b
 said k b e =
     let a = (start (right (found k)).before).args in
     subst (InUse a.s.now a.used a.domain.now) e k.domain-in-use.ensures
-
-said-named : (k : tie.After-named-apart) (b : Bool) → k.named-apart.result ≡ b →
-    let a = (start (right (found (unused k))).before).args in
-    NamedSays a.s.now a.used a.domain.now b
-said-named k b e =
-    let a = (start (right (found (unused k))).before).args in
-    subst (NamedSays a.s.now a.used a.domain.now) e k.named-apart.ensures
 
 length-ok-requires : tie.Need-length-ok-requires
 length-ok-requires c κs = search rules
@@ -75,34 +62,19 @@ returns_2 c =
     cuts.delete_6 a.s.now a.used a.domain.now f.result f.ensures _ _ (three (right k)) k.at.given.1
     (said c.before true c.if2.true)
 
-named-apart-requires : tie.Need-named-apart-requires
-named-apart-requires c κs =
-    let b = start (right (found c.before)).before in
-    (cuts.sound_files b.args.s.now b.args.used b.pre, small b.args.s.now b.args.used b.pre)
-
-returns_3 : tie.Need-returns-3
-returns_3 c =
-    let n = c.before in
-    let k = found (unused n) in
-    let a = (start (right k).before).args in
-    let f = k.before.before.find-domain in
-    cuts.delete_25 a.s.now a.used a.domain.now f.result f.ensures _ _ (three (right k)) k.at.given.1
-    (said (unused n) false n.before.if2.false) (said-named n true c.if3.true)
-
 enum_told : tie.Need-enum-told
 enum_told c = search rules
 
-returns-4 : tie.Need-returns-4
-returns-4 c =
-    let n = c.before in
-    let k = found (unused n) in
+returns_3 : tie.Need-returns-3
+returns_3 c =
+    let k = found c.before in
     let a = (start (right k).before).args in
     let f = k.before.before.find-domain in
     cuts.delete_0 a.s.now a.used a.domain.now f.result f.ensures _ _ (three (right k)) k.at.given.1
-    (said (unused n) false n.before.if2.false) (said-named n false c.if3.false)
+    (said c.before false c.if2.false)
 
-returns-5 : tie.Need-returns-5
-returns-5 c =
+returns-4 : tie.Need-returns-4
+returns-4 c =
     let k = c.before.before in
     let a = (start k.before.before).args in
     let f = k.find-domain in
@@ -111,5 +83,4 @@ returns-5 c =
 pub delete-answer-spec : {M : Type 1} → statement M
 delete-answer-spec =
     tie.close
-    (tie.spec length-ok-requires returns find-domain-requires enum-known-at domain-in-use-requires returns_2 named-apart-requires returns_3 enum_told returns-4
-    returns-5)
+    (tie.spec length-ok-requires returns find-domain-requires enum-known-at domain-in-use-requires returns_2 enum_told returns_3 returns-4)

@@ -6,7 +6,7 @@ use Rattle.store.proofs.Walk.{Walk, walk_start}
 use Rattle.store.specs.Entries.{StandFrom, FileReads, part}
 use Rattle.store.specs.Answers.{PartAt}
 use Rattle.store.specs.declared.EntryPart.TheVariants.{Domain, Package}
-use Rattle.services.specs.Answers.{OtherSays, otherImports, importer}
+use Rattle.services.specs.Answers.{OtherSays, importer}
 use Rattle.services.proofs.Importers as importers
 use Prim.Native.Nat.{◌-◌}
 use mathlib.Core.Path.{◌≡◌, refl, sym, subst}
@@ -74,13 +74,13 @@ reads k =
     found.package_reads t.loop.inv (is_package_lem k) pre.0 pre.1 pre.2
 
 -- the package imports the AID, or does not
-importer-is : (k : tie.After-other-imports invariant-loop decreases-loop) (b : Bool) → k.other-imports.result ≡ b →
+importer_is : (k : tie.After-other-imports invariant-loop decreases-loop) (b : Bool) → k.other-imports.result ≡ b →
     let a = (start (at-package (asked k))).args in
     importer (store_limits a.s.now) a.aid.now (loaded (domain (asked k)) (file (asked k))) ≡ b
-importer-is k b e =
+importer_is k b e =
     let f = asked k in
     let aid = (start (at-package f)).args.aid.now in
-    importers.file_told (otherImports aid) _ (file f) b (reads f).0 (reads f).1 (subst (OtherSays (file f) aid) e k.other-imports.ensures)
+    importers.importer_is _ aid (domain f) (file f) b (reads f).0 (reads f).1 (subst (OtherSays (file f) aid) e k.other-imports.ensures)
 
 first-entry-requires : tie.Need-first-entry-requires invariant-loop decreases-loop
 first-entry-requires c κs = search rules
@@ -122,9 +122,7 @@ other-imports-requires c κs =
 returns : tie.Need-returns invariant-loop decreases-loop
 returns c =
     let k = asked c.before in
-    let t = at-package k in
-    importers.imported (start t).args.s.now (start t).args.end (start t).args.aid.now true
-    (importers.entries_yes t.loop.inv (is_package_lem k) (importer-is c.before true c.if1.true))
+    importers.imported_yes _ _ _ _ (at-package k).loop.inv _ _ _ (is_package_lem k) (importer_is c.before true c.if1.true)
 
 loop_less_2 : tie.Need-loop-smaller-2 invariant-loop decreases-loop
 loop_less_2 c = omega (arith, package_in (asked c.before))
@@ -132,7 +130,7 @@ loop_less_2 c = omega (arith, package_in (asked c.before))
 loop_again_2 : tie.Need-loop-preserved-2 invariant-loop decreases-loop
 loop_again_2 c =
     let k = asked c.before in
-    found.walks_package (at-package k).loop.inv (is_package_lem k) (importer-is c.before false c.if1.false)
+    found.walks_package (at-package k).loop.inv (is_package_lem k) (importer_is c.before false c.if1.false)
 
 enum_told : tie.Need-enum-told invariant-loop decreases-loop
 enum_told c = c.match.keys3
@@ -141,7 +139,7 @@ returns_2 : tie.Need-returns-2 invariant-loop decreases-loop
 returns_2 c =
     let t = c.before.before.before in
     let none = found.part_told c.enum_told.given.1 c.before.before.entry_at.ensures in
-    importers.imported (start t).args.s.now (start t).args.end (start t).args.aid.now false (importers.entries_no t.loop.invariant none)
+    importers.imported_no (start t).args.aid.now (start t).args.s.now (start t).args.end t.loop.at t.loop.invariant none
 
 pub imported-spec : {M : Type 1} → statement M
 imported-spec =

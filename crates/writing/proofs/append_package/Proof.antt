@@ -21,8 +21,8 @@ headed k = k.before.before.before.before
 abbrev domain_in : tie.After-copy-in2 → tie.After-copy-in
 domain_in k = k.before.before.before.before
 
-abbrev file_in : tie.After-put-u2 → tie.After-copy-in2
-file_in k = k.before.before.before.before
+abbrev file-in : tie.After-put-u2 → tie.After-copy-in2
+file-in k = k.before.before.before.before
 
 -- there is room for the entry
 room : (b : tie.Start) → append.RoomBy b.args.store.now b.args.end (1 + length b.args.domain.now + length b.args.file.now)
@@ -83,12 +83,12 @@ put-u2-requires c κs =
     (omega (arith, file-long k), omega arith)
 
 same_length : tie.Need-same-length
-same_length c = let u = c.before.before in u.put-u2.auto.0 ∙ file-long (file_in u)
+same_length c = let u = c.before.before in u.put-u2.auto.0 ∙ file-long (file-in u)
 
 returns : tie.Need-returns
 returns c =
     let u = c.before.before in
-    let f = file_in u in
+    let f = file-in u in
     let d = domain_in f in
     let h = headed d in
     let b = begun h in

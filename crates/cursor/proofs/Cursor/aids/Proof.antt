@@ -88,8 +88,8 @@ loop_again c =
     let at-aid = c1.aid in
     let at-loop = c1.before.before.loop in
     let at_next = c.before.next in
-    let aid_read = aid_is at_next.given.1 at-aid.ensures in
-    (said_inside aid_read, loop_next aid at-loop.left at-loop.invariant.1 (omega arith) (stop_of aid_read))
+    let aid-read = aid_is at_next.given.1 at-aid.ensures in
+    (said_inside aid-read, loop_next aid at-loop.left at-loop.invariant.1 (omega arith) (stop_of aid-read))
 
 returns-4 : tie.Need-returns-4 invariant-loop decreases-loop
 returns-4 c =

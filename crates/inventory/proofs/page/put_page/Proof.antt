@@ -8,13 +8,13 @@ use Rattle.store.specs.Sound.{SoundAt}
 use Rattle.text.proofs.Puts.{put_as, put_counts}
 use Prim.Native.Nat.{◌≤◌}
 use Rattle.pages.specs.Says.{most_page}
-use Rattle.inventory.proofs.Pages.{refused_page, names_room, totals_room, page_put, number_room}
+use Rattle.inventory.proofs.Pages.{refused_page, totals_room, page_put, number_room}
 use Rattle.inventory.proofs.page.put_page.Statement.{statement}
 use Rattle.inventory.proofs.page.put_page.Tie as tie
 
 -- the start, from where the store was asked; that, from where it is refused, and from where it is sound
 abbrev start : tie.After-open-store → tie.Start
-start k = k.before.before.before.before
+start k = k.before.before.before
 
 abbrev refused-by : tie.After-n → tie.After-open-store
 refused-by k = k.before.before
@@ -30,22 +30,12 @@ refused k = subst (OpenedSays (start (refused-by k)).args.s.now) k.n.given.1 (re
 is-sound : (k : tie.After-used) → SoundAt (start (sound_by k)).args.s.now k.used.given.0.0
 is-sound k = subst (OpenedSays (start (sound_by k)).args.s.now) k.used.given.1 (sound_by k).open-store.ensures
 
--- where the lines were put, from the call for the names; that call, from the one for the totals
-abbrev lines_of_lem : tie.After-put-names-arg2 → tie.After-put-lines
-lines_of_lem k = k.before.before.before.before
-
-abbrev names_of : tie.After-put-three-arg → tie.After-put-names
-names_of k = k.before.before.before.before.before
-
--- the buffer keeps its length behind the lines, and behind the names
+-- the buffer keeps its length behind the lines
 same : (k : tie.After-put-lines) → length k.put-lines.new.1.1.0 ≡ length (start (sound_by k.before.before.before)).args.out.now
 same k = k.put-lines.auto.1.1.0
 
 long : (k : tie.After-put-lines) → most_page ≤ length k.put-lines.new.1.1.0
 long k = omega (arith, same k, (start (sound_by k.before.before.before)).requires)
-
-kept : (k : tie.After-put-names) → length k.put-names.new.1.1.1.0 ≡ length (lines_of_lem k.before).put-lines.new.1.1.0
-kept k = k.put-names.auto.1.1.1.0
 
 open-store-requires : tie.Need-open-store-requires
 open-store-requires c κs = search rules
@@ -56,7 +46,7 @@ enum-known-n c = search rules
 put-number-requires : tie.Need-put-number-requires
 put-number-requires c κs =
     let k = c.before.before in
-    number_room k.n.given.0.0 _ (omega arith) (start (refused-by k)).requires.2
+    number_room k.n.given.0.0 _ (omega arith) (start (refused-by k)).requires
 
 enum-known-used : tie.Need-enum-known-used
 enum-known-used c = search rules
@@ -64,20 +54,12 @@ enum-known-used c = search rules
 put-lines-requires : tie.Need-put-lines-requires
 put-lines-requires c κs =
     let k = c.before.before in
-    (is-sound k, (start (sound_by k)).requires.2)
-
-put-names-requires : tie.Need-put-names-requires
-put-names-requires c κs =
-    let lines = lines_of_lem c in
-    let k = lines.before.before.before in
-    let pre = (start (sound_by k)).requires in
-    ((is-sound k, pre.0, pre.1), names_room lines.put-lines.ensures (long lines))
+    (is-sound k, (start (sound_by k)).requires)
 
 put-three-requires : tie.Need-put-three-requires
 put-three-requires c κs =
-    let names = names_of c in
-    let lines = lines_of_lem names.before in
-    totals_room lines.put-lines.ensures (long lines) (kept names) names.put-names.ensures.1
+    let lines = c.before.before.before in
+    totals_room lines.put-lines.ensures (long lines)
 
 same_length : tie.Need-same-length
 same_length c = search rules
@@ -92,20 +74,16 @@ returns c =
 same_length_2 : tie.Need-same-length-2
 same_length_2 c = search rules
 
-same_length_3 : tie.Need-same-length-3
-same_length_3 c = search rules
-
 returns_2 : tie.Need-returns-2
 returns_2 c =
-    let three = c.before.before in
-    let names = names_of three.before in
-    let lines = lines_of_lem names.before in
+    let put = c.before.before in
+    let lines = put.before.before.before.before in
     let k = lines.before.before.before in
-    let done = page_put lines.put-lines.ensures (long lines) (is-sound k) (same lines) names.put-names.ensures.0 three.put_three.ensures in
+    let done = page_put lines.put-lines.ensures (long lines) (is-sound k) (same lines) put.put_three.ensures in
     (done, put_counts done (omega arith))
 
 pub put-page-spec : {M : Type 1} → statement M
 put-page-spec =
     tie.close
-    (tie.spec open-store-requires enum-known-n put-number-requires enum-known-used put-lines-requires put-names-requires put-three-requires same_length
-    returns same_length_2 same_length_3 returns_2)
+    (tie.spec open-store-requires enum-known-n put-number-requires enum-known-used put-lines-requires put-three-requires same_length returns
+    same_length_2 returns_2)

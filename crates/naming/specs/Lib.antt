@@ -1,2 +1,0 @@
--- What putting the lines of AIDs named but not created requires and ensures.
-pub mod Says
