@@ -1,4 +1,6 @@
 // Bit sets and fields of a width over bytes: bit i is bit i % 8 of byte i / 8, field i of w bits has the bits from i * w on.
+#![tactic(auto)]
+
 ghost use Rattle.std.specs.Prelude.{◌≡◌, true, false, ℕ, ◌+◌, ◌*◌, ◌/◌, ◌^◌, ◌<◌, ◌≤◌, length};
 ghost use Rattle.bits.specs.Bits.{power_of, bit_at, with_bit, WithinIs, two_at, field_at, with_field, PutIs};
 

@@ -26,11 +26,11 @@ or_right : (b c : Bool) → T c → T (b || c)
 or_right true c k = tt
 or_right false c k = k
 
-listed_any : (d : Aid) (xs : List Item) (a : Aid) (x : Item) → Memᴰ x xs → a ≡ item_means d x → T (any (same a) (map (item_means d) xs))
-listed_any d _ a x (Memᴰ.head {x = y} {xs = ys} e) h =
+listed_any : (d a : Aid) (x : Item) (xs : List Item) → Memᴰ x xs → a ≡ item_means d x → T (any (same a) (map (item_means d) xs))
+listed_any d a x _ (Memᴰ.head {x = y} {xs = ys} e) h =
     let t : same a (item_means d y) ≡ true = is_true _ (rw (h, e) (same_refl (item_means d y))) in rw t tt
-listed_any d _ a x (Memᴰ.tail {x = y} {xs = ys} m) h =
-    or_right (same a (item_means d y)) (any (same a) (map (item_means d) ys)) (listed_any d ys a x m h)
+listed_any d a x _ (Memᴰ.tail {x = y} {xs = ys} m) h =
+    or_right (same a (item_means d y)) (any (same a) (map (item_means d) ys)) (listed_any d a x ys m h)
 
 module _ (m : MethodAt) (a : Aid) where
   -- the domain that the method's package lies in
@@ -50,8 +50,8 @@ module _ (m : MethodAt) (a : Aid) where
 
   pub says_allows : Allowing m a → T (allows m a)
   says_allows (by_ff e) = rw e tt
-  says_allows (by_index xs e i) = rw e (listed_any home xs a (listed a) i refl)
-  says_allows (by_fe xs e i z) = rw e (listed_any home xs a own_domain i z)
+  says_allows (by_index xs e i) = rw e (listed_any home a (listed a) xs i refl)
+  says_allows (by_fe xs e i z) = rw e (listed_any home a own_domain xs i z)
 
 -- in a package that lies in d, FE and d by an index are one right
 pub own_by_index : (d : Aid) (xs ys : List Item) → meant d (only (xs ++ own_domain ∷ ys)) ≡ meant d (only (xs ++ listed d ∷ ys))

@@ -38,26 +38,26 @@ created_entry es a h =
 pub entry_created : (es : List Entry) (k : DomainKind) (a : Aid) → Memᴰ (domain k a) es → T (any (same a) (domains es))
 entry_created es k a m = any_mem (same a) (same_refl a) (flat_mem domain_of (domain k a) a es m (Memᴰ.head refl))
 
-mem_at : (es : List Entry) (x : Entry) → Memᴰ x es → (i : ℕ) × (at es i ≡ some x)
-mem_at es x (Memᴰ.head e) = (0, ap some (sym e))
-mem_at es x (Memᴰ.tail {xs = xs} m) = let r = mem_at xs x m in (suc r.0, r.1)
+mem_at : (x : Entry) (es : List Entry) → Memᴰ x es → (i : ℕ) × (at es i ≡ some x)
+mem_at x es (Memᴰ.head e) = (0, ap some (sym e))
+mem_at x es (Memᴰ.tail {xs = xs} m) = let r = mem_at x xs m in (suc r.0, r.1)
 
 module _ (v : Opening) (n : ℕ) where
   -- a domain among the later entries is new to the earlier ones
-  later_new : (pre rest : List Entry) → T (accepted_all v n pre rest) → (k h : DomainKind) (a : Aid) → Memᴰ (domain k a) rest →
+  later_new : (k h : DomainKind) (a : Aid) (pre rest : List Entry) → T (accepted_all v n pre rest) → Memᴰ (domain k a) rest →
       Memᴰ (domain h a) pre → ⊥
   unfolding q4_new
-  later_new pre rest t k h a (Memᴰ.head {x = x} {xs = xs} e) m =
+  later_new k h a pre rest t (Memᴰ.head {x = x} {xs = xs} e) m =
       let y : T (accepted v n pre (domain k a)) = subst (λ (z : Entry). T (accepted v n pre z)) (sym e) (and_l (accepted v n pre x) _ t) in
       T_not (any (same a) (domains pre)) (create_yes v n pre k a (eqb→eq _ 0 y)).q4 (entry_created pre h a m)
-  later_new pre rest t k h a (Memᴰ.tail {x = x} {xs = xs} l) m =
-      later_new (pre ++ x ∷ []) xs (and_r (accepted v n pre x) _ t) k h a l (Memᴰ.append_left (x ∷ []) m)
+  later_new k h a pre rest t (Memᴰ.tail {x = x} {xs = xs} l) m =
+      later_new k h a (pre ++ x ∷ []) xs (and_r (accepted v n pre x) _ t) l (Memᴰ.append_left (x ∷ []) m)
 
   -- an entry's AID is no later domain's
   first_only : (pre : List Entry) (x : Entry) (rest : List Entry) → T (accepted_all v n pre (x ∷ rest)) → (k h : DomainKind) (a : Aid) →
       domain k a ≡ x → Memᴰ (domain h a) rest → ⊥
   first_only pre x rest t k h a e m =
-      later_new (pre ++ x ∷ []) rest (and_r (accepted v n pre x) _ t) h k a m (Memᴰ.append_right pre (Memᴰ.head e))
+      later_new h k a (pre ++ x ∷ []) rest (and_r (accepted v n pre x) _ t) m (Memᴰ.append_right pre (Memᴰ.head e))
 
   -- one domain for an AID
   once : (pre rest : List Entry) → T (accepted_all v n pre rest) → (i j : ℕ) (k h : DomainKind) (a : Aid) →
@@ -71,12 +71,12 @@ module _ (v : Opening) (n : ℕ) where
   once pre (x ∷ rest) t (suc i) (suc j) k h a p q = ap suc (once (pre ++ x ∷ []) rest (and_r (accepted v n pre x) _ t) i j k h a p q)
 
   -- an entry was accepted over earlier ones
-  accepted_there : (pre rest : List Entry) → T (accepted_all v n pre rest) → (x : Entry) → Memᴰ x rest →
+  accepted_there : (x : Entry) (pre rest : List Entry) → T (accepted_all v n pre rest) → Memᴰ x rest →
       (es : List Entry) × T (accepted v n es x) × ((y : Entry) → Memᴰ y es → Memᴰ y (pre ++ rest))
-  accepted_there pre rest t x (Memᴰ.head {x = z} {xs = zs} e) =
+  accepted_there x pre rest t (Memᴰ.head {x = z} {xs = zs} e) =
       (pre, subst (λ (y : Entry). T (accepted v n pre y)) (sym e) (and_l (accepted v n pre z) _ t), λ y m. Memᴰ.append_left (z ∷ zs) m)
-  accepted_there pre rest t x (Memᴰ.tail {x = z} {xs = zs} l) =
-      let r = accepted_there (pre ++ z ∷ []) zs (and_r (accepted v n pre z) _ t) x l in
+  accepted_there x pre rest t (Memᴰ.tail {x = z} {xs = zs} l) =
+      let r = accepted_there x (pre ++ z ∷ []) zs (and_r (accepted v n pre z) _ t) l in
       (r.0, r.1, λ y m. subst (Memᴰ y) (append_assoc pre (z ∷ []) zs) (r.2 y m))
 
   -- after the deletion of a domain none has its AID
@@ -103,8 +103,8 @@ module _ (v : Opening) (n : ℕ) (es : List Entry) (sound : T (sound_entries v n
 
   one_kind : (k h : DomainKind) (a : Aid) → Memᴰ (domain k a) es → Memᴰ (domain h a) es → k ≡ h
   one_kind k h a p q =
-      let i = mem_at es (domain k a) p in
-      let j = mem_at es (domain h a) q in
+      let i = mem_at (domain k a) es p in
+      let j = mem_at (domain h a) es q in
       let e : i.0 ≡ j.0 = one_domain i.0 j.0 k h a i.1 j.1 in
       kinds_same (some-injective _ _ (sym i.1 ∙ ap (at es) e ∙ j.1))
     where
@@ -124,7 +124,7 @@ module _ (v : Opening) (n : ℕ) (es : List Entry) (sound : T (sound_entries v n
       read_file (opening_limits v) f ≡ some p → WithoutInt p
   unfolding sound_entries q5_created
   kept_without d f p m w r =
-      let x = accepted_there v n [] es sound (loaded d f) m in
+      let x = accepted_there v n (loaded d f) [] es sound m in
       let y = load_yes v n x.0 d f (eqb→eq _ 0 x.1) in
       let c = created_entry x.0 d y.1.q5 in
       let k : c.0 ≡ without_int = one_kind c.0 without_int d (x.2 (domain c.0 d) c.1) w in

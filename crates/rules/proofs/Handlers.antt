@@ -21,11 +21,15 @@ mem_all q (x ∷ xs) h = and_i (q x) (all q xs) (h x (Memᴰ.head refl)) (mem_al
 
 -- a question of every method, by its number of no account
 module _ (q : Method → Bool) where
+  each_from : (k : Class) (i : ℕ) (ks : List Class) → T (all_from (λ j k. all q k.methods) i ks) →
+      Memᴰ k ks → (m : Method) → Memᴰ m k.methods → T (q m)
+  each_from k i ks h (Memᴰ.head {x = x} {xs = rest} e) m n =
+      all_mem q (and_l (all q x.methods) _ h) (subst (λ (c : Class). Memᴰ m c.methods) e n)
+  each_from k i ks h (Memᴰ.tail {x = x} {xs = rest} t) m n = each_from k (suc i) rest (and_r (all q x.methods) _ h) t m n
+
   pub methods_each : (i : ℕ) (ks : List Class) → T (all_from (λ j k. all q k.methods) i ks) →
       (k : Class) → Memᴰ k ks → (m : Method) → Memᴰ m k.methods → T (q m)
-  methods_each i ks h k (Memᴰ.head {x = x} {xs = rest} e) m n =
-      all_mem q (and_l (all q x.methods) _ h) (subst (λ (c : Class). Memᴰ m c.methods) e n)
-  methods_each i ks h k (Memᴰ.tail {x = x} {xs = rest} t) m n = methods_each (suc i) rest (and_r (all q x.methods) _ h) k t m n
+  methods_each i ks h k = each_from k i ks h
 
   pub each_methods : (i : ℕ) (ks : List Class) → ((k : Class) → Memᴰ k ks → (m : Method) → Memᴰ m k.methods → T (q m)) →
       T (all_from (λ j k. all q k.methods) i ks)

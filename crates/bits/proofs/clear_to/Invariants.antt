@@ -1,0 +1,14 @@
+-- `bits::clear_to` meets its contract. Assumes nothing.
+use Prim.Native.Nat.{ℕ, ◌-◌, ◌/◌, ◌<◌, ◌≤◌}
+use mathlib.Core.Path.{◌≡◌}
+use native.Mathlib.Omega.{arith}
+use lib.ListN.{length, get_or, length-set}
+use borrow.Author.Rules.{rules}
+use Rattle.bits.proofs.Bits.{zero_bit, zeros_more}
+use Rattle.bits.proofs.clear_to.Given as goal
+
+abbrev pub invariant-loop-i : goal.invariant-loop-i
+invariant-loop-i l = (length l.s ≡ length l.initial.s) × (l.i ≤ l.n) × (l.n ≤ length l.s) × ((k : ℕ) → k < l.i → get_or l.s k 0 ≡ 0)
+
+abbrev pub decreases-loop-i : goal.decreases-loop-i
+decreases-loop-i l = l.n - l.i
