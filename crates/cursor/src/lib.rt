@@ -1,4 +1,6 @@
 // AIDs, and a reading cursor by value over a lent file: each method hands back the field and the next cursor.
+#![tactic(auto)]
+
 ghost use Rattle.std.specs.Prelude.{◌≡◌, ◌≤◌, length};
 ghost use Rattle.rules.specs.Bytes.{aid_length, u1, u2, aid, span, counted, same};
 ghost use Rattle.rules.specs.Package.{standard};
@@ -7,7 +9,7 @@ ghost use Rattle.cursor.specs.Limits.{limits_of};
 ghost use Rattle.cursor.specs.Says.{Says, Stops, itself, field_said, aid_said, skip_said};
 
 // What a card series may change: the greatest depth, parent count and code length.
-#[derive(Drop)]
+#[derive(Clone, Copy)]
 pub struct Limits {
     pub depth: usize,
     pub parents: usize,
@@ -28,14 +30,14 @@ impl Limits {
 }
 
 // An AID: its bytes, zeros behind them, and how many they are.
-#[derive(Drop)]
+#[derive(Clone, Copy)]
 pub struct Aid {
     pub bytes: [u8; 16],
     pub len: usize,
 }
 
 // What the constructor answers. Where `ok` is false the AID has no bytes.
-#[derive(Drop)]
+#[derive(Clone, Copy)]
 pub struct AidMade {
     pub ok: bool,
     pub aid: Aid,
@@ -106,31 +108,31 @@ impl Aid {
 }
 
 // A place in a file: how many bytes stand before it.
-#[derive(Drop)]
+#[derive(Clone, Copy)]
 pub struct FilePlace(pub usize);
 
 // Where a reading stands.
-#[derive(Drop)]
+#[derive(Clone, Copy)]
 pub struct Cursor {
     pub at: FilePlace,
 }
 
 // A number that was read, or the count of a list that was, and the cursor behind it.
-#[derive(Drop)]
+#[derive(Clone, Copy)]
 pub enum Field {
     Is(usize, Cursor),
     Bad,
 }
 
 // An AID that was read: where its bytes start, its length, and the cursor behind it.
-#[derive(Drop)]
+#[derive(Clone, Copy)]
 pub enum AidField {
     Is(FilePlace, usize, Cursor),
     Bad,
 }
 
 // The cursor behind what was read over.
-#[derive(Drop)]
+#[derive(Clone, Copy)]
 pub enum Skip {
     To(Cursor),
     Bad,

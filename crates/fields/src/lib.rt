@@ -1,4 +1,6 @@
 // Fields of bytes: what every reader of a file, a code or a store shares.
+#![tactic(auto)]
+
 ghost use Rattle.std.specs.Prelude.{◌≡◌, ◌+◌, ◌*◌, ◌<◌, ◌≤◌, length};
 ghost use Rattle.rules.specs.Bytes.{same};
 ghost use Rattle.rules.specs.Code.{u2_at, u4_at};

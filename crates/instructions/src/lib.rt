@@ -1,4 +1,6 @@
 // Instructions: the table of their lengths, the entries of switches, the opcodes that may come last, and the subset without int.
+#![tactic(auto)]
+
 mod lengths;
 pub mod subset;
 

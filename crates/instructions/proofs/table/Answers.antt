@@ -3,12 +3,8 @@ use mathlib.Core.Path.{refl}
 use Rattle.rules.specs.Code.{length_of}
 use Rattle.instructions.specs.Table.{switch_of, branch_bytes}
 use Rattle.instructions.proofs.Rule.{right, right_form, is_plain, carried}
-use Rattle.instructions.proofs.table.Statement.{statement}
-use Rattle.instructions.proofs.table.Tie as tie
+use Rattle.instructions.proofs.table.Goals as goal
 
-returns : tie.Need-returns
+pub returns : goal.returns
 unfolding right right_form is_plain switch_of branch_bytes length_of
 returns c = carried _ refl tt
-
-pub table-spec : {M : Type 1} → statement M
-table-spec = tie.close (tie.spec returns)

@@ -4,12 +4,8 @@ use Rattle.rules.specs.Subset.{barred_opcode}
 use Rattle.rules.specs.Table.{length_table}
 use Rattle.bits.specs.Bits.{power_of, bit_at}
 use Rattle.instructions.proofs.Barred.{right_bit, set_carried}
-use Rattle.instructions.proofs.subset.barred.Statement.{statement}
-use Rattle.instructions.proofs.subset.barred.Tie as tie
+use Rattle.instructions.proofs.subset.barred.Goals as goal
 
-returns : tie.Need-returns
+pub returns : goal.returns
 unfolding right_bit bit_at power_of barred_opcode length_table
 returns c = (set_carried _ tt, refl)
-
-pub barred-spec : {M : Type 1} → statement M
-barred-spec = tie.close (tie.spec returns)
