@@ -1,4 +1,6 @@
 // One package file, walked by places. Each function takes the file as a slice and a place in it.
+#![tactic(auto)]
+
 ghost use Rattle.std.specs.Prelude.{◌≡◌};
 ghost use Rattle.rules.specs.Bytes.{aid};
 ghost use Rattle.places.specs.Reads.{Ends, EndsAt};
@@ -7,14 +9,14 @@ ghost use Rattle.files.specs.Say.{Aids, AfterAids, AidNth, AidBytes, AidIs, Refe
 use fields::{same_bytes, says_second, u2_at, wide};
 
 // A place, or none.
-#[derive(Drop)]
+#[derive(Clone, Copy)]
 pub enum Spot {
     At(usize),
     Nothing,
 }
 
 // A reference's package number, class number and name, or none.
-#[derive(Drop)]
+#[derive(Clone, Copy)]
 pub enum Referenced {
     To(usize, usize, usize),
     Nothing,

@@ -1,5 +1,7 @@
 // What a policy allows in the domain of its entry: a policy stands in a file at one place, the domains that its indexes count at another,
 // and index FE means the domain that the file's package lies in.
+#![tactic(auto)]
+
 pub mod rows;
 
 ghost use Rattle.std.specs.Prelude.{◌≡◌, ◌≤◌};
@@ -13,14 +15,14 @@ use fields::{same_bytes, wide};
 use files::{Spot, after_aid, aid_bytes, aid_is, nth_aid};
 
 // Where a method's rights stand in its file: the list of domains, and the policy over it.
-#[derive(Drop)]
+#[derive(Clone, Copy)]
 pub struct RightsPlace {
     pub domains: usize,
     pub policy: usize,
 }
 
 // Two lists of domains: the one that numbers are of, the one whose slots are numbered, and where the numbers stand in a row.
-#[derive(Drop)]
+#[derive(Clone, Copy)]
 pub struct TwoLists {
     pub own: usize,
     pub other: usize,

@@ -1,4 +1,6 @@
 // Refusals: of two answers the one that a load gives first.
+#![tactic(auto)]
+
 ghost use Rattle.std.specs.Prelude.{◌≡◌};
 ghost use Rattle.refusals.specs.Order.{rank, first_of};
 

@@ -29,7 +29,7 @@ typed c = sym c.has_type.ensures ∙ not-false _ c.if-not-has_type.false-raw
 
 pub bounds-code-at-2 : goal.bounds-code-at-2
 bounds-code-at-2 c =
-    type_room c.args.code.now c.args.at b.pre.1 (typed (goal.at.bounds-code-at-2 c).Else-not-has_type)
+    type_room c.args.code.now c.args.at c.requires.1 (typed (goal.at.bounds-code-at-2 c).Else-not-has_type)
 
 pub returns : goal.returns
 returns c =

@@ -1,0 +1,11 @@
+-- `files::is_static` meets its contract: the bit of weight 20. Assumes nothing.
+use native.Mathlib.Omega.{arith}
+use borrow.Author.Rules.{rules}
+use Rattle.files.proofs.Steps as steps
+use Rattle.files.proofs.is_static.Goals as goal
+
+pub bounds-s-at : goal.bounds-s-at
+bounds-s-at c = omega (arith, steps.method_in_lem c.requires)
+
+pub returns : goal.returns
+returns c = steps.method_static c.wide.ensures.0

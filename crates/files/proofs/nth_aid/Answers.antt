@@ -1,0 +1,43 @@
+-- `files::nth_aid` meets its contract: the loop passes one AID a turn, counting the number down. Assumes nothing.
+use native.Mathlib.Omega.{arith}
+use borrow.Author.Rules.{rules}
+use Rattle.rules.specs.Bytes.{at}
+use Rattle.files.proofs.Loops as loops
+use Rattle.files.proofs.Steps as steps
+use Rattle.files.proofs.nth_aid.Goals as goal
+use Rattle.files.proofs.nth_aid.Goals.{At-loop-left, In-loop-left}
+
+pub bounds-s-at : goal.bounds-s-at
+bounds-s-at c = steps.aids_in c.requires
+
+pub overflow_add-c : goal.overflow_add-c
+overflow_add-c c =
+    let pre = c.requires in
+    omega (arith, steps.aids_in pre)
+
+pub loop-left-init : goal.loop-left-init
+loop-left-init c = loops.aids_start c.wide-left.ensures.0
+
+pub returns-then-j-eq0 : goal.returns-then-j-eq0
+returns-then-j-eq0 c = loops.aids_hit c.loop-left.invariant c.loop-left-test.true c.if-j-eq0.true
+
+pub after_aid-c-requires : goal.after_aid-c-requires
+after_aid-c-requires c =
+    let pre = c.requires in
+    loops.aids_here c.loop-left.invariant c.loop-left-test.true pre
+
+pub overflow_sub-left : goal.overflow_sub-left
+overflow_sub-left c = omega arith
+
+pub overflow_sub-j : goal.overflow_sub-j
+overflow_sub-j c = omega arith
+
+pub loop-left-smaller : goal.loop-left-smaller
+loop-left-smaller c = omega arith
+
+pub loop-left-preserved : goal.loop-left-preserved
+loop-left-preserved c =
+    loops.aids_miss c.loop-left.invariant c.loop-left-test.true c.if-j-eq0.false c.after_aid-c.ensures
+
+pub returns : goal.returns
+returns c = loops.aids_none c.loop-left.invariant c.loop-left-test.false

@@ -1,0 +1,62 @@
+-- `policies::listed_domain` meets its contract: the loop passes one domain a turn, and none passed is x and listed. Assumes nothing.
+use native.Mathlib.Omega.{arith}
+use mathlib.Core.Path.{sym, ◌∙◌}
+use borrow.Author.Rules.{rules}
+use Rattle.rules.specs.Bytes.{aid}
+use Rattle.places.specs.Reads.{Ends}
+use Rattle.files.proofs.Steps as steps
+use Rattle.files.proofs.Loops as loops
+use Rattle.policies.proofs.Rules as rules
+use Rattle.policies.proofs.Listed as listed
+use Rattle.policies.proofs.listed_domain.Goals as goal
+use Rattle.policies.proofs.listed_domain.Goals.{After-listed_as, In-loop-left, Start}
+
+-- the domain at hand
+here : (k : In-loop-left) → Ends aid k.args.s.now k.loop-left.c
+here k = loops.aids_here k.loop-left.invariant.walk k.loop-left-test.true (rules.over_aids k.requires.0)
+
+pub bounds-s-domains : goal.bounds-s-domains
+bounds-s-domains c =
+    let pre = c.requires in
+    steps.aids_in (rules.over_aids pre.0)
+
+pub overflow_add-c : goal.overflow_add-c
+overflow_add-c c =
+    let pre = c.requires in
+    omega (arith, steps.aids_in (rules.over_aids pre.0))
+
+pub loop-left-init : goal.loop-left-init
+loop-left-init c =
+    let o = c.requires.0 in
+    listed.listed_start c.args.at c.args.x.now (o.0, o.1, o.2) c.wide-left.ensures.0
+
+pub listed_as-requires : goal.listed_as-requires
+listed_as-requires c = (here c, rules.over_indexes o.0 o.1)
+
+pub returns-then-listed_as : goal.returns-then-listed_as
+returns-then-listed_as c =
+    let q = c.listed_as.ensures in
+    listed.listed_hit c.args.at c.args.x.now c.loop-left.invariant c.loop-left-test.true (λ a j p. sym c.if-listed_as.true ∙ q a j p)
+
+pub after_aid-c-requires : goal.after_aid-c-requires
+after_aid-c-requires c = here (goal.at.after_aid-c-requires c).In-loop-left
+
+pub overflow_add-k : goal.overflow_add-k
+overflow_add-k c =
+    omega (arith, c.loop-left.invariant.few)
+
+pub overflow_sub-left : goal.overflow_sub-left
+overflow_sub-left c = omega arith
+
+pub loop-left-smaller : goal.loop-left-smaller
+loop-left-smaller c = omega arith
+
+pub loop-left-preserved : goal.loop-left-preserved
+loop-left-preserved c =
+    let q = c.listed_as.ensures in
+    listed.listed_miss c.args.at c.args.x.now c.loop-left.invariant c.loop-left-test.true
+    (λ a j p. sym c.if-listed_as.false ∙ q a j p) c.after_aid-c.ensures
+
+pub returns : goal.returns
+returns c =
+    listed.listed_none c.args.at c.args.x.now c.loop-left.invariant c.loop-left-test.false
