@@ -1,4 +1,6 @@
 // Question 19 by the numbers of domains: the loading domain and what the caller lists are looked for in the list of what is called.
+#![tactic(auto)]
+
 ghost use Rattle.std.specs.Prelude.{◌≤◌, ◌<◌, length};
 ghost use Rattle.policies.specs.Say.{own_slot, PolicyOver, HasSlot};
 ghost use Rattle.policies.specs.Numbers.{NumberIs};
@@ -11,7 +13,7 @@ use policies::rows::{has_bit, number_at, with_bit};
 use policies::{RightsPlace, TwoLists, listed_slot, slot};
 
 // A caller's policy, the policy of what it calls, and the number of the loading domain.
-#[derive(Drop)]
+#[derive(Clone, Copy)]
 pub struct Asked {
     pub caller: usize,
     pub called: usize,
@@ -19,7 +21,7 @@ pub struct Asked {
 }
 
 // A domain of the own list that a policy of the other file is asked for: its index, its number, and the policy.
-#[derive(Drop)]
+#[derive(Clone, Copy)]
 pub struct Wanted {
     pub index: usize,
     pub number: usize,
@@ -27,7 +29,7 @@ pub struct Wanted {
 }
 
 // A caller's policy, the policy of what it calls, and as bits numbers of domains that the latter lists.
-#[derive(Drop)]
+#[derive(Clone, Copy)]
 pub struct Listing {
     pub caller: usize,
     pub called: usize,

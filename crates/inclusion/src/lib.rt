@@ -1,5 +1,7 @@
 // Whether one method's policy allows all that another's allows, by indexes or by the numbers of their domains; by AIDs only where neither
 // tells it. A row keeps the numbers that were found.
+#![tactic(auto)]
+
 pub mod order;
 
 ghost use Rattle.std.specs.Prelude.{◌≡◌, true, length};
@@ -15,7 +17,7 @@ use policies::rows::{has_bit, number_at};
 use policies::{RightsPlace, TwoLists, admits_all_of, slot};
 
 // A policy's indexes as bits, and where the list of domains stands that they count.
-#[derive(Drop)]
+#[derive(Clone, Copy)]
 pub struct Masked {
     pub domains: usize,
     pub bits: u64,

@@ -1,4 +1,6 @@
 // Question 15: do names differ within each class; is each static method implemented, each interface method neither?
+#![tactic(auto)]
+
 ghost use Rattle.std.specs.Prelude.{◌≤◌, ◌<◌, ◌≡◌, length};
 ghost use Rattle.rules.specs.Package.{most_methods};
 ghost use Rattle.files.specs.Say.{MethodThere, NameIs, ClassThere, Readable};

@@ -20,13 +20,16 @@ use Rattle.files.proofs.Loops.{AidLoop, aids_start}
 use Rattle.policies.specs.Numbers.{number_in, DomainsThere, NumberIs}
 
 -- the number of an element is below the length
-pub number_in_lem : (xs : List Aid) (a : Aid) → Memᴰ a xs → number_in xs a < length xs
-number_in_lem xs a (Memᴰ.head {x = y} {xs = ys} e) = let t : same a y ≡ true = is_true (same a y) (rw e (same_refl y)) in rw t (omega arith)
-number_in_lem xs a (Memᴰ.tail {x = y} {xs = ys} m) = go (same a y) (number_in_lem ys a m)
+below_length : (a : Aid) (xs : List Aid) → Memᴰ a xs → number_in xs a < length xs
+below_length a xs (Memᴰ.head {x = y} {xs = ys} e) = let t : same a y ≡ true = is_true (same a y) (rw e (same_refl y)) in rw t (omega arith)
+below_length a xs (Memᴰ.tail {x = y} {xs = ys} m) = go (same a y) (below_length a ys m)
   where
     go : (b : Bool) → number_in ys a < length ys → pick b 0 (suc (number_in ys a)) < suc (length ys)
     go true h = omega arith
     go false h = omega arith
+
+pub number_in_lem : (xs : List Aid) (a : Aid) → Memᴰ a xs → number_in xs a < length xs
+number_in_lem xs a = below_length a xs
 
 -- what has a number below the length stands there
 pub number_found : (xs : List Aid) (a : Aid) → number_in xs a < length xs → a ≡ get_or xs (number_in xs a) []

@@ -56,13 +56,16 @@ in_stand (suc k) s i es h e = elim (dec_le (length s) i) [
         subst (λ (l : List Entry). Entries s i l (length s)) (some-injective _ _ y.2) (more (by_entry s i x.0.0 (next_of s i) r.0) m)
 
 -- and the other way
+stand_to : (k : ℕ) (s : Bytes) (i : ℕ) (es : List Entry) (n : ℕ) → n ≡ length s → length es ≤ k → Entries s i es n → entries_in k (drop i s) ≡ some es
+stand_to k s i _ n e h (over g) = rw (drop_of_length-le s {i = i} (omega arith)) (entries_in_nil k)
+stand_to zero s i _ n e h (more {j = j} {e = x} {es = es} t r) = absurd (omega arith)
+stand_to (suc k) s i _ n e h (more {j = j} {e = x} {es = es} t r) =
+    let a = entry_later s i x j t in
+    let b = entries_to s j es n r in
+    entries_in_suc k (drop i s) (omega (arith, length-drop i s)) ∙ rw (t.is, stand_to k s j es n e (omega arith) r)
+
 pub stand_in : (k : ℕ) (s : Bytes) (i : ℕ) (es : List Entry) → length es ≤ k → Entries s i es (length s) → entries_in k (drop i s) ≡ some es
-stand_in k s _ _ h (over g) = rw (drop_of_length-le s {i = length s} (omega arith)) (entries_in_nil k)
-stand_in zero s i _ h (more {j = j} {e = e} {es = es} t r) = absurd (omega arith)
-stand_in (suc k) s i _ h (more {j = j} {e = e} {es = es} t r) =
-    let a = entry_later s i e j t in
-    let b = entries_to s j es (length s) r in
-    entries_in_suc k (drop i s) (omega (arith, length-drop i s)) ∙ rw (t.is, stand_in k s j es (omega arith) r)
+stand_in k s i es = stand_to k s i es (length s) refl
 
 -- what stands before a place stands in the bytes before it
 module _ (s : Bytes) (k : ℕ) (h : k ≤ length s) where
@@ -106,9 +109,12 @@ entries_first s i _ _ (over h) = over {i = i} (omega (arith, length-take-le i s 
 entries_first s i _ k (more {j = j} {e = e} {es = es} t r) = let b = entries_to s j es k r in more (entry_first s k b.1 i e j b.0 t)
     (entries_first s j es k r)
 
+entries_from : (s : Bytes) (k : ℕ) → k ≤ length s → (i : ℕ) (es : List Entry) (m : ℕ) → Entries (take k s) i es m → Entries s i es m
+entries_from s k h i _ _ (over g) = over {i = i} (omega (arith, length-take-le k s h))
+entries_from s k h i _ m (more {j = j} {e = e} {es = es} t r) = more (first_entry_lem s k h i e j t) (entries_from s k h j es m r)
+
 pub first_entries : (s : Bytes) (i : ℕ) (es : List Entry) (k m : ℕ) → k ≤ length s → Entries (take k s) i es m → Entries s i es m
-first_entries s i _ k _ h (over g) = over {i = i} (omega (arith, length-take-le k s h))
-first_entries s i _ k m h (more {j = j} {e = e} {es = es} t r) = more (first_entry_lem s k h i e j t) (first_entries s j es k m h r)
+first_entries s i es k m h = entries_from s k h i es m
 
 -- entries up to a place, as they are read and as they stand
 pub part_stand : (n : ℕ) (s : Bytes) (i k : ℕ) (es : List Entry) → i ≤ k → k ≤ length s → entries_in n (part s i k) ≡ some es → Entries s i es k

@@ -1,4 +1,6 @@
 // The store by its bytes: its opening, layout, entries at their places, what would fit.
+#![tactic(auto)]
+
 pub mod openings;
 pub mod subset;
 
@@ -14,21 +16,21 @@ ghost use Rattle.store.specs.Answers.{LayoutSays, NextSays, FillSays, PartAt, Sp
 use openings::{Opening, first_entry};
 
 // The used value of a store's layout, or that there is no such layout.
-#[derive(Drop)]
+#[derive(Clone, Copy)]
 pub enum Layout {
     Used(usize),
     Broken,
 }
 
 // The place behind an entry, or that none reads.
-#[derive(Drop)]
+#[derive(Clone, Copy)]
 enum Next {
     To(usize),
     Never,
 }
 
 // An entry by its places: the AID's first byte and its end; the domain's first byte, the file's first byte and its end.
-#[derive(Drop)]
+#[derive(Clone, Copy)]
 pub enum EntryPart {
     Domain(usize, usize),
     Package(usize, usize, usize),
@@ -36,14 +38,14 @@ pub enum EntryPart {
 }
 
 // From where up to where an entry stands.
-#[derive(Drop)]
+#[derive(Clone, Copy)]
 pub enum Spot {
     At(usize, usize),
     Nothing,
 }
 
 // A package: its entry's place, its file's first byte, the end of both.
-#[derive(Drop)]
+#[derive(Clone, Copy)]
 pub enum FileSpot {
     File(usize, usize, usize),
     Missing,

@@ -9,7 +9,7 @@ ghost use Rattle.store.specs.Openings.{opening_told};
 use cursor::Limits;
 
 // The opening of a buffer: version 1, version 2 with its limits, or neither.
-#[derive(Drop)]
+#[derive(Clone, Copy)]
 pub enum Opening {
     First,
     Second(Limits),

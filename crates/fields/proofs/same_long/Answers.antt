@@ -22,8 +22,7 @@ eight_at-requires-in-loop-i c = omega arith
 
 pub returns-then-eight_at : goal.returns-then-eight_at
 returns-then-eight_at c =
-    let i = c.loop-i.i in
-    sym (differ (λ s. eight_at s i) c.args.a.now c.args.b.now (λ e. c.if-eight_at.true (omega arith)))
+    sym (differ (λ s. eight_at s c.loop-i.i) c.args.a.now c.args.b.now (λ e. c.if-eight_at.true (omega arith)))
 
 pub overflow_add-i : goal.overflow_add-i
 overflow_add-i c = omega arith

@@ -15,10 +15,9 @@ pub returns-then-l-h : goal.returns-then-l-h
 unfolding bias
 returns-then-l-h c =
     let a = c.args in
-    let p = c.requires in
     let l : c.biased-l.result ≡ bias a.half a.low = c.biased-l.ensures.0 in
     let h : c.biased-h.result ≡ bias a.half a.high = c.biased-h.ensures.0 in (
-      numbers_some a.half a.low a.high p.0 p.1 (omega arith) ∙ number_one (bias a.half a.high - bias a.half a.low)
+      numbers_some a.half a.low a.high c.requires.0 c.requires.1 (omega arith) ∙ number_one (bias a.half a.high - bias a.half a.low)
           (c.biased-h.result - c.biased-l.result) (omega arith),
       omega arith,
     )
@@ -27,7 +26,6 @@ pub returns-else-l-h : goal.returns-else-l-h
 unfolding bias
 returns-else-l-h c =
     let a = c.args in
-    let p = c.requires in
     let l : c.biased-l.result ≡ bias a.half a.low = c.biased-l.ensures.0 in
     let h : c.biased-h.result ≡ bias a.half a.high = c.biased-h.ensures.0 in
-    (numbers_none a.half a.low a.high p.0 p.1 (omega arith), omega arith)
+    (numbers_none a.half a.low a.high c.requires.0 c.requires.1 (omega arith), omega arith)

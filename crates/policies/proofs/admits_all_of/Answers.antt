@@ -10,7 +10,7 @@ use borrow.Author.Tests.{lt-ltb, le-ltb}
 use Rattle.policies.specs.Say.{slot_of, HasSlot, SlotIs, Admits}
 use Rattle.policies.proofs.Rules as rules
 use Rattle.policies.proofs.admits_all_of.Goals as goal
-use Rattle.policies.proofs.admits_all_of.Goals.{After-listed-slot, After-listed_slot, After-slot, After-slot-aid, After-slot_aid-x, At-loop-left, Else-left-eq255, Else-wide-eq255, In-loop-left, Start}
+use Rattle.policies.proofs.admits_all_of.Goals.{After-listed_slot, After-slot, After-slot_aid-x, At-loop-left, Else-left-eq255, Else-wide-eq255, In-loop-left, Start}
 
 -- the second policy is not FF, nor is the first
 listed : (k : Else-left-eq255) →
@@ -29,7 +29,7 @@ index : (k : In-loop-left) →
     (k.loop-left.c < length a.t.now) × HasSlot a.t.now a.q.domains (slot_of (get_or a.t.now k.loop-left.c 0))
 index k =
     rules.index_here k.args.own.now k.args.other.now k.args.q.policy k.loop-left.invariant (listed (goal.at.In-loop-left k).Else-left-eq255)
-    k.loop-left-test.true k.requires.0 k.requires.1
+    k.loop-left-test.true k.requires.policy_over k.requires.policy_over_2
 
 -- its slot
 index_slot : (k : After-slot) →
@@ -37,15 +37,15 @@ index_slot : (k : After-slot) →
 index_slot k = k.slot.ensures ∙ ap slot_of k.wide-in-loop-left.ensures.0
 
 -- what it stands for
-stands : (k : After-slot-aid) →
+stands : (k : After-slot_aid-x) →
     let a = k.args in
     SlotIs a.t.now a.q.domains a.other.now (slot_of (get_or a.t.now k.loop-left.c 0)) k.slot_aid-x.result.now
 stands k =
     let a = k.args in
-    subst (λ (n : ℕ). SlotIs a.t.now a.q.domains a.other.now n k.slot_aid-x.result.now) (index_slot (goal.at.After-slot-aid k).Start) k.slot_aid-x.ensures
+    subst (λ (n : ℕ). SlotIs a.t.now a.q.domains a.other.now n k.slot_aid-x.result.now) (index_slot (goal.at.After-slot_aid-x k).After-slot) k.slot_aid-x.ensures
 
 -- whether that is allowed
-answer : (k : After-listed-slot) (r : Bool) → ltb k.listed_slot.result 33 ≡ r →
+answer : (k : After-listed_slot) (r : Bool) → ltb k.listed_slot.result 33 ≡ r →
     let a = k.args in
     Admits a.s.now a.p.domains a.own.now a.p.policy k.slot_aid-x.result.now r
 answer k r e =
@@ -53,7 +53,7 @@ answer k r e =
     subst (Admits a.s.now a.p.domains a.own.now a.p.policy k.slot_aid-x.result.now) e k.listed_slot.ensures.answer
 
 pub bounds-s-at : goal.bounds-s-at
-bounds-s-at c = rules.over_in c.requires.0
+bounds-s-at c = rules.over_in c.requires.policy_over
 
 pub returns-then-wide-eq255 : goal.returns-then-wide-eq255
 returns-then-wide-eq255 c =
@@ -61,7 +61,7 @@ returns-then-wide-eq255 c =
     rules.all_every a.own.now a.other.now (sym c.wide.ensures.0 ∙ c.if-wide-eq255.true)
 
 pub bounds-t-v : goal.bounds-t-v
-bounds-t-v c = rules.over_in c.requires.1
+bounds-t-v c = rules.over_in c.requires.policy_over_2
 
 pub returns-then-left-eq255 : goal.returns-then-left-eq255
 returns-then-left-eq255 c =
@@ -69,7 +69,7 @@ returns-then-left-eq255 c =
     rules.all_within a.own.now a.other.now (first (goal.at.returns-then-left-eq255 c).Else-wide-eq255) (sym c.wide-left.ensures.0 ∙ c.if-left-eq255.true)
 
 pub overflow_add-c : goal.overflow_add-c
-overflow_add-c c = omega (arith, rules.over_in c.requires.1)
+overflow_add-c c = omega (arith, rules.over_in c.requires.policy_over_2)
 
 pub loop-left-init : goal.loop-left-init
 loop-left-init c =
@@ -84,7 +84,7 @@ slot_aid-x-requires c = rw (index_slot c) (index (goal.at.slot_aid-x-requires c)
 
 pub listed_slot-requires : goal.listed_slot-requires
 listed_slot-requires c =
-    (c.requires.0, first (goal.at.listed_slot-requires c).Else-wide-eq255)
+    (c.requires.policy_over, first (goal.at.listed_slot-requires c).Else-wide-eq255)
 
 pub returns-then-listed_slot-gt32 : goal.returns-then-listed_slot-gt32
 returns-then-listed_slot-gt32 c =

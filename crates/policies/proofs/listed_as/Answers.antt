@@ -6,7 +6,7 @@ use Rattle.policies.proofs.listed_as.Goals as goal
 use Rattle.policies.proofs.listed_as.Goals.{After-aid_is}
 
 pub aid_is-requires : goal.aid_is-requires
-aid_is-requires c = c.requires.0
+aid_is-requires c = c.requires.ends
 
 pub returns-then-not-aid_is : goal.returns-then-not-aid_is
 returns-then-not-aid_is c =
@@ -16,8 +16,7 @@ returns-then-not-aid_is c =
 
 pub lists-requires : goal.lists-requires
 lists-requires c =
-    let pre = c.requires in
-    pre.1
+    c.requires.indexes_there
 
 pub returns : goal.returns
 returns c =

@@ -17,26 +17,22 @@ here k = loops.aids_here k.loop-left.invariant.walk k.loop-left-test.true (rules
 
 pub bounds-s-domains : goal.bounds-s-domains
 bounds-s-domains c =
-    let pre = c.requires in
-    steps.aids_in (rules.over_aids pre.0)
+    steps.aids_in (rules.over_aids c.requires.0)
 
 pub overflow_add-c : goal.overflow_add-c
 overflow_add-c c =
-    let pre = c.requires in
-    omega (arith, steps.aids_in (rules.over_aids pre.0))
+    omega (arith, steps.aids_in (rules.over_aids c.requires.0))
 
 pub loop-left-init : goal.loop-left-init
 loop-left-init c =
-    let o = c.requires.0 in
-    listed.listed_start c.args.at c.args.x.now (o.0, o.1, o.2) c.wide-left.ensures.0
+    listed.listed_start c.args.at c.args.x.now (c.requires.0.0, c.requires.0.1, c.requires.0.2) c.wide-left.ensures.0
 
 pub listed_as-requires : goal.listed_as-requires
-listed_as-requires c = (here c, rules.over_indexes o.0 o.1)
+listed_as-requires c = record { ends = here c; indexes_there = rules.over_indexes c.requires.0 c.requires.1 }
 
 pub returns-then-listed_as : goal.returns-then-listed_as
 returns-then-listed_as c =
-    let q = c.listed_as.ensures in
-    listed.listed_hit c.args.at c.args.x.now c.loop-left.invariant c.loop-left-test.true (λ a j p. sym c.if-listed_as.true ∙ q a j p)
+    listed.listed_hit c.args.at c.args.x.now c.loop-left.invariant c.loop-left-test.true (λ a j p. sym c.if-listed_as.true ∙ c.listed_as.ensures a j p)
 
 pub after_aid-c-requires : goal.after_aid-c-requires
 after_aid-c-requires c = here (goal.at.after_aid-c-requires c).In-loop-left
@@ -53,9 +49,8 @@ loop-left-smaller c = omega arith
 
 pub loop-left-preserved : goal.loop-left-preserved
 loop-left-preserved c =
-    let q = c.listed_as.ensures in
     listed.listed_miss c.args.at c.args.x.now c.loop-left.invariant c.loop-left-test.true
-    (λ a j p. sym c.if-listed_as.false ∙ q a j p) c.after_aid-c.ensures
+    (λ a j p. sym c.if-listed_as.false ∙ c.listed_as.ensures a j p) c.after_aid-c.ensures
 
 pub returns : goal.returns
 returns c =

@@ -21,7 +21,7 @@ returns-then-not-same_bytes c =
     (sym c.same_bytes.ensures ∙ not-true c.same_bytes.result c.if-not-same_bytes.true-raw)
 
 pub lists-requires : goal.lists-requires
-lists-requires c = let o = c.requires in rules.over_indexes o.0 o.1
+lists-requires c = rules.over_indexes c.requires.0 c.requires.1
 
 pub returns-then-lists : goal.returns-then-lists
 returns-then-lists c =

@@ -12,13 +12,11 @@ use Rattle.policies.proofs.number_of.Goals.{After-aid_is, After-loop-left, At-lo
 
 pub bounds-f-u : goal.bounds-f-u
 bounds-f-u c =
-    let pre = c.requires in
-    steps.aids_in (numbers.domains_aids pre)
+    steps.aids_in (numbers.domains_aids c.requires)
 
 pub overflow_add-c : goal.overflow_add-c
 overflow_add-c c =
-    let pre = c.requires in
-    omega (arith, steps.aids_in (numbers.domains_aids pre))
+    omega (arith, steps.aids_in (numbers.domains_aids c.requires))
 
 pub loop-left-init : goal.loop-left-init
 loop-left-init c =
@@ -31,12 +29,13 @@ aid_is-requires c =
 
 pub returns-then-aid_is : goal.returns-then-aid_is
 returns-then-aid_is c =
-    let a-told = c.args in (
-      numbers.number_hit a-told.domain.now
+    let a-told = c.args in
+    record {
+      number_is = numbers.number_hit a-told.domain.now
           a-told.x.now c.loop-left.k c.loop-left.invariant.1 c.loop-left-test.true
-          (λ a j p. sym c.if-aid_is.true ∙ c.aid_is.ensures a j p),
-      omega arith,
-    )
+          (λ a j p. sym c.if-aid_is.true ∙ c.aid_is.ensures a j p);
+      upper_bound = omega arith;
+    }
 
 pub after_aid-c-requires : goal.after_aid-c-requires
 after_aid-c-requires c =
@@ -53,29 +52,29 @@ loop-left-smaller c = omega arith
 
 pub loop-left-preserved : goal.loop-left-preserved
 loop-left-preserved c =
-    let b = c.args in
-    let q = c.aid_is.ensures in
-    let t = c.loop-left-test.true in (
+    let b = c.args in (
       omega arith,
-      numbers.number_miss b.domain.now b.x.now c.loop-left.k c.loop-left.invariant.1 t (λ a j p. sym c.if-aid_is.false ∙ q a j p)
+      numbers.number_miss b.domain.now b.x.now c.loop-left.k c.loop-left.invariant.1 c.loop-left-test.true (λ a j p. sym c.if-aid_is.false ∙ c.aid_is.ensures a j p)
           c.after_aid-c.ensures,
     )
 
 pub returns-then-same_bytes : goal.returns-then-same_bytes
 returns-then-same_bytes c =
-    let a = c.args in (
-      numbers.number_behind a.domain.now a.x.now c.loop-left.k c.loop-left.invariant.1 c.loop-left-test.false true
-          (sym c.same_bytes.ensures ∙ c.if-same_bytes.true),
-      omega arith,
-    )
+    let a = c.args in
+    record {
+      number_is = numbers.number_behind a.domain.now a.x.now c.loop-left.k c.loop-left.invariant.1 c.loop-left-test.false true
+          (sym c.same_bytes.ensures ∙ c.if-same_bytes.true);
+      upper_bound = omega arith;
+    }
 
 pub overflow_add-result : goal.overflow_add-result
 overflow_add-result c = omega arith
 
 pub returns : goal.returns
 returns c =
-    let a = c.args in (
-      numbers.number_behind a.domain.now a.x.now c.loop-left.k c.loop-left.invariant.1 c.loop-left-test.false false
-          (sym c.same_bytes.ensures ∙ c.if-same_bytes.false),
-      omega arith,
-    )
+    let a = c.args in
+    record {
+      number_is = numbers.number_behind a.domain.now a.x.now c.loop-left.k c.loop-left.invariant.1 c.loop-left-test.false false
+          (sym c.same_bytes.ensures ∙ c.if-same_bytes.false);
+      upper_bound = omega arith;
+    }

@@ -22,7 +22,7 @@ enum_told-1 c = c.in-Nothing.in-Nothing-own.keys2
 pub returns-in-At : goal.returns-in-At
 returns-in-At c =
     let a = c.args in
-    rules.slot_nth a.k c.nth_aid.ensures a.own.now c.if-k-eq32.left c.in-At.is c.aid_bytes.ensures
+    rules.slot_nth a.k c.nth_aid.ensures a.own.now c.if-k-eq32.false c.in-At.is c.aid_bytes.ensures
 
 pub returns-in-Nothing : goal.returns-in-Nothing
 returns-in-Nothing c =
