@@ -1,4 +1,6 @@
 // Places of methods in a table, sorted by name: entered one after the other, each name once, and found by halving.
+#![tactic(auto)]
+
 ghost use Rattle.std.specs.Prelude.{◌≡◌, ◌<◌, ◌≤◌, length};
 ghost use Rattle.methods.specs.Table.{name_at, Named, Sorted, Lower, Found, Opened, Entered};
 
