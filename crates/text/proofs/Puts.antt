@@ -6,7 +6,7 @@ use mathlib.Core.List.{[], ◌∷◌, ◌++◌, append-nil, append_assoc}
 use lib.ListN.{length, take, set, get_or, length-append, length-set, length-take}
 use lib.Seq.{take-suc, take-suc-set, take-length, length-take-le}
 use Rattle.io.specs.Counts.{IsPrefixLen}
-use Rattle.rules.specs.Bytes.{Bytes, flat}
+use Rattle.rules.specs.Bytes.{Bytes}
 use Rattle.rules.proofs.Lists.{flat_append}
 use Rattle.text.specs.Text.{hex_byte, hex_bytes}
 use Rattle.text.specs.Put.{Put}

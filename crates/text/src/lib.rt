@@ -1,4 +1,6 @@
 // Text put into a buffer: bytes as capital hex digits, figures as decimal digits. Each function answers the place behind what it put.
+#![tactic(auto)]
+
 ghost use Rattle.std.specs.Prelude.{[], ◌∷◌, ◌+◌, ◌*◌, ◌<◌, ◌≤◌, ◌≡◌, length};
 ghost use Rattle.text.specs.Text.{hex_digit, hex_byte, hex_bytes, decimal, two_figures, three_figures};
 ghost use Rattle.text.specs.Put.{Put};

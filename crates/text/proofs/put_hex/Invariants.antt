@@ -1,0 +1,12 @@
+-- `text::put_hex` meets its contract: after i turns the digits of the first i bytes are put. Assumes nothing.
+use Prim.Native.Nat.{◌≤◌, ◌-◌}
+use lib.ListN.{length, take}
+use Rattle.text.specs.Text.{hex_bytes}
+use Rattle.text.specs.Put.{Put}
+use Rattle.text.proofs.put_hex.Given as goal
+
+abbrev pub invariant-loop-i : goal.invariant-loop-i
+invariant-loop-i l = (l.i ≤ length l.bytes) × Put l.initial.out l.at (hex_bytes (take l.i l.bytes)) l.out l.to
+
+abbrev pub decreases-loop-i : goal.decreases-loop-i
+decreases-loop-i l = length l.bytes - l.i
