@@ -8,7 +8,7 @@ use mathlib.Core.Option.{none, some}
 use lib.ListN.{replicate}
 use Rattle.rules.specs.Bytes.{Bytes, is_some}
 use Rattle.rules.specs.Code.{signed, numbers_from, length_of, length_as, instruction_length, split_from, split, may_end, code_splits, targets_each, switch_targets, targets_at, code_branches, code_handlers, call_at, calls_of}
-use Rattle.rules.specs.Package.{standard, class_number, reference, item, items, policy, code_if, handler, handlers_if, method, class, contents, sized, edition_of, read_file}
+use Rattle.rules.specs.Package.{standard, class_number, reference, item, items, policy, code_if, handler, handlers_if, method, class, contents, sized, read_file}
 use Rattle.rules.specs.Store.{full, write, opening_of, entries_of, store_opening}
 use Rattle.rules.specs.Questions.{q1_size, q3_lengths, q4_new, q5_created, q6_empty, q7_installed, q8_unused, q10_marked, q11_reads, q12_new, q13_imports, q14_parents, q15_names, q16_splits, q17_targets, q24_handlers, keeps_subset, q26_subset, q18_calls, q19_allowed, q20_running, q21_fits}
 use Rattle.rules.specs.Operations.{create, delete, remove, load, create_questions, delete_questions, package_questions, load_questions, remove_questions, sound_entries, sound, number, after, fresh_number, fresh_bytes}

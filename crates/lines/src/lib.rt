@@ -1,4 +1,6 @@
 // The lines of the simulated card: gathering them from chunks of input, and reading one (document 01, "The simulated card").
+#![tactic(auto)]
+
 pub mod answers;
 
 ghost use Rattle.std.specs.Prelude.{◌≡◌, ◌++◌, ◌+◌, ◌*◌, ◌-◌, ◌≤◌, ◌<◌, min, length, take, drop};
@@ -17,7 +19,7 @@ const LONGEST: usize = 8000;
 const MOST_KEPT: usize = LONGEST + 1;
 
 // What a line asks for, with the places where its decoded arguments end in the buffer lent for them.
-#[derive(Drop)]
+#[derive(Clone, Copy)]
 pub enum Form {
     Creation(usize),
     Deletion(usize),
@@ -27,7 +29,7 @@ pub enum Form {
 }
 
 // What is gathered of a line: how many of its characters are kept, and the place of its newline, or of the chunk's end.
-#[derive(Drop)]
+#[derive(Clone, Copy)]
 pub struct Gathered {
     pub held: usize,
     pub at: usize,
