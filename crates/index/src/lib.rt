@@ -1,4 +1,6 @@
 // The packages of a store by their AIDs: the places of their entries, sorted by AID. Each is entered when its entry was judged.
+#![tactic(auto)]
+
 ghost use Rattle.std.specs.Prelude.{◌≡◌, ◌+◌, ◌≤◌, ◌<◌, length};
 ghost use Rattle.store.specs.Entries.{FilesStand};
 ghost use Rattle.store.specs.Answers.{FileAt};

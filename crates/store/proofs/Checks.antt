@@ -8,7 +8,7 @@ use mathlib.Core.Option.{some}
 use lib.Dec.{leb, eqb}
 use lib.ListN.{length, take, drop, get_or, length-drop, drop_of_length-le}
 use lib.Seq.{length-take-le}
-use borrow.Author.Tests.{eq-eqb, ne_eqb}
+use borrow.Author.Tests.{ne_eqb}
 use Rattle.rules.specs.Bytes.{Bytes, Aid, all, is_some, same}
 use Rattle.rules.specs.Code.{u2_at}
 use Rattle.rules.specs.Store.{DomainKind, full, without_int, Entry, domain, domain_byte, entry_of, store_mark, is_zero}

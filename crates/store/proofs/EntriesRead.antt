@@ -56,16 +56,16 @@ in_stand (suc k) s i es h e = elim (dec_le (length s) i) [
         subst (λ (l : List Entry). Entries s i l (length s)) (some-injective _ _ y.2) (more (by_entry s i x.0.0 (next_of s i) r.0) m)
 
 -- and the other way
-stand_to : (k : ℕ) (s : Bytes) (i : ℕ) (es : List Entry) (n : ℕ) → n ≡ length s → length es ≤ k → Entries s i es n → entries_in k (drop i s) ≡ some es
-stand_to k s i _ n e h (over g) = rw (drop_of_length-le s {i = i} (omega arith)) (entries_in_nil k)
-stand_to zero s i _ n e h (more {j = j} {e = x} {es = es} t r) = absurd (omega arith)
-stand_to (suc k) s i _ n e h (more {j = j} {e = x} {es = es} t r) =
+stand_to : (s : Bytes) (k i : ℕ) (es : List Entry) (n : ℕ) → n ≡ length s → length es ≤ k → Entries s i es n → entries_in k (drop i s) ≡ some es
+stand_to s k i _ n e h (over g) = rw (drop_of_length-le s {i = i} (omega arith)) (entries_in_nil k)
+stand_to s zero i _ n e h (more {j = j} {e = x} {es = es} t r) = absurd (omega arith)
+stand_to s (suc k) i _ n e h (more {j = j} {e = x} {es = es} t r) =
     let a = entry_later s i x j t in
     let b = entries_to s j es n r in
-    entries_in_suc k (drop i s) (omega (arith, length-drop i s)) ∙ rw (t.is, stand_to k s j es n e (omega arith) r)
+    entries_in_suc k (drop i s) (omega (arith, length-drop i s)) ∙ rw (t.is, stand_to s k j es n e (omega arith) r)
 
 pub stand_in : (k : ℕ) (s : Bytes) (i : ℕ) (es : List Entry) → length es ≤ k → Entries s i es (length s) → entries_in k (drop i s) ≡ some es
-stand_in k s i es = stand_to k s i es (length s) refl
+stand_in k s i es = stand_to s k i es (length s) refl
 
 -- what stands before a place stands in the bytes before it
 module _ (s : Bytes) (k : ℕ) (h : k ≤ length s) where

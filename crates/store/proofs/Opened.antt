@@ -1,21 +1,18 @@
 -- The opening of a buffer by its bytes. Assumes nothing.
-use Prim.Native.Nat.{ℕ, ◌+◌, ◌<◌, ◌≤◌}
+use Prim.Native.Nat.{ℕ, ◌<◌, ◌≤◌}
 use native.Mathlib.Omega.{arith}
-use mathlib.Core.Path.{◌≡◌, refl, sym, ◌∙◌, ap, ap₂}
+use mathlib.Core.Path.{◌≡◌, refl, sym, ◌∙◌, ap}
 use mathlib.Core.Bool.{Bool, true, false}
-use mathlib.Core.List.{List, [], ◌∷◌}
-use mathlib.Core.Option.{Option, none, some}
+use mathlib.Core.List.{[], ◌∷◌}
+use mathlib.Core.Option.{none, some}
 use lib.ListN.{length, take, drop, get_or, length-drop}
 use lib.Dec.{leb}
 use borrow.Author.Tests.{le-leb, lt-leb}
-use Rattle.rules.specs.Bytes.{Bytes, within, same, ◌and_then◌}
-use Rattle.rules.specs.Limits.{Limits, standard, limits_range}
-use Rattle.rules.specs.Store.{Opening, version1, version2, store_mark, limits, opening_of, store_opening, store_limits, first_entry, limits_at}
-use Rattle.cursor.specs.declared.Limits as cursor
-use Rattle.cursor.specs.Limits.{limits_of}
+use Rattle.rules.specs.Bytes.{Bytes, within, same}
+use Rattle.rules.specs.Limits.{Limits, limits_range}
+use Rattle.rules.specs.Store.{Opening, version1, version2, store_mark, limits, opening_of, store_opening, limits_at}
 use Rattle.store.specs.Openings.{opening_told}
 use Rattle.store.specs.declared.openings.Opening as told
-use Rattle.store.specs.declared.openings.Opening.TheVariants.{First, Second, Broken}
 use Rattle.store.proofs.Parts.{drop_one}
 use Rattle.store.proofs.Checks.{mark_short}
 

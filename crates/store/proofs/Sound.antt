@@ -1,8 +1,7 @@
 -- What a sound store says: its entries, an operation's number there, and its bytes after. Assumes nothing.
 use Prim.Native.Nat.{ℕ, zero, suc, ◌≤◌}
-use native.Mathlib.Omega.{arith}
 use mathlib.Core.Path.{◌≡◌, refl, sym, ◌∙◌, ap}
-use mathlib.Core.Bool.{Bool, true, false, ◌&&◌, not}
+use mathlib.Core.Bool.{true, ◌&&◌, not}
 use mathlib.Core.List.{List, [], ◌∷◌}
 use mathlib.Core.Option.{some}
 use lib.Dec.{T}
@@ -89,7 +88,11 @@ module _ (s : Bytes) (u : ℕ) (h : SoundAt s u) where
   -- an operation's number is that of its questions from 3 on
   pub sound_number : (o : Operation) → number s o ≡ first_no (questions (store_opening s) (length s) (sound_store s u h).es o)
   unfolding number
-  sound_number o = let x = sound_store s u h in rw (x.size, x.is, x.reads)
+  sound_number o =
+      let x = sound_store s u h in
+      let asked : first_no (questions (store_opening s) (length s) (entries s) o) ≡ first_no (questions (store_opening s) (length s) x.es o) =
+      ap (λ (es : List Entry). first_no (questions (store_opening s) (length s) es o)) (rw x.reads refl) in
+      rw (x.size, x.is) asked
 
   pub asked_number : (o : Operation) (n : ℕ) → Asked s u o n → n ≡ number s o
   asked_number o n q = let x = sound_store s u h in q x.es x.over ∙ sym (sound_number o)

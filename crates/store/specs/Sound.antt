@@ -6,7 +6,7 @@
 use Rattle.std.specs.Prelude.{ℕ, ◌≡◌, true, List, [], T, length}
 use Rattle.std.proofs.Math.Option.{some}
 use Rattle.rules.specs.Bytes.{Bytes}
-use Rattle.rules.specs.Store.{Entry, used, entries_of, first_entry, store_limits, store_opening}
+use Rattle.rules.specs.Store.{Entry, used, entries_of, first_entry, store_opening}
 use Rattle.rules.specs.Operations.{first_no, accepted_all, sound, Operation, questions}
 use Rattle.store.specs.Entries.{Entries, Holds}
 

@@ -2,7 +2,6 @@
 use Rattle.store.proofs.Checks as checks
 use native.Mathlib.Omega.{arith}
 use Rattle.rules.specs.Store.{full, without_int}
-use borrow.Author.Rules.{rules}
 use Rattle.store.proofs.body_reads.Goals as goal
 use Rattle.store.proofs.body_reads.Goals.{Else-n-eq0, Else-s-at-eq3, Start}
 

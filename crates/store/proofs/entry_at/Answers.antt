@@ -4,7 +4,6 @@ use Prim.Native.Nat.{◌+◌, ◌≤◌}
 use native.Mathlib.Omega.{arith}
 use lib.ListN.{length, get_or}
 use Rattle.rules.specs.Code.{u2_at}
-use borrow.Author.Rules.{rules}
 use Rattle.store.proofs.entry_at.Goals as goal
 use Rattle.store.proofs.entry_at.Goals.{After-u2_at, Else-at-end, Else-s-at-ne2}
 

@@ -1,10 +1,6 @@
 -- `store::filled` tells whether entries stand back to back up to a place: those passed stand before the place reached. Assumes nothing.
-use Rattle.store.specs.Answers.{NextSays}
 use Rattle.store.specs.Entries.{StandFrom}
-use Rattle.store.proofs.Checks as checks
 use Prim.Native.Nat.{◌-◌, ◌≤◌}
-use mathlib.Core.Path.{subst}
-use native.Mathlib.Omega.{arith}
 use Rattle.store.proofs.filled.Given as goal
 
 abbrev pub invariant-loop-at : goal.invariant-loop-at

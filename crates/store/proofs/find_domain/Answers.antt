@@ -5,10 +5,8 @@ use Rattle.store.specs.declared.EntryPart.TheVariants.{Domain, Package}
 use Rattle.store.proofs.Find as found
 use Rattle.rules.specs.Operations.{is_domain}
 use Rattle.rules.specs.Store.{first_entry}
-use Prim.Native.Nat.{◌-◌}
 use mathlib.Core.Path.{refl, sym, ◌∙◌, subst}
 use native.Mathlib.Omega.{arith}
-use borrow.Author.Rules.{rules}
 use Rattle.store.proofs.find_domain.Goals as goal
 use Rattle.store.proofs.find_domain.Goals.{After-entry_at, At-loop-from, In-Domain, In-Domain-2, In-Package}
 

@@ -6,10 +6,8 @@ use Rattle.store.specs.declared.EntryPart.TheVariants.{Domain, Package}
 use Rattle.store.proofs.Own.{own_by}
 use Rattle.store.proofs.Asked as asked
 use Rattle.store.proofs.Find as found
-use Prim.Native.Nat.{◌-◌}
 use mathlib.Core.Path.{refl, sym, ◌∙◌, subst}
 use native.Mathlib.Omega.{arith}
-use borrow.Author.Rules.{rules}
 use Rattle.rules.specs.Store.{first_entry}
 use Rattle.store.proofs.find_package.Goals as goal
 use Rattle.store.proofs.find_package.Goals.{After-entry_at, At-loop-next, In-Domain, In-Package, In-Package-2, Start}

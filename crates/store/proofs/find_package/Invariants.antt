@@ -1,16 +1,7 @@
 -- `store::find_package` tells where a package stands: none of the entries passed is the package's. Assumes nothing.
-use Rattle.store.proofs.Walk.{Walk, walk_start}
-use Rattle.store.specs.Entries.{StandFrom, part}
-use Rattle.store.specs.Answers.{PartAt}
-use Rattle.store.specs.declared.EntryPart.TheVariants.{Domain, Package}
-use Rattle.store.proofs.Own.{own_by}
 use Rattle.store.proofs.Asked as asked
 use Rattle.store.proofs.Find as found
 use Prim.Native.Nat.{◌-◌}
-use mathlib.Core.Path.{refl, sym, ◌∙◌, subst}
-use native.Mathlib.Omega.{arith}
-use borrow.Author.Rules.{rules}
-use Rattle.rules.specs.Store.{first_entry}
 use Rattle.store.proofs.find_package.Given as goal
 
 abbrev pub invariant-loop-next : goal.invariant-loop-next

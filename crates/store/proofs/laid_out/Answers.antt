@@ -6,7 +6,6 @@ use Rattle.store.specs.Openings.{opening_told}
 use Rattle.store.proofs.Opened as opened
 use Rattle.rules.proofs.Tests.{none_some}
 use Rattle.store.proofs.Laid as laid
-use borrow.Author.Rules.{rules}
 use Rattle.store.proofs.laid_out.Goals as goal
 
 pub enum_told-1 : goal.enum_told-1

@@ -1,5 +1,5 @@
 -- `store::package_fits` is question 21 of a package's entry, with no sum that wraps. Assumes nothing.
-use Rattle.rules.specs.Store.{domain, loaded}
+use Rattle.rules.specs.Store.{loaded}
 use Rattle.store.proofs.Fits as fits
 use Prim.Native.Nat.{◌+◌, ◌-◌}
 use mathlib.Core.Path.{sym}

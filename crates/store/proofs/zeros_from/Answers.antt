@@ -2,13 +2,12 @@
 use Rattle.rules.specs.Store.{is_zero}
 use Rattle.rules.specs.Bytes.{all}
 use Rattle.store.proofs.Checks as checks
-use Prim.Native.Nat.{ℕ, ◌+◌, ◌-◌, ◌≤◌}
-use mathlib.Core.Path.{◌≡◌, refl, sym, ◌∙◌, ap}
+use Prim.Native.Nat.{ℕ, ◌+◌}
+use mathlib.Core.Path.{refl, sym, ◌∙◌, ap}
 use mathlib.Core.Bool.{◌&&◌}
 use lib.Dec.{eqb}
 use native.Mathlib.Omega.{arith}
-use lib.ListN.{length, drop}
-use borrow.Author.Rules.{rules}
+use lib.ListN.{drop}
 use Rattle.store.proofs.zeros_from.Goals as goal
 use Rattle.store.proofs.zeros_from.Goals.{At-loop-i, In-loop-i}
 

@@ -1,14 +1,11 @@
 -- `store::zeros_from` tells whether only zeros follow: the greatest byte passed and what is left to compare decide. Assumes nothing.
 use Rattle.rules.specs.Store.{is_zero}
 use Rattle.rules.specs.Bytes.{all}
-use Rattle.store.proofs.Checks as checks
-use Prim.Native.Nat.{ℕ, ◌+◌, ◌-◌, ◌≤◌}
-use mathlib.Core.Path.{◌≡◌, refl, sym, ◌∙◌, ap}
+use Prim.Native.Nat.{◌-◌, ◌≤◌}
+use mathlib.Core.Path.{◌≡◌}
 use mathlib.Core.Bool.{◌&&◌}
 use lib.Dec.{eqb}
-use native.Mathlib.Omega.{arith}
 use lib.ListN.{length, drop}
-use borrow.Author.Rules.{rules}
 use Rattle.store.proofs.zeros_from.Given as goal
 
 abbrev pub invariant-loop-i : goal.invariant-loop-i

@@ -4,7 +4,6 @@ use Rattle.rules.specs.Store.{version1, version2, opening_length}
 use Rattle.cursor.specs.Limits.{limits_of}
 use Rattle.store.specs.Openings.{opening_told}
 use Rattle.store.proofs.Opened as opened
-use borrow.Author.Rules.{rules}
 use Rattle.store.proofs.openings.first_entry.Goals as goal
 
 pub enum_told-1 : goal.enum_told-1

@@ -1,8 +1,6 @@
 -- `store::openings::limits_at` meets its contract. Assumes nothing.
 use native.Mathlib.Omega.{arith}
-use mathlib.Core.Path.{◌≡◌, sym, ◌∙◌}
 use Rattle.store.proofs.Opened as opened
-use borrow.Author.Rules.{rules}
 use Rattle.store.proofs.openings.limits_at.Goals as goal
 
 pub bounds-s-7 : goal.bounds-s-7

@@ -5,9 +5,8 @@ use mathlib.Core.Bool.{true, false}
 use lib.ListN.{take}
 use Rattle.rules.specs.Bytes.{Bytes, same}
 use Rattle.rules.specs.Store.{store_mark}
-use borrow.Author.Tests.{not-true, not-false}
+use borrow.Author.Tests.{not-false}
 use Rattle.store.proofs.Opened as opened
-use borrow.Author.Rules.{rules}
 use Rattle.store.proofs.openings.opening_of.Goals as goal
 use Rattle.store.proofs.openings.opening_of.Goals.{After-limits_at-l, Else-not-opens, Else-opens}
 

@@ -4,7 +4,6 @@ use Rattle.store.proofs.Checks as checks
 use mathlib.Core.Path.{sym, ◌∙◌}
 use lib.ListN.{get_or}
 use borrow.Author.Tests.{eq-eqb, ne_eqb}
-use borrow.Author.Rules.{rules}
 use Rattle.store.proofs.openings.opens.Goals as goal
 use Rattle.store.proofs.openings.opens.Goals.{Else-s-ne66, Else-s-ne67, Else-s-ne83, Start}
 

@@ -1,7 +1,6 @@
 -- `store::subset::is_without_int` tells a kind-3 domain by its kind byte, then by its AID. Assumes nothing.
 use Rattle.store.proofs.Checks as checks
 use mathlib.Core.Path.{◌∙◌}
-use borrow.Author.Rules.{rules}
 use Rattle.rules.specs.Bytes.{Bytes}
 use Rattle.store.specs.Entries.{part}
 use Rattle.store.proofs.subset.is_without_int.Goals as goal

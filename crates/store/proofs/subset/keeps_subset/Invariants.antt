@@ -1,15 +1,7 @@
 -- `store::subset::keeps_subset` tells whether a domain is of kind 3: none of the entries passed is such a domain. Assumes nothing.
-use Rattle.store.proofs.Walk.{Walk, walk_start, place_any}
 use Rattle.store.specs.Entries.{is_without_int}
-use Rattle.rules.specs.Bytes.{is_some}
-use Rattle.store.proofs.Asked as asked
-use Rattle.store.specs.Answers.{PartAt}
-use Rattle.store.specs.declared.EntryPart.TheVariants.{Domain, Package}
 use Rattle.store.proofs.Find as found
 use Prim.Native.Nat.{◌-◌}
-use mathlib.Core.Path.{refl, sym, ap, ◌∙◌, subst}
-use native.Mathlib.Omega.{arith}
-use borrow.Author.Rules.{rules}
 use Rattle.store.proofs.subset.keeps_subset.Given as goal
 
 abbrev pub invariant-loop-from : goal.invariant-loop-from
