@@ -1,4 +1,6 @@
 // Writing the store: an empty one, an entry appended, an entry cut out. Nothing else writes there.
+#![tactic(auto)]
+
 ghost use Rattle.std.specs.Prelude.{◌≡◌, [], ◌∷◌, ◌+◌, ◌<◌, ◌≤◌, T, length, drop, replicate};
 ghost use Rattle.std.proofs.Math.Seq.{paste};
 ghost use Rattle.rules.specs.Bytes.{pick, high, low};
