@@ -8,7 +8,7 @@ use mathlib.Core.Logic.{◌⊎◌, inl, inr, ⊎_elim}
 use lib.Dec.{eqb, ltb}
 use lib.ListN.{length, get_or}
 use borrow.Author.Tests.{ltb-true, ltb-false, eqb-true, eqb-false, eq-eqb, ne_eqb}
-use Rattle.rules.specs.Bytes.{Bytes, Aid, pick, same}
+use Rattle.rules.specs.Bytes.{Bytes, Aid, same}
 use Rattle.rules.proofs.Tests.{of_true, is_true, same_eq, same_refl}
 use Rattle.store.specs.Entries.{part}
 use Rattle.sorted.specs.Sorted.{below, key_place, key_at, Keyed, count, place_at, Has, Sorted, Lower, HereIs, Found}

@@ -1,5 +1,7 @@
 // Places of a store's entries, sorted by the AIDs that the entries are known by: found by halving, entered one after the other.
 // A table's first number is the count of its places; they follow it.
+#![tactic(auto)]
+
 ghost use Rattle.std.specs.Prelude.{◌≡◌, ◌+◌, ◌<◌, ◌≤◌, length};
 ghost use Rattle.sorted.specs.Sorted.{below, key_place, key_at, Keyed, count, Sorted, Lower, HereIs, Found, Opened, Entered};
 
