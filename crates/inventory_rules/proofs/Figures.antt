@@ -22,6 +22,7 @@ use Rattle.inventory_rules.proofs.Few.{methods_few}
 
 -- an element gives no more than all
 sum_member : {A : Type 0} (f : A → ℕ) (xs : List A) (x : A) → Memᴰ x xs → f x ≤ sum_of f xs
+sum_member f [] x m = elim m [ ]
 sum_member f (y ∷ ys) x (Memᴰ.head e) = subst (λ z. f z ≤ f y + sum_of f ys) (sym e) (omega arith)
 sum_member f (y ∷ ys) x (Memᴰ.tail m) = let h = sum_member f ys x m in omega arith
 
