@@ -18,7 +18,7 @@ use Rattle.fields.proofs.Same.{same_lengths}
 use Rattle.places.specs.Reads.{Reads}
 use Rattle.places.specs.Parts.{FilePart}
 use Rattle.places.proofs.Inverse.{reads_same, reads_u2}
-use Rattle.cursor.specs.Says.{Says, Stops, stops, itself}
+use Rattle.cursor.specs.Says.{Says, Stops, itself}
 use Rattle.cursor.specs.declared.Cursor.{Cursor}
 use Rattle.cursor.proofs.Steps.{Leads, said, stop_none, stopped, stopped_none, then_none, then_leads, then_told, then_any, made_leads, when_leads, when_none}
 use Rattle.cursor.proofs.Fields.{front}

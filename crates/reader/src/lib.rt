@@ -1,4 +1,6 @@
 // The package reader: questions 10 and 11 of a file, and where the lists of its package stand. One pass over the file.
+#![tactic(auto)]
+
 mod members;
 
 ghost use Rattle.std.specs.Prelude.{◌≡◌};
@@ -27,7 +29,7 @@ const MOST_REFERENCES: usize = 1024;
 const MOST_CLASSES: usize = 32;
 
 // Where the lists of a package stand in its file, each from its count on.
-#[derive(Drop)]
+#[derive(Clone, Copy)]
 pub struct Places {
     pub domains: FilePlace,
     pub imports: FilePlace,
@@ -36,14 +38,14 @@ pub struct Places {
 }
 
 // What follows the size: where the lists stand, and the cursor behind them.
-#[derive(Drop)]
+#[derive(Clone, Copy)]
 pub enum Contents {
     Are(Places, Cursor),
     Bad,
 }
 
 // A file: refused by question 10, refused by question 11, or the package.
-#[derive(Drop)]
+#[derive(Clone, Copy)]
 pub enum Read {
     Unmarked,
     Unreadable,

@@ -1,0 +1,48 @@
+-- `reader::members::skip_code` meets its contract: by each test of the length. Assumes nothing.
+use native.Mathlib.Omega.{arith}
+use mathlib.Core.Path.{◌≡◌}
+use mathlib.Core.Bool.{true, false}
+use Rattle.cursor.specs.Limits.{limits_of}
+use Rattle.cursor.proofs.Steps.{said_inside, field_is, field_bad}
+use Rattle.reader.proofs.Formats.{code_absent, code_none, code_empty, code_long, code_leads}
+use Rattle.reader.proofs.members.skip_code.Goals as goal
+use Rattle.reader.proofs.members.skip_code.Goals.{After-u2, Else-not-implemented, In-Is-2, Start}
+
+pub returns-then-not-implemented : goal.returns-then-not-implemented
+returns-then-not-implemented c =
+    let unimplemented : c.args.implemented ≡ false = c.if-not-implemented.true in
+    rw unimplemented (code_absent (limits_of c.args.limits) c.requires)
+
+pub enum_known-size : goal.enum_known-size
+enum_known-size c = c.in-Is.in-Is-own.keys1
+
+pub enum_told-1 : goal.enum_told-1
+enum_told-1 c = c.in_default.in_default-own.keys2
+
+pub returns-in_default : goal.returns-in_default
+returns-in_default c =
+    let implemented : c.args.implemented ≡ true = c.if-not-implemented.false in
+    rw implemented (code_none (limits_of c.args.limits) (field_bad c.in_default.is c.u2.ensures))
+
+pub returns-then-size-lt1 : goal.returns-then-size-lt1
+returns-then-size-lt1 c =
+    let implemented : c.args.implemented ≡ true = c.if-not-implemented.false in
+    let field = field_is c.in-Is.is c.u2.ensures in
+    rw implemented (code_empty (limits_of c.args.limits) field (omega arith))
+
+pub returns-then-most-size : goal.returns-then-most-size
+returns-then-most-size c =
+    let implemented : c.args.implemented ≡ true = c.if-not-implemented.false in
+    let field = field_is c.in-Is.is c.u2.ensures in
+    rw implemented (code_long (limits_of c.args.limits) field (omega arith) (omega arith))
+
+pub skip-requires : goal.skip-requires
+skip-requires c =
+    let field = field_is c.in-Is.is c.u2.ensures in
+    said_inside field
+
+pub returns : goal.returns
+returns c =
+    let implemented : c.args.implemented ≡ true = c.if-not-implemented.false in
+    let field = field_is c.in-Is.is c.u2.ensures in
+    rw implemented (code_leads (limits_of c.args.limits) field (omega arith) (omega arith) _ c.skip.ensures)

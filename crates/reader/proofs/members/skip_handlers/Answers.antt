@@ -1,0 +1,55 @@
+-- `reader::members::skip_handlers` meets its contract: in the second edition a handler takes six bytes. Assumes nothing.
+use native.Mathlib.Omega.{arith}
+use mathlib.Core.Path.{◌≡◌, ap, ◌∙◌}
+use mathlib.Core.Option.{none}
+use borrow.Author.Tests.{not-false}
+use Rattle.rules.specs.Bytes.{u1, counted}
+use Rattle.rules.specs.Package.{most_handlers, edition1, edition2, edition_of, handler, handlers_if}
+use Rattle.fields.specs.Editions.{edition_if}
+use Rattle.cursor.proofs.Steps.{Leads, said_inside, field_is, field_bad}
+use Rattle.cursor.proofs.Counts.{count_none, count_many, count_leads}
+use Rattle.reader.proofs.Formats.{wide_handler, wide_span, handlers_absent, handlers_first, handlers_lead}
+use Rattle.reader.proofs.members.skip_handlers.Goals as goal
+use Rattle.reader.proofs.members.skip_handlers.Goals.{After-u1, Else-not-implemented, Else-not-is_second, In-Is-2, Start}
+
+pub returns-then-not-implemented : goal.returns-then-not-implemented
+returns-then-not-implemented c =
+    handlers_absent (edition_of c.args.f.now) (c.if-not-implemented.true) c.requires
+
+pub returns-then-not-is_second : goal.returns-then-not-is_second
+returns-then-not-is_second c =
+    let older : edition_of c.args.f.now ≡ edition1 = c.is_second.ensures ∙ ap edition_if (c.if-not-is_second.true) in
+    handlers_first (c.if-not-implemented.false) older c.requires
+
+-- behind both tests: what the counted list says is said of the handlers
+counts : (c : Else-not-is_second) → (Leads
+    (handlers_if (edition_of c.args.f.now) c.args.implemented) (counted most_handlers u1 handler) c.args.f.now
+    c.args.from.at.0 c.args.from.at.0)
+counts c =
+    let edition : edition_of c.args.f.now ≡ edition2 = c.is_second.ensures ∙ ap edition_if (not-false c.is_second.result c.if-not-is_second.false-raw) in
+    handlers_lead (not-false c.args.implemented c.if-not-implemented.false-raw) edition
+
+pub enum_known-count : goal.enum_known-count
+enum_known-count c = c.in-Is.in-Is-own.keys1
+
+pub enum_told-1 : goal.enum_told-1
+enum_told-1 c = c.in_default.in_default-own.keys2
+
+pub returns-in_default : goal.returns-in_default
+returns-in_default c =
+    counts (goal.at.returns-in_default c).Else-not-is_second none (count_none most_handlers handler (field_bad c.in_default.is c.u1.ensures))
+
+pub returns-then-count-gt-MOST_HANDLERS : goal.returns-then-count-gt-MOST_HANDLERS
+returns-then-count-gt-MOST_HANDLERS c =
+    let field = field_is c.in-Is.is c.u1.ensures in
+    counts (goal.at.returns-then-count-gt-MOST_HANDLERS c).Else-not-is_second none (count_many most_handlers handler field (omega arith))
+
+pub skip-requires : goal.skip-requires
+skip-requires c =
+    said_inside (field_is c.in-Is.is c.u1.ensures)
+
+pub returns : goal.returns
+returns c =
+    let field = field_is c.in-Is.is c.u1.ensures in
+    let list = wide_span (wide_handler c.args.f.now) c.in-Is.count c.in-Is.first.at.0 (said_inside field) _ c.skip.ensures in
+    counts (goal.at.returns c).Else-not-is_second _ (count_leads most_handlers handler field (omega arith) _ list)
