@@ -1,13 +1,13 @@
 -- The package's entry at a place: where its file stands, and that its own AID is the one that the entry is sorted by. Assumes nothing.
 use Prim.Native.Nat.{ℕ, ◌+◌, ◌-◌, ◌≤◌, ◌<◌}
 use native.Mathlib.Omega.{arith}
-use mathlib.Core.Path.{◌≡◌, refl, sym, ◌∙◌, ap, ap₂, subst}
+use mathlib.Core.Path.{◌≡◌, refl, sym, ◌∙◌, ap}
 use mathlib.Core.Option.{some}
 use lib.ListN.{length, get_or, take, drop}
 use lib.Seq.{get_or-take, get_or-drop}
-use Rattle.rules.specs.Bytes.{Bytes, Aid}
+use Rattle.rules.specs.Bytes.{Bytes}
 use Rattle.rules.specs.Package.{Limits, Package, read_file}
-use Rattle.rules.specs.Store.{Entry, domain, loaded, first_entry}
+use Rattle.rules.specs.Store.{loaded, first_entry}
 use Rattle.rules.proofs.Limits.{first_entry_lem}
 use Rattle.store.specs.Entries.{part, EntryAt, own_aid}
 use Rattle.store.proofs.Stand.{EntryBy, KindBy, domain_by, loaded_by, kind_by, entry_by}

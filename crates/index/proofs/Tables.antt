@@ -1,5 +1,5 @@
 -- Tables of the entries that have an AID under a key: an empty one, one behind an entry more, and what is found in one. Assumes nothing.
-use Prim.Native.Nat.{ℕ, ◌+◌, ◌≤◌, ◌<◌}
+use Prim.Native.Nat.{ℕ, ◌≤◌, ◌<◌}
 use native.Mathlib.Omega.{arith}
 use mathlib.Core.Path.{◌≡◌, refl, sym, ◌∙◌, ap, subst}
 use mathlib.Core.Bool.{Bool, true, false}
@@ -12,7 +12,7 @@ use Rattle.rules.specs.Store.{Entry, first_entry}
 use Rattle.rules.proofs.Tests.{none_some}
 use Rattle.store.specs.Entries.{EntryAt, Entries, over}
 use Rattle.store.proofs.Stand.{entry_one, entry_later, entries_more}
-use Rattle.sorted.specs.Sorted.{key_at, count, Has, Found, EnteredNew}
+use Rattle.sorted.specs.Sorted.{key_at, count, Has, EnteredNew}
 use Rattle.index.specs.Index.{Stood, KeyedOf, TableOf}
 use Rattle.index.proofs.Entered.{FoundThere, stood_inside, stood_more, stood_cases, stood_any, any_stood}
 

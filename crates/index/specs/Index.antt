@@ -9,7 +9,7 @@
 -- least_package          == the bytes of a package's entry at least: 4, a domain's AID of 5, a file of 18
 -- IndexIs s end index   == the packages of the entries that end at place end have been entered, and nothing else
 -- PackageStands s p i j == a package's entry that may be entered: it stands from place p up to place j, its file from place i on
-use Rattle.std.specs.Prelude.{ℕ, ◌+◌, ◌*◌, ◌≤◌, ◌<◌, ◌≡◌, true, List, length, get_or}
+use Rattle.std.specs.Prelude.{ℕ, ◌+◌, ◌*◌, ◌≤◌, ◌≡◌, true, List, length, get_or}
 use Rattle.std.proofs.Math.Option.{Option, none, some}
 use Rattle.rules.specs.Bytes.{Bytes, Aid, least_aid}
 use Rattle.rules.specs.Code.{u2_at}
