@@ -1,12 +1,12 @@
 -- The places of a file's imports: at each a package's entry stands, and the home there is that of the package that the number stands for.
 -- Assumes nothing.
-use Prim.Native.Nat.{ℕ, zero, suc, ◌+◌, ◌-◌, ◌<◌, ◌≤◌}
+use Prim.Native.Nat.{ℕ, zero, suc, ◌-◌, ◌<◌, ◌≤◌}
 use native.Mathlib.Omega.{arith}
 use native.Mathlib.Decide.{dec_le}
-use mathlib.Core.Path.{◌≡◌, refl, sym, ◌∙◌, ap, subst}
+use mathlib.Core.Path.{◌≡◌, refl, sym, ap, subst}
 use mathlib.Core.Bool.{Bool, true, false}
 use mathlib.Core.List.{List, [], ◌∷◌}
-use mathlib.Core.Option.{Option, none, some}
+use mathlib.Core.Option.{none}
 use lib.Dec.{eqb}
 use lib.ListN.{length, get_or, get_or-eq_default}
 use borrow.Author.Tests.{eqb-true, eqb-false, eq-eqb, ne_eqb}
@@ -18,7 +18,6 @@ use Rattle.store.proofs.Stand.{entries_to}
 use Rattle.homes.specs.Homes.{Imports, own_home, home_of, PackageFrom, Stored, HomeIs, own, stored, FoundIs, NumberedIs}
 use Rattle.homes.specs.Found.{home_at, placed_home, home_numbered, ImportPlaces, PlacesStand}
 use Rattle.homes.specs.declared.Home.{Home}
-use Rattle.homes.specs.declared.HomeFound.{HomeFound}
 use Rattle.homes.specs.declared.HomeFound.TheVariants.{At, Nothing}
 
 -- a home whose entry stands before the place where the entries end is a stored one

@@ -1,5 +1,5 @@
 -- A package's home by the place of its entry. Assumes nothing.
-use Prim.Native.Nat.{ℕ, ◌+◌, ◌-◌, ◌≤◌, ◌<◌}
+use Prim.Native.Nat.{ℕ, ◌+◌, ◌≤◌, ◌<◌}
 use native.Mathlib.Omega.{arith}
 use mathlib.Core.Path.{◌≡◌, sym, ◌∙◌, ap}
 use mathlib.Core.List.{List}
@@ -10,7 +10,7 @@ use Rattle.rules.specs.Classes.{Installed}
 use Rattle.store.specs.Entries.{part, EntryAt}
 use Rattle.store.proofs.Parts.{part_length}
 use Rattle.index.specs.Index.{file_from, entry_to}
-use Rattle.index.proofs.Here.{PackageBy, package_by}
+use Rattle.index.proofs.Here.{package_by}
 use Rattle.homes.specs.Homes.{PackageFrom, home_of, Stored}
 use Rattle.homes.specs.declared.Home.{Home}
 

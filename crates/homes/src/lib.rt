@@ -1,4 +1,6 @@
 // Where the file of a package lies: the file being judged, or a part of the store. Packages by number, classes by number.
+#![tactic(auto)]
+
 ghost use Rattle.std.specs.Prelude.{◌≡◌, ◌≤◌, length};
 ghost use Rattle.rules.specs.Bytes.{aid};
 ghost use Rattle.places.specs.Reads.{Ends};
@@ -11,7 +13,7 @@ use files::Spot;
 use store::FileSpot;
 
 // The bounds of a file in the store, and the place where the entries before it end; 0 and 0 for the file being judged.
-#[derive(Drop)]
+#[derive(Clone, Copy)]
 pub struct Home {
     pub from: usize,
     pub to: usize,
@@ -19,14 +21,14 @@ pub struct Home {
 }
 
 // A package's home, or that there is none.
-#[derive(Drop)]
+#[derive(Clone, Copy)]
 pub enum HomeFound {
     At(Home),
     Nothing,
 }
 
 // A file that is judged: where the entries before it end, and where in the store the AID of the domain that it is loaded into stands.
-#[derive(Drop)]
+#[derive(Clone, Copy)]
 pub struct Loaded {
     pub end: usize,
     pub domain: usize,
