@@ -11,32 +11,14 @@ use Rattle.reader.proofs.read_contents.Goals.{After-aid, After-aids, After-aids-
 abbrev format : Start → Format
 format start = format_of (limits_of start.args.limits) start.args.f.now
 
-pub enum_known-domains : goal.enum_known-domains
-enum_known-domains c = c.in-Is.in-Is-own.keys1
-
-pub enum_told-1 : goal.enum_told-1
-enum_told-1 c = c.in_default.in_default-own.keys2
-
 pub returns-in_default : goal.returns-in_default
 returns-in_default c =
     contents_bad (named_none (format (goal.at.returns-in_default c).Start) (aid_bad c.in_default.is c.aid.ensures))
-
-pub enum_known-count : goal.enum_known-count
-enum_known-count c = c.in-Is-aids.in-Is-aids-own.keys1
-
-pub enum_told-in_default-aids : goal.enum_told-in_default-aids
-enum_told-in_default-aids c = c.in_default-aids.in_default-aids-own.keys2
 
 pub returns-in_default-aids : goal.returns-in_default-aids
 returns-in_default-aids c =
     let named = aid_is c.in-Is.is c.aid.ensures in
     contents_bad (domains_none (format (goal.at.returns-in_default-aids c).Start) named (field_bad c.in_default-aids.is c.aids.ensures))
-
-pub enum_known-references : goal.enum_known-references
-enum_known-references c = c.in-Is-aids-2.in-Is-aids-2-own.keys1
-
-pub enum_told-in_default-aids-2 : goal.enum_told-in_default-aids-2
-enum_told-in_default-aids-2 c = c.in_default-aids-2.in_default-aids-2-own.keys2
 
 pub returns-in_default-aids-2 : goal.returns-in_default-aids-2
 returns-in_default-aids-2 c =
@@ -44,24 +26,12 @@ returns-in_default-aids-2 c =
     let domains = field_is c.in-Is-aids.is c.aids.ensures in
     contents_bad (imports_none (format (goal.at.returns-in_default-aids-2 c).Start) named domains (field_bad c.in_default-aids-2.is c.aids-2.ensures))
 
-pub enum_known-classes : goal.enum_known-classes
-enum_known-classes c = c.in-To.in-To-own.keys1
-
-pub enum_told-in_default-skip_references : goal.enum_told-in_default-skip_references
-enum_told-in_default-skip_references c = c.in_default-skip_references.in_default-skip_references-own.keys2
-
 pub returns-in_default-skip_references : goal.returns-in_default-skip_references
 returns-in_default-skip_references c =
     let named = aid_is c.in-Is.is c.aid.ensures in
     let domains = field_is c.in-Is-aids.is c.aids.ensures in
     let imports = field_is c.in-Is-aids-2.is c.aids-2.ensures in
     contents_bad (references_none (format (goal.at.returns-in_default-skip_references c).Start) named domains imports (skip_bad c.in_default-skip_references.is c.skip_references.ensures))
-
-pub enum_known-end : goal.enum_known-end
-enum_known-end c = c.in-To-skip_classes.in-To-skip_classes-own.keys1
-
-pub enum_told-in_default-skip_classes : goal.enum_told-in_default-skip_classes
-enum_told-in_default-skip_classes c = c.in_default-skip_classes.in_default-skip_classes-own.keys2
 
 pub returns-in_default-skip_classes : goal.returns-in_default-skip_classes
 returns-in_default-skip_classes c =

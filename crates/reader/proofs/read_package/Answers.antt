@@ -17,12 +17,6 @@ pub returns-then-not-marked : goal.returns-then-not-marked
 returns-then-not-marked c =
     unmarked (sym c.marked.ensures ∙ c.if-not-marked.true)
 
-pub enum_known-size : goal.enum_known-size
-enum_known-size c = c.in-Is.in-Is-own.keys1
-
-pub enum_told-1 : goal.enum_told-1
-enum_told-1 c = c.in_default.in_default-own.keys2
-
 pub returns-in_default : goal.returns-in_default
 returns-in_default c =
     let t = format (goal.at.returns-in_default c).Start in
@@ -35,12 +29,6 @@ returns-then-size-f c =
     let mark = sym c.marked.ensures ∙ c.if-not-marked.false in
     let size = rw c.new.ensures at (field_is c.in-Is.is c.u2.ensures) in
     unreadable mark (file_none t.limits (size_other t size (λ z. omega arith)))
-
-pub enum_known-places : goal.enum_known-places
-enum_known-places c = c.in-Are.in-Are-own.keys1
-
-pub enum_told-in_default-read_contents : goal.enum_told-in_default-read_contents
-enum_told-in_default-read_contents c = c.in_default-read_contents.in_default-read_contents-own.keys2
 
 pub returns-in_default-read_contents : goal.returns-in_default-read_contents
 returns-in_default-read_contents c =

@@ -11,12 +11,6 @@ use Rattle.reader.proofs.skip_class.Goals.{After-skip_parents, After-u1, In-Is-2
 abbrev format : Start → Format
 format start = format_of (limits_of start.args.limits) start.args.f.now
 
-pub enum_known-kind : goal.enum_known-kind
-enum_known-kind c = c.in-Is.in-Is-own.keys1
-
-pub enum_told-1 : goal.enum_told-1
-enum_told-1 c = c.in_default.in_default-own.keys2
-
 pub returns-in_default : goal.returns-in_default
 returns-in_default c =
     λ ds e. class_none (format (goal.at.returns-in_default c).Start) ds (field_bad c.in_default.is c.u1.ensures)
@@ -25,12 +19,6 @@ pub returns-then-kind-gt1 : goal.returns-then-kind-gt1
 returns-then-kind-gt1 c =
     let kind = field_is c.in-Is.is c.u1.ensures in
     λ ds e. class_kind (format (goal.at.returns-then-kind-gt1 c).Start) ds kind (omega arith)
-
-pub enum_known-methods : goal.enum_known-methods
-enum_known-methods c = c.in-To.in-To-own.keys1
-
-pub enum_told-in_default-skip_parents : goal.enum_told-in_default-skip_parents
-enum_told-in_default-skip_parents c = c.in_default-skip_parents.in_default-skip_parents-own.keys2
 
 pub returns-in_default-skip_parents : goal.returns-in_default-skip_parents
 returns-in_default-skip_parents c =

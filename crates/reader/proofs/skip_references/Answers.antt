@@ -9,12 +9,6 @@ use Rattle.reader.proofs.Formats.{wide_reference}
 use Rattle.reader.proofs.skip_references.Goals as goal
 use Rattle.reader.proofs.skip_references.Goals.{After-u2, In-Is-2, Start}
 
-pub enum_known-count : goal.enum_known-count
-enum_known-count c = c.in-Is.in-Is-own.keys1
-
-pub enum_told-1 : goal.enum_told-1
-enum_told-1 c = c.in_default.in_default-own.keys2
-
 pub returns-in_default : goal.returns-in_default
 returns-in_default c =
     count_none most_references reference (field_bad c.in_default.is c.u2.ensures)

@@ -13,12 +13,6 @@ returns-then-not-implemented c =
     let unimplemented : c.args.implemented ≡ false = c.if-not-implemented.true in
     rw unimplemented (code_absent (limits_of c.args.limits) c.requires)
 
-pub enum_known-size : goal.enum_known-size
-enum_known-size c = c.in-Is.in-Is-own.keys1
-
-pub enum_told-1 : goal.enum_told-1
-enum_told-1 c = c.in_default.in_default-own.keys2
-
 pub returns-in_default : goal.returns-in_default
 returns-in_default c =
     let implemented : c.args.implemented ≡ true = c.if-not-implemented.false in

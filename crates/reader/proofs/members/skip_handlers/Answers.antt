@@ -29,12 +29,6 @@ counts c =
     let edition : edition_of c.args.f.now ≡ edition2 = c.is_second.ensures ∙ ap edition_if (not-false c.is_second.result c.if-not-is_second.false-raw) in
     handlers_lead (not-false c.args.implemented c.if-not-implemented.false-raw) edition
 
-pub enum_known-count : goal.enum_known-count
-enum_known-count c = c.in-Is.in-Is-own.keys1
-
-pub enum_told-1 : goal.enum_told-1
-enum_told-1 c = c.in_default.in_default-own.keys2
-
 pub returns-in_default : goal.returns-in_default
 returns-in_default c =
     counts (goal.at.returns-in_default c).Else-not-is_second none (count_none most_handlers handler (field_bad c.in_default.is c.u1.ensures))

@@ -12,12 +12,6 @@ pub loop-left-init : goal.loop-left-init
 loop-left-init c =
     (c.requires, λ ds e o p. p)
 
-pub enum_known-index : goal.enum_known-index
-enum_known-index c = c.in-Is.in-Is-own.keys1
-
-pub enum_told-1 : goal.enum_told-1
-enum_told-1 c = c.in_default.in_default-own.keys2
-
 pub returns-in_default : goal.returns-in_default
 returns-in_default c =
     λ ds e. loop_none (item ds) c.loop-left.left (c.loop-left.invariant.1 ds e) (omega arith)

@@ -13,12 +13,6 @@ use Rattle.reader.proofs.members.skip_method.Goals.{After-skip_code, After-skip_
 abbrev format : Start → Format
 format start = format_of (limits_of start.args.limits) start.args.f.now
 
-pub enum_known-bits : goal.enum_known-bits
-enum_known-bits c = c.in-Is.in-Is-own.keys1
-
-pub enum_told-1 : goal.enum_told-1
-enum_told-1 c = c.in_default.in_default-own.keys2
-
 pub returns-in_default : goal.returns-in_default
 returns-in_default c =
     λ ds e. method_none (format (goal.at.returns-in_default c).Start) ds (field_bad c.in_default.is c.u1.ensures)
@@ -28,23 +22,11 @@ returns-then-bits-ne0 c =
     let bits = field_is c.in-Is.is c.u1.ensures in
     λ ds e. method_spare (format (goal.at.returns-then-bits-ne0 c).Start) ds bits (ne_eqb (c.in-Is.bits % 32) 0 (λ z. omega arith))
 
-pub enum_known-allowed : goal.enum_known-allowed
-enum_known-allowed c = c.in-Is-u2.in-Is-u2-own.keys1
-
-pub enum_told-in_default-u2 : goal.enum_told-in_default-u2
-enum_told-in_default-u2 c = c.in_default-u2.in_default-u2-own.keys2
-
 pub returns-in_default-u2 : goal.returns-in_default-u2
 returns-in_default-u2 c =
     let bits = field_is c.in-Is.is c.u1.ensures in
     let zero-spare = eq-eqb (c.in-Is.bits % 32) 0 (omega (arith, c.if-bits-ne0.false)) in
     λ ds e. method_name_none (format (goal.at.returns-in_default-u2 c).Start) ds bits zero-spare (field_bad c.in_default-u2.is c.u2.ensures)
-
-pub enum_known-code : goal.enum_known-code
-enum_known-code c = c.in-To.in-To-own.keys1
-
-pub enum_told-in_default-skip_policy : goal.enum_told-in_default-skip_policy
-enum_told-in_default-skip_policy c = c.in_default-skip_policy.in_default-skip_policy-own.keys2
 
 pub returns-in_default-skip_policy : goal.returns-in_default-skip_policy
 returns-in_default-skip_policy c =
@@ -56,12 +38,6 @@ returns-in_default-skip_policy c =
 pub skip_code-requires : goal.skip_code-requires
 skip_code-requires c =
     inside_any {r = policy} c.args.domains (λ ds e. skip_is c.in-To.is (c.skip_policy.ensures ds e))
-
-pub enum_known-handlers : goal.enum_known-handlers
-enum_known-handlers c = c.in-To-skip_code.in-To-skip_code-own.keys1
-
-pub enum_told-in_default-skip_code : goal.enum_told-in_default-skip_code
-enum_told-in_default-skip_code c = c.in_default-skip_code.in_default-skip_code-own.keys2
 
 pub returns-in_default-skip_code : goal.returns-in_default-skip_code
 returns-in_default-skip_code c =

@@ -13,12 +13,6 @@ use Rattle.reader.proofs.members.skip_methods.Goals.{After-skip_method, After-u1
 abbrev format : Start → Format
 format start = format_of (limits_of start.args.limits) start.args.f.now
 
-pub enum_known-count : goal.enum_known-count
-enum_known-count c = c.in-Is.in-Is-own.keys1
-
-pub enum_told-1 : goal.enum_told-1
-enum_told-1 c = c.in_default.in_default-own.keys2
-
 pub returns-in_default : goal.returns-in_default
 returns-in_default c =
     λ ds e. count_none most_methods (method (format (goal.at.returns-in_default c).Start) ds) (field_bad c.in_default.is c.u1.ensures)
@@ -32,12 +26,6 @@ pub loop-left-init : goal.loop-left-init
 loop-left-init c =
     let field = field_is c.in-Is.is c.u1.ensures in
     (said_inside field, λ ds e o p. p)
-
-pub enum_known-next : goal.enum_known-next
-enum_known-next c = c.in-To.in-To-own.keys1
-
-pub enum_told-in_default-skip_method : goal.enum_told-in_default-skip_method
-enum_told-in_default-skip_method c = c.in_default-skip_method.in_default-skip_method-own.keys2
 
 pub returns-in_default-skip_method : goal.returns-in_default-skip_method
 returns-in_default-skip_method c =

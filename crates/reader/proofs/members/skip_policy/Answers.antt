@@ -5,12 +5,6 @@ use Rattle.reader.proofs.Formats.{policy_none, policy_every, policy_many, policy
 use Rattle.reader.proofs.members.skip_policy.Goals as goal
 use Rattle.reader.proofs.members.skip_policy.Goals.{Else-count-eq-EVERY, In-Is-2}
 
-pub enum_known-count : goal.enum_known-count
-enum_known-count c = c.in-Is.in-Is-own.keys1
-
-pub enum_told-1 : goal.enum_told-1
-enum_told-1 c = c.in_default.in_default-own.keys2
-
 pub returns-in_default : goal.returns-in_default
 returns-in_default c =
     λ ds e. policy_none ds (field_bad c.in_default.is c.u1.ensures)
