@@ -7,7 +7,7 @@ use Rattle.policies.specs.Rows.{ListOver}
 use Rattle.policies.proofs.Rules as rules
 use Rattle.coverage.proofs.Covered as covered
 use Rattle.coverage.proofs.covers.Goals as goal
-use Rattle.coverage.proofs.covers.Goals.{After-lists_all, After-lists_loading, After-wide-2, After-with_bit, Else-wide-eq255, Else-wide-eq255-2, Start}
+use Rattle.coverage.proofs.covers.Goals.{Else-wide-eq255, Else-wide-eq255-2}
 
 -- the policy called is not FF; it and the caller's are lists
 other : (k : Else-wide-eq255) → let a = k.args in get_or a.g.now a.p.called 0 ≡ 255 → ⊥

@@ -10,7 +10,7 @@ use Rattle.policies.proofs.Gathered as gathered
 use Rattle.policies.proofs.Kept as kept
 use Rattle.coverage.specs.Covers.{entry_bit}
 use Rattle.coverage.proofs.known_mask.Goals as goal
-use Rattle.coverage.proofs.known_mask.Goals.{After-slot, At-loop-left, In-loop-left, Start}
+use Rattle.coverage.proofs.known_mask.Goals.{After-slot, In-loop-left, Start}
 
 -- what is gathered
 abbrev bits : Start → ℕ → ℕ

@@ -8,7 +8,7 @@ use Rattle.policies.proofs.Rules.{over_in}
 use Rattle.policies.proofs.Kept as kept
 use Rattle.coverage.proofs.AllListed as listed
 use Rattle.coverage.proofs.lists_all.Goals as goal
-use Rattle.coverage.proofs.lists_all.Goals.{After-lists_wanted, After-number_at-n, After-slot-i, At-loop-left, In-loop-left, Start}
+use Rattle.coverage.proofs.lists_all.Goals.{After-slot-i}
 
 -- the index at hand, and its slot
 index : (k : After-slot-i) →

@@ -1,7 +1,6 @@
 -- `coverage::lists_kept` meets its contract: the slot found has the number. Assumes nothing.
 use Rattle.coverage.proofs.Looked as looked
 use Rattle.coverage.proofs.lists_kept.Goals as goal
-use Rattle.coverage.proofs.lists_kept.Goals.{After-listed_slot-k, Start}
 
 pub listed_slot-k-requires : goal.listed_slot-k-requires
 listed_slot-k-requires c = c.requires.list_over

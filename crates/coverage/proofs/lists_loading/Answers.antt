@@ -2,7 +2,6 @@
 use mathlib.Core.Path.{sym, ◌∙◌}
 use Rattle.coverage.proofs.Looked as looked
 use Rattle.coverage.proofs.lists_loading.Goals as goal
-use Rattle.coverage.proofs.lists_loading.Goals.{After-lists_kept}
 
 pub returns-then-has_bit : goal.returns-then-has_bit
 returns-then-has_bit c =

@@ -3,7 +3,6 @@ use mathlib.Core.Path.{sym, ◌∙◌}
 use Rattle.policies.proofs.Rules as rules
 use Rattle.coverage.proofs.Looked as looked
 use Rattle.coverage.proofs.lists_wanted.Goals as goal
-use Rattle.coverage.proofs.lists_wanted.Goals.{After-aid_bytes, After-lists_kept, After-nth_aid, In-At-2, Start}
 
 pub returns-then-has_bit : goal.returns-then-has_bit
 returns-then-has_bit c =

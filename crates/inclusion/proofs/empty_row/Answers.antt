@@ -4,7 +4,6 @@ use mathlib.Core.Path.{refl}
 use lib.ListN.{length-set}
 use Rattle.inclusion.proofs.Pairs.{clear_more}
 use Rattle.inclusion.proofs.empty_row.Goals as goal
-use Rattle.inclusion.proofs.empty_row.Goals.{Start}
 
 pub loop-i-init : goal.loop-i-init
 loop-i-init c = (refl, omega arith, λ k h. absurd (omega arith))

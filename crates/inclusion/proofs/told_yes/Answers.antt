@@ -10,7 +10,7 @@ use Rattle.inclusion.specs.Order.{IndexBits, OwnBit}
 use Rattle.inclusion.proofs.Pairs.{row_within}
 use Rattle.inclusion.proofs.Alike.{order_yes, numbers_yes}
 use Rattle.inclusion.proofs.told_yes.Goals as goal
-use Rattle.inclusion.proofs.told_yes.Goals.{After-index_bits, After-own_bit, After-within, Else-count-eq255, Else-wide-eq255, Start}
+use Rattle.inclusion.proofs.told_yes.Goals.{After-index_bits, After-own_bit, Else-wide-eq255}
 
 -- neither policy is FF
 first-lists : (k : Else-wide-eq255) → let a = k.args in get_or a.a.now a.p.policy 0 ≡ 255 → ⊥

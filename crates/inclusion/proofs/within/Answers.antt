@@ -8,7 +8,7 @@ use Rattle.policies.proofs.Rules.{over_in}
 use Rattle.policies.proofs.Kept.{left_start, left_more, left_here}
 use Rattle.inclusion.proofs.Passing as passing
 use Rattle.inclusion.proofs.within.Goals as goal
-use Rattle.inclusion.proofs.within.Goals.{After-number_at-n, After-slot, At-loop-left, In-loop-left, Start}
+use Rattle.inclusion.proofs.within.Goals.{After-slot, In-loop-left}
 
 -- the slot of the index at hand
 index : (k : In-loop-left) →

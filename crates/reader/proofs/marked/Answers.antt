@@ -4,7 +4,6 @@ use mathlib.Core.Path.{sym}
 use lib.Seq.{length-take-le}
 use Rattle.reader.proofs.Files.{mark_short, mark_first, mark_second}
 use Rattle.reader.proofs.marked.Goals as goal
-use Rattle.reader.proofs.marked.Goals.{After-same_bytes, Else-same_bytes, Start}
 
 pub returns-then-f-lt5 : goal.returns-then-f-lt5
 returns-then-f-lt5 c =

@@ -5,7 +5,7 @@ use Rattle.cursor.specs.Limits.{limits_of}
 use Rattle.cursor.proofs.Steps.{stop_of, field_is, field_bad, aid_is, aid_bad, skip_is, skip_bad}
 use Rattle.reader.proofs.Files.{named_none, domains_none, imports_none, references_none, contents_stop, contents_bad, contents_are}
 use Rattle.reader.proofs.read_contents.Goals as goal
-use Rattle.reader.proofs.read_contents.Goals.{After-aid, After-aids, After-aids-2, After-skip_classes, After-skip_references, In-Is-2, In-Is-aids-2-2, In-Is-aids-3, In-To-2, Start}
+use Rattle.reader.proofs.read_contents.Goals.{Start}
 
 -- the format of the file
 abbrev format : Start → Format

@@ -7,7 +7,7 @@ use Rattle.cursor.specs.Limits.{limits_of}
 use Rattle.cursor.proofs.Steps.{field_is, field_bad}
 use Rattle.reader.proofs.Files.{contents_stopped, contents_none, size_none, size_other, size_leads, size_ends, file_none, file_left, file_reads, unmarked, unreadable, package_read}
 use Rattle.reader.proofs.read_package.Goals as goal
-use Rattle.reader.proofs.read_package.Goals.{After-marked, After-new, After-read_contents, After-u2, Else-not-marked, In-Are-2, In-Is-2, Start}
+use Rattle.reader.proofs.read_package.Goals.{Start}
 
 -- the format of the file
 abbrev format : Start → Format

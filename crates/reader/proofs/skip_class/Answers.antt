@@ -5,7 +5,7 @@ use Rattle.cursor.specs.Limits.{limits_of}
 use Rattle.cursor.proofs.Steps.{field_is, field_bad, skip_is, skip_bad}
 use Rattle.reader.proofs.Formats.{class_none, class_kind, class_parents_none, class_leads}
 use Rattle.reader.proofs.skip_class.Goals as goal
-use Rattle.reader.proofs.skip_class.Goals.{After-skip_parents, After-u1, In-Is-2, In-To-2, Start}
+use Rattle.reader.proofs.skip_class.Goals.{Start}
 
 -- the format of the file
 abbrev format : Start → Format

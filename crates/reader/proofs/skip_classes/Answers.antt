@@ -7,7 +7,7 @@ use Rattle.cursor.proofs.Steps.{said_inside, field_is, field_bad, skip_is, skip_
 use Rattle.cursor.proofs.Counts.{count_none, count_many, count_leads, loop_next, loop_none, loop_done}
 use Rattle.reader.proofs.Formats.{inside_any}
 use Rattle.reader.proofs.skip_classes.Goals as goal
-use Rattle.reader.proofs.skip_classes.Goals.{After-skip_class, After-u1, At-loop-left, In-Is-2, Start}
+use Rattle.reader.proofs.skip_classes.Goals.{Start}
 
 -- the format of the file
 abbrev format : Start → Format

@@ -7,7 +7,6 @@ use Rattle.cursor.proofs.Counts.{count_none, count_many, count_leads}
 use Rattle.cursor.proofs.Widths.{wide_reads, wide_ends}
 use Rattle.reader.proofs.Formats.{wide_reference}
 use Rattle.reader.proofs.skip_references.Goals as goal
-use Rattle.reader.proofs.skip_references.Goals.{After-u2, In-Is-2, Start}
 
 pub returns-in_default : goal.returns-in_default
 returns-in_default c =

@@ -8,7 +8,7 @@ use Rattle.policies.proofs.Indexes as indexes
 use Rattle.inclusion.specs.Order.{slot_as}
 use Rattle.inclusion.proofs.order.are_bits.Invariants.{is_bit}
 use Rattle.inclusion.proofs.order.are_bits.Goals as goal
-use Rattle.inclusion.proofs.order.are_bits.Goals.{After-has_bit, In-loop-left}
+use Rattle.inclusion.proofs.order.are_bits.Goals.{After-has_bit}
 
 -- the index at hand is a bit, as the test told
 tested : (k : After-has_bit) (r : Bool) → k.has_bit.result ≡ r →

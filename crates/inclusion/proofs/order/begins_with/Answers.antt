@@ -7,7 +7,7 @@ use Rattle.files.proofs.Steps.{aids_in}
 use Rattle.policies.proofs.Numbers.{domains_aids}
 use Rattle.inclusion.proofs.Begins as begins
 use Rattle.inclusion.proofs.order.begins_with.Goals as goal
-use Rattle.inclusion.proofs.order.begins_with.Goals.{At-loop-left, Else-more-eq0, Else-not-aid_is}
+use Rattle.inclusion.proofs.order.begins_with.Goals.{Else-more-eq0}
 
 -- the AIDs at hand
 here : (k : Else-more-eq0) →

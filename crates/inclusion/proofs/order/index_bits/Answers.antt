@@ -8,7 +8,6 @@ use Rattle.policies.proofs.Gathered as gathered
 use Rattle.inclusion.specs.Order.{slot_as}
 use Rattle.inclusion.proofs.order.index_bits.Invariants.{bit}
 use Rattle.inclusion.proofs.order.index_bits.Goals as goal
-use Rattle.inclusion.proofs.order.index_bits.Goals.{In-loop-left}
 
 pub bounds-s-at : goal.bounds-s-at
 bounds-s-at c = omega arith

@@ -6,7 +6,6 @@ use Rattle.cursor.specs.Limits.{limits_of}
 use Rattle.cursor.proofs.Steps.{said_inside, field_is, field_bad}
 use Rattle.reader.proofs.Formats.{code_absent, code_none, code_empty, code_long, code_leads}
 use Rattle.reader.proofs.members.skip_code.Goals as goal
-use Rattle.reader.proofs.members.skip_code.Goals.{After-u2, Else-not-implemented, In-Is-2, Start}
 
 pub returns-then-not-implemented : goal.returns-then-not-implemented
 returns-then-not-implemented c =

@@ -10,7 +10,7 @@ use Rattle.cursor.proofs.Steps.{Leads, said_inside, field_is, field_bad}
 use Rattle.cursor.proofs.Counts.{count_none, count_many, count_leads}
 use Rattle.reader.proofs.Formats.{wide_handler, wide_span, handlers_absent, handlers_first, handlers_lead}
 use Rattle.reader.proofs.members.skip_handlers.Goals as goal
-use Rattle.reader.proofs.members.skip_handlers.Goals.{After-u1, Else-not-implemented, Else-not-is_second, In-Is-2, Start}
+use Rattle.reader.proofs.members.skip_handlers.Goals.{Else-not-is_second}
 
 pub returns-then-not-implemented : goal.returns-then-not-implemented
 returns-then-not-implemented c =

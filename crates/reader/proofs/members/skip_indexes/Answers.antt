@@ -6,7 +6,6 @@ use Rattle.cursor.proofs.Steps.{said_inside, field_is, field_bad}
 use Rattle.cursor.proofs.Counts.{loop_next, loop_none, loop_done}
 use Rattle.reader.proofs.Formats.{item_none, item_bad, item_stops}
 use Rattle.reader.proofs.members.skip_indexes.Goals as goal
-use Rattle.reader.proofs.members.skip_indexes.Goals.{After-u1, In-Is-2, Start}
 
 pub loop-left-init : goal.loop-left-init
 loop-left-init c =

@@ -7,7 +7,7 @@ use Rattle.cursor.specs.Limits.{limits_of}
 use Rattle.cursor.proofs.Steps.{stopped_inside, field_is, field_bad, skip_is, skip_bad}
 use Rattle.reader.proofs.Formats.{method_none, method_spare, method_name_none, method_policy_none, method_code_none, method_leads, inside_any}
 use Rattle.reader.proofs.members.skip_method.Goals as goal
-use Rattle.reader.proofs.members.skip_method.Goals.{After-skip_code, After-skip_policy, After-u1, After-u2, Else-bits-ne0, In-Is-2, In-Is-u2-2, In-To-2, In-To-skip_code-2, Start}
+use Rattle.reader.proofs.members.skip_method.Goals.{Start}
 
 -- the format of the file
 abbrev format : Start → Format

@@ -3,7 +3,6 @@ use native.Mathlib.Omega.{arith}
 use Rattle.cursor.proofs.Steps.{said_inside, field_is, field_bad}
 use Rattle.reader.proofs.Formats.{policy_none, policy_every, policy_many, policy_leads}
 use Rattle.reader.proofs.members.skip_policy.Goals as goal
-use Rattle.reader.proofs.members.skip_policy.Goals.{Else-count-eq-EVERY, In-Is-2}
 
 pub returns-in_default : goal.returns-in_default
 returns-in_default c =
