@@ -4,14 +4,14 @@
 use Prim.Native.Nat.{ℕ}
 use mathlib.Core.Path.{◌≡◌, refl, sym, ap, ◌∙◌, subst}
 use mathlib.Core.Bool.{Bool, true, false, ◌&&◌, ◌||◌, or-true}
-use mathlib.Core.List.{List, [], ◌∷◌, ◌++◌}
+use mathlib.Core.List.{List, [], ◌∷◌}
 use lib.Dec.{T, eqb, ltb}
 use lib.IntN.{ℤ, pos, negsuc}
 use lib.ListN.{length}
 use borrow.Author.Tests.{eq-eqb, eqb-true}
 use Rattle.rules.specs.Bytes.{Bytes, any, all, some_and, flat}
 use Rattle.rules.specs.Code.{split, targets_at, is_start, code_branches}
-use Rattle.bits.specs.Bits.{bit_at, WithinIs}
+use Rattle.bits.specs.Bits.{WithinIs}
 use Rattle.codes.specs.Marks.{goes_to, in_code, Passed}
 use Rattle.codes.proofs.Adding.{all_join}
 use mathlib.Core.Option.{Option, some}

@@ -6,7 +6,6 @@ use mathlib.Core.Bool.{Bool, true, false, not}
 use mathlib.Core.List.{List, [], ◌∷◌}
 use mathlib.Core.Option.{Option, none, some}
 use lib.ListN.{length}
-use borrow.Author.Tests.{not-true, not-false}
 use Rattle.rules.specs.Bytes.{Bytes, pick, some_and, list_of, flat}
 use Rattle.rules.specs.Code.{u1_at, split, may_end, last_may_end, code_splits, code_branches, code_handlers, call_at, calls_of}
 use Rattle.bits.specs.Bits.{WithinIs}

@@ -13,7 +13,7 @@ use Rattle.rules.specs.Code.{u1_at, instruction_length, split_from, split, targe
 use Rattle.rules.proofs.Tests.{none_some}
 use Rattle.bits.specs.Bits.{bit_at, with_bit}
 use Rattle.instructions.specs.Table.{Says, nonzero}
-use Rattle.codes.specs.Marks.{Marks, Adds, last_of, last_in, empty, Passed, Walk}
+use Rattle.codes.specs.Marks.{Adds, last_of, last_in, empty, Passed, Walk}
 use Rattle.instructions.proofs.Sizes.{nonzero_is, nonzero_none}
 use Rattle.rules.proofs.Splitting.{behind, split_end, split_none, split_more}
 use Rattle.codes.proofs.Adding.{any_join, adds_nil, adds_join, adds_is}

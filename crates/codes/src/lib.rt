@@ -1,4 +1,6 @@
 // Codes: questions 16, 17 and 24 of one code in one walk, 26 in another, and its calls in order.
+#![tactic(auto)]
+
 mod branches;
 mod handlers;
 pub mod subset;
@@ -17,11 +19,11 @@ use handlers::all_fit;
 use instructions::{entry_at, instruction_length, may_end};
 
 // An offset in a code, counted from that code's first byte: never a place in a file.
-#[derive(Drop)]
+#[derive(Clone, Copy)]
 pub struct CodeOffset(pub usize);
 
 // How a call is made: 8B, 8C, 8D, 8E.
-#[derive(Drop)]
+#[derive(Clone, Copy)]
 pub enum Calling {
     Virtual,
     Special,
@@ -30,14 +32,14 @@ pub enum Calling {
 }
 
 // What the instruction at an offset is: a call with the index of its reference, or another one.
-#[derive(Drop)]
+#[derive(Clone, Copy)]
 pub enum CallHere {
     Call(Calling, usize),
     Other,
 }
 
 // The first call from an offset on, with the index of its reference and the offset behind it; or none is left.
-#[derive(Drop)]
+#[derive(Clone, Copy)]
 pub enum NextCall {
     Call {
         kind: Calling,
@@ -49,7 +51,7 @@ pub enum NextCall {
 
 // What the walk over a code finds: one more than the offset of its last instruction, 0 where it does not split or is empty; whether
 // every branch stays inside; whether there is a call.
-#[derive(Drop)]
+#[derive(Clone, Copy)]
 pub struct Walked {
     pub last: usize,
     pub inside: bool,
