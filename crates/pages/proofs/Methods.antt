@@ -1,13 +1,13 @@
 -- Counting the methods of a file, class by class. Assumes nothing.
 use Prim.Native.Nat.{ℕ, ◌+◌, ◌-◌, ◌≤◌, ◌<◌}
 use native.Mathlib.Omega.{arith}
-use mathlib.Core.Path.{◌≡◌, refl, sym, ◌∙◌, ap}
-use mathlib.Core.List.{List, [], ◌∷◌}
+use mathlib.Core.Path.{◌≡◌, sym, ◌∙◌}
+use mathlib.Core.List.{List}
 use mathlib.Core.Option.{some}
 use lib.ListN.{length, get_or}
 use Rattle.rules.specs.Bytes.{Bytes, Aid, u1, counted}
 use Rattle.rules.specs.Package.{Limits, format_of, most_classes, most_methods, Class, Package, method, class, read_file}
-use Rattle.places.specs.Reads.{Reads, Tracks}
+use Rattle.places.specs.Reads.{Reads}
 use Rattle.places.proofs.Steady.{steady_u1, steady_method, steady_class}
 use Rattle.places.proofs.Inverse.{reads_counted, reads_u1}
 use Rattle.places.proofs.Track.{track_more, track_done, many_length}

@@ -1,4 +1,6 @@
 // The lines of the inventory's page, put into a buffer (document 02, request 1). What a line and the totals are: inventory_rules.
+#![tactic(auto)]
+
 ghost use Rattle.std.specs.Prelude.{◌+◌, ◌*◌, ◌≤◌, length};
 ghost use Rattle.files.specs.Say.{Readable};
 ghost use Rattle.store.specs.Sound.{SoundAt};
@@ -9,7 +11,7 @@ use store::EntryPart;
 use text::{put_byte, put_hex, put_two};
 
 // The place behind the lines, and the totals.
-#[derive(Drop)]
+#[derive(Clone, Copy)]
 pub struct Listed {
     pub at: usize,
     pub packages: usize,
