@@ -1,4 +1,6 @@
 // The questions of a creation, a deletion, a removal and a query on a sound store, from 3 on.
+#![tactic(auto)]
+
 ghost use Rattle.std.specs.Prelude.{◌≡◌, ◌+◌, ◌*◌};
 ghost use Rattle.rules.specs.Bytes.{pick};
 ghost use Rattle.rules.specs.Store.{DomainKind, store_limits};
@@ -13,14 +15,14 @@ use policies::RightsPlace;
 use store::{EntryPart, FileSpot, Spot as Place};
 
 // A deletion or a removal: the number of the first no, or from where up to where the entry stands that goes.
-#[derive(Drop)]
+#[derive(Clone, Copy)]
 pub enum Cut {
     Refused(u32),
     Entry(usize, usize),
 }
 
 // Does a method allow a domain, or is there no such method?
-#[derive(Drop)]
+#[derive(Clone, Copy)]
 enum Allowed {
     Yes,
     No,

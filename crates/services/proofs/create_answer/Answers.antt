@@ -1,0 +1,52 @@
+-- `services::create_answer` meets its contract, question by question. Assumes nothing.
+use Rattle.store.specs.Answers.{Fits}
+use Rattle.store.proofs.Sound.{over_some, over_to}
+use Rattle.rules.specs.Bytes.{pick, aid_length}
+use Rattle.rules.specs.Store.{DomainKind, domain}
+use Rattle.rules.specs.Operations.{create}
+use Rattle.store.specs.Sound.{Asked}
+use Rattle.services.proofs.Creation as creation
+use Rattle.services.proofs.Cuts as cuts
+use borrow.Author.Tests.{not-false}
+use lib.ListN.{length}
+use mathlib.Core.Path.{◌≡◌, sym, ◌∙◌, subst}
+use mathlib.Core.Bool.{Bool, true, false}
+use Rattle.services.proofs.create_answer.Goals as goal
+use Rattle.services.proofs.create_answer.Goals.{After-domain_fits, Else-not-length_ok}
+
+-- question 3 was answered yes
+three : (k : Else-not-length_ok) → aid_length (length k.args.domain.now) ≡ true
+three k = sym k.length_ok.ensures ∙ not-false _ k.if-not-length_ok.false-raw
+
+-- the answer where there is no such domain, by whether the entry fits
+asked-fits : (k : After-domain_fits) (b : Bool) → k.domain_fits.result ≡ b →
+    let a = k.args in
+    (d : DomainKind) → Asked a.s.now a.used (create d a.domain.now) (pick b 0 21)
+asked-fits k b e d =
+    let a = k.args in
+    let fits = subst (Fits a.s.now a.used (domain d a.domain.now)) e (k.domain_fits.ensures d) in
+    creation.create_21 a.s.now a.used a.domain.now d (three (goal.at.After-domain_fits k).Else-not-length_ok) k.find_domain.result k.find_domain.ensures b k.in-Nothing.is fits
+
+pub returns-then-not-length_ok : goal.returns-then-not-length_ok
+returns-then-not-length_ok c =
+    let a = c.args in
+    λ d. creation.create_3 a.s.now a.used a.domain.now d (sym c.length_ok.ensures ∙ c.if-not-length_ok.true)
+
+pub find_domain-requires : goal.find_domain-requires
+find_domain-requires c =
+    cuts.sound_stand c.args.s.now c.args.used c.requires
+
+pub domain_fits-requires : goal.domain_fits-requires
+domain_fits-requires c =
+    over_to c.args.s.now c.args.used (over_some _ _ c.requires)
+
+pub returns-then-not-domain_fits : goal.returns-then-not-domain_fits
+returns-then-not-domain_fits c = asked-fits (goal.at.returns-then-not-domain_fits c).After-domain_fits false (c.if-not-domain_fits.true)
+
+pub returns-in-At : goal.returns-in-At
+returns-in-At c =
+    let a = c.args in
+    λ d. creation.create_4 a.s.now a.used a.domain.now d (three (goal.at.returns-in-At c).Else-not-length_ok) c.find_domain.result c.find_domain.ensures _ _ c.in-At.is
+
+pub returns-else-not-domain_fits : goal.returns-else-not-domain_fits
+returns-else-not-domain_fits c = asked-fits (goal.at.returns-else-not-domain_fits c).After-domain_fits true (c.if-not-domain_fits.false)
