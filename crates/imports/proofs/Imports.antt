@@ -3,7 +3,7 @@
 use Prim.Native.Nat.{ℕ, zero, suc, ◌≤◌, ◌<◌}
 use native.Mathlib.Omega.{arith}
 use mathlib.Core.Path.{◌≡◌, refl, sym, ◌∙◌, ap, subst}
-use mathlib.Core.Bool.{Bool, true, false, ◌&&◌, not}
+use mathlib.Core.Bool.{Bool, true, false, ◌&&◌}
 use mathlib.Core.List.{List, [], ◌∷◌}
 use mathlib.Core.Option.{none, some}
 use lib.ListN.{length, get_or}
@@ -24,9 +24,9 @@ use Rattle.store.specs.declared.FileSpot.{FileSpot}
 use Rattle.store.specs.declared.FileSpot.TheVariants.{File, Missing}
 use Rattle.index.specs.Index.{IndexIs}
 use Rattle.homes.specs.Found.{Indexed}
-use Rattle.homes.specs.Homes.{own, HomeSays, ByAid}
+use Rattle.homes.specs.Homes.{HomeSays, ByAid}
 use Rattle.homes.specs.declared.HomeFound.{HomeFound}
-use Rattle.homes.specs.declared.HomeFound.TheVariants.{At, Nothing}
+use Rattle.homes.specs.declared.HomeFound.TheVariants.{Nothing}
 use Rattle.homes.proofs.Homes.{all_read}
 use Rattle.imports.specs.Say.{SettingThere, OfSetting, NewIs, ImportHomeIs}
 

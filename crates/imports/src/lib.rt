@@ -1,4 +1,6 @@
 // Questions 12 and 13 of a file over the entries that end at a place: is it new, is each import installed, and where?
+#![tactic(auto)]
+
 ghost use Rattle.std.specs.Prelude.{◌≡◌, ℕ, ◌≤◌, length, get_or};
 ghost use Rattle.index.specs.Index.{IndexIs};
 ghost use Rattle.homes.specs.Found.{places_length, ImportPlaces};
