@@ -1,5 +1,7 @@
 // The class that a package number and a class number name in the file being judged: the home of its package, the place of its record.
 // Places are kept in rows of 32 numbers, one row for each file; 0 is a place that is not known yet.
+#![tactic(auto)]
+
 ghost use Rattle.std.specs.Prelude.{◌≡◌, ◌+◌, ◌≤◌, ◌<◌, length, get_or};
 ghost use Rattle.rules.specs.Package.{most_classes};
 ghost use Rattle.files.specs.Say.{Readable};
