@@ -2,29 +2,29 @@
 use lines::answers::{put_answer, put_bad};
 
 // Writes a line, and answers whether all of it was written; else a line on standard error says so.
-fn write_line(line: &[u8]) -> bool {
-    if streams::write_out(line) {
+fn write_line(rt: &HostRuntime, line: &[u8]) -> bool {
+    if streams::write_out(rt, line) {
         return true;
     }
-    streams::tell(b"card: standard output cannot be written\n");
+    streams::tell(rt, b"card: standard output cannot be written\n");
     false
 }
 
 // Says on standard error that the card stops since it cannot read.
-pub fn tell_input() {
-    streams::tell(b"card: standard input cannot be read\n");
+pub fn tell_input(rt: &HostRuntime) {
+    streams::tell(rt, b"card: standard input cannot be read\n");
 }
 
 // Writes the number of a line with its answer and used; three figures, two spaces and a newline have at most 63 characters.
-pub fn print_answer(number: u64, res: u32, used: usize) -> bool {
+pub fn print_answer(rt: &HostRuntime, number: u64, res: u32, used: usize) -> bool {
     let mut line = [0u8; 63];
     let n = put_answer(&mut line, number, res, used);
-    write_line(&line[..n])
+    write_line(rt, &line[..n])
 }
 
 // Writes the number of a line of other form.
-pub fn print_bad(number: u64) -> bool {
+pub fn print_bad(rt: &HostRuntime, number: u64) -> bool {
     let mut line = [0u8; 63];
     let n = put_bad(&mut line, number);
-    write_line(&line[..n])
+    write_line(rt, &line[..n])
 }

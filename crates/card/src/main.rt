@@ -1,6 +1,8 @@
 // The simulated card: a store of 8,192 bytes, fresh at the start, and an operation for each line of standard input (document 01,
 // "The simulated card"). What a program reads and writes is tested; that every call is safe, that it ends, and the characters of an answer
 // are proved.
+#![tactic(auto)]
+
 mod answers;
 
 ghost use Rattle.std.specs.Prelude.{◌<◌, ◌≤◌, length};
@@ -10,7 +12,7 @@ ghost use Rattle.lines.specs.Results.{middle, end};
 use lines::Form;
 
 // Where a line is read: how many of its characters are held, its number, and whether the card has stopped, since a write failed.
-#[derive(Drop)]
+#[derive(Clone, Copy)]
 struct Place {
     held: usize,
     number: u64,
@@ -31,21 +33,27 @@ fn operate(store: &mut [u8], form: Form, arguments: &[u8]) -> u32
 }
 
 // Answers a line, and says whether the answer was written.
-fn answer(store: &mut [u8], line: &[u8], number: u64) -> bool
+fn answer(rt: &HostRuntime, store: &mut [u8], line: &[u8], number: u64) -> bool
     requires { 6 < length store.old }
 {
     let mut arguments = [0u8; 4000];
     let form = lines::read_line(line, &mut arguments);
     if let Form::Bad = form {
-        return answers::print_bad(number);
+        return answers::print_bad(rt, number);
     }
     let result = operate(store, form, &arguments);
-    answers::print_answer(number, result, fields::u2_at(store, 5))
+    answers::print_answer(rt, number, result, fields::u2_at(store, 5))
 }
 
 // Answers the lines that end in a chunk, and holds the characters after the last newline. The number of a line would start again
 // after 2^64 - 1 lines, which no input has.
-fn take_chunk(store: &mut [u8], line: &mut [u8], chunk: &[u8], place: Place) -> Place
+fn take_chunk(
+    rt: &HostRuntime,
+    store: &mut [u8],
+    line: &mut [u8],
+    chunk: &[u8],
+    place: Place,
+) -> Place
     requires { (6 < length store.old) × (most_kept ≤ length line.old) × (place.held ≤ most_kept) }
     ensures { result.held ≤ most_kept }
 {
@@ -57,7 +65,7 @@ fn take_chunk(store: &mut [u8], line: &mut [u8], chunk: &[u8], place: Place) -> 
         let at = gathered.at;
         held = gathered.held;
         if at < chunk.len() {
-            if !answer(store, &line[..held], number) {
+            if !answer(rt, store, &line[..held], number) {
                 return Place {
                     held: 0,
                     number,
@@ -80,7 +88,7 @@ fn take_chunk(store: &mut [u8], line: &mut [u8], chunk: &[u8], place: Place) -> 
 
 // Answers the lines of standard input that end in a newline, and holds the characters after the last one; none where the card stops.
 // No input needs as many turns.
-fn take_input(store: &mut [u8], line: &mut [u8], chunk: &mut [u8]) -> Place
+fn take_input(rt: &HostRuntime, store: &mut [u8], line: &mut [u8], chunk: &mut [u8]) -> Place
     requires { (6 < length store.old) × (most_kept ≤ length line.old) }
     ensures { result.held ≤ most_kept }
 {
@@ -91,9 +99,9 @@ fn take_input(store: &mut [u8], line: &mut [u8], chunk: &mut [u8]) -> Place
     };
     let mut turns = u64::MAX;
     while turns > 0 {
-        let got = streams::read_some(chunk);
+        let got = streams::read_some(rt, chunk);
         if got.failed {
-            answers::tell_input();
+            answers::tell_input(rt);
             return Place {
                 held: 0,
                 number: place.number,
@@ -103,7 +111,7 @@ fn take_input(store: &mut [u8], line: &mut [u8], chunk: &mut [u8]) -> Place
         if got.ended {
             return place;
         }
-        place = take_chunk(store, line, &chunk[..got.count], place);
+        place = take_chunk(rt, store, line, &chunk[..got.count], place);
         if place.stopped {
             return place;
         }
@@ -113,20 +121,20 @@ fn take_input(store: &mut [u8], line: &mut [u8], chunk: &mut [u8]) -> Place
 }
 
 // Answers every line of standard input; the last may lack its newline.
-fn run(store: &mut [u8], line: &mut [u8], chunk: &mut [u8])
+fn run(rt: &HostRuntime, store: &mut [u8], line: &mut [u8], chunk: &mut [u8])
     requires { (6 < length store.old) × (most_kept ≤ length line.old) }
 {
-    let place = take_input(store, line, chunk);
+    let place = take_input(rt, store, line, chunk);
     let held = place.held;
     if held > 0 {
-        answer(store, &line[..held], place.number);
+        answer(rt, store, &line[..held], place.number);
     }
 }
 
-fn main() {
+fn main(rt: HostRuntime) {
     let mut store = [0u8; 8192];
     let mut line = [0u8; 8001];
     let mut chunk = [0u8; 4096];
     loader::loader_fresh(&mut store);
-    run(&mut store, &mut line, &mut chunk);
+    run(&rt, &mut store, &mut line, &mut chunk);
 }

@@ -1,28 +1,30 @@
 // The printed inventory: the page of the store that standard input holds, on standard output (document 02, request 1). What a program reads
 // and writes is tested; that the bytes it hands on to be written are the page of those it was given is proved.
+#![tactic(auto)]
+
 mod page;
 
 ghost use Rattle.std.specs.Prelude.{◌≤◌, length};
 ghost use Rattle.pages.specs.Says.{most_page};
 
 // Prints the page of a store's bytes.
-fn print_page(store: &[u8], page: &mut [u8])
+fn print_page(rt: &HostRuntime, store: &[u8], page: &mut [u8])
     requires { most_page ≤ length page.old }
 {
     let n = page::put_page(store, page);
-    if !streams::write_out(&page[..n]) {
-        streams::tell(b"inventory: standard output cannot be written\n");
+    if !streams::write_out(rt, &page[..n]) {
+        streams::tell(rt, b"inventory: standard output cannot be written\n");
     }
 }
 
 // One byte more than a store may have is read: it tells that there are too many.
-fn main() {
+fn main(rt: HostRuntime) {
     let mut store = [0u8; 65536];
     let mut page = [0u8; 131100];
-    let got = streams::read_whole(&mut store);
+    let got = streams::read_whole(&rt, &mut store);
     if got.failed {
-        streams::tell(b"inventory: standard input cannot be read\n");
+        streams::tell(&rt, b"inventory: standard input cannot be read\n");
         return;
     }
-    print_page(&store[..got.count], &mut page);
+    print_page(&rt, &store[..got.count], &mut page);
 }

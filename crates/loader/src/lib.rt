@@ -1,4 +1,6 @@
-// The operations that the card's operating system calls. Each result is number + 256 × figure.
+// The operations that the card's operating system calls. Each result is number + 256 × figure. The crate loader_c gives them to C.
+#![tactic(auto)]
+
 ghost use Rattle.std.specs.Prelude.{◌≡◌};
 ghost use Rattle.rules.specs.Store.{version1, version2, full, without_int, domain_byte};
 ghost use Rattle.rules.specs.Operations.{create, delete, load, remove, number, after, fresh_number, fresh_bytes};
@@ -68,8 +70,7 @@ fn load_on(store: &mut [u8], used: usize, domain: &[u8], file: &[u8], depth: usi
 }
 
 // Makes an empty store of a buffer of 64 to 65,535 bytes, whatever it held.
-#[unsafe(no_mangle)]
-pub extern "C" fn loader_fresh(store: &mut [u8]) -> u32
+pub fn loader_fresh(store: &mut [u8]) -> u32
     ensures value { result ≡ fresh_number store.old version1 }
     ensures store_after { store.new ≡ fresh_bytes store.old version1 }
 {
@@ -81,8 +82,7 @@ pub extern "C" fn loader_fresh(store: &mut [u8]) -> u32
 }
 
 // The second fresh call: makes an empty store with these limits of such a buffer, where each limit lies in its range.
-#[unsafe(no_mangle)]
-pub extern "C" fn loader_fresh_limits(store: &mut [u8], depth: u8, parents: u8, code: u16) -> u32
+pub fn loader_fresh_limits(store: &mut [u8], depth: u8, parents: u8, code: u16) -> u32
     ensures value { result ≡ fresh_number store.old (version2 (limits_given depth parents code)) }
     ensures store_after { store.new ≡ fresh_bytes store.old (version2 (limits_given depth parents code)) }
 {
@@ -96,8 +96,7 @@ pub extern "C" fn loader_fresh_limits(store: &mut [u8], depth: u8, parents: u8, 
 }
 
 // Creates a domain of kind 1.
-#[unsafe(no_mangle)]
-pub extern "C" fn loader_create(store: &mut [u8], domain: &[u8]) -> u32
+pub fn loader_create(store: &mut [u8], domain: &[u8]) -> u32
     ensures value { result ≡ number store.old (create full domain.now) }
     ensures store_after { store.new ≡ after store.old (create full domain.now) }
 {
@@ -108,8 +107,7 @@ pub extern "C" fn loader_create(store: &mut [u8], domain: &[u8]) -> u32
 }
 
 // The second creation: a domain of kind 3, whose packages keep to the subset without int.
-#[unsafe(no_mangle)]
-pub extern "C" fn loader_create_without_int(store: &mut [u8], domain: &[u8]) -> u32
+pub fn loader_create_without_int(store: &mut [u8], domain: &[u8]) -> u32
     ensures value { result ≡ number store.old (create without_int domain.now) }
     ensures store_after { store.new ≡ after store.old (create without_int domain.now) }
 {
@@ -120,8 +118,7 @@ pub extern "C" fn loader_create_without_int(store: &mut [u8], domain: &[u8]) -> 
 }
 
 // Deletes a domain.
-#[unsafe(no_mangle)]
-pub extern "C" fn loader_delete(store: &mut [u8], domain: &[u8]) -> u32
+pub fn loader_delete(store: &mut [u8], domain: &[u8]) -> u32
     ensures value { result ≡ number store.old (delete domain.now) }
     ensures store_after { store.new ≡ after store.old (delete domain.now) }
 {
@@ -132,8 +129,7 @@ pub extern "C" fn loader_delete(store: &mut [u8], domain: &[u8]) -> u32
 }
 
 // Loads a package file into a domain; the figure is the depth of its deepest class, 0 where it has none.
-#[unsafe(no_mangle)]
-pub extern "C" fn loader_load(store: &mut [u8], domain: &[u8], file: &[u8]) -> u32
+pub fn loader_load(store: &mut [u8], domain: &[u8], file: &[u8]) -> u32
     ensures load_promise { LoadPromise store.old domain.now file.now result }
     ensures store_after { store.new ≡ after store.old (load domain.now file.now) }
 {
@@ -144,8 +140,7 @@ pub extern "C" fn loader_load(store: &mut [u8], domain: &[u8], file: &[u8]) -> u
 }
 
 // Removes a package.
-#[unsafe(no_mangle)]
-pub extern "C" fn loader_remove(store: &mut [u8], package: &[u8]) -> u32
+pub fn loader_remove(store: &mut [u8], package: &[u8]) -> u32
     ensures value { result ≡ number store.old (remove «package».now) }
     ensures store_after { store.new ≡ after store.old (remove «package».now) }
 {
@@ -156,14 +151,7 @@ pub extern "C" fn loader_remove(store: &mut [u8], package: &[u8]) -> u32
 }
 
 // Asks whether a package's method, by class and name, allows a domain; the figure is 1 for yes and 0 for no.
-#[unsafe(no_mangle)]
-pub extern "C" fn loader_query(
-    store: &[u8],
-    domain: &[u8],
-    package: &[u8],
-    class: u8,
-    name: u16,
-) -> u32
+pub fn loader_query(store: &[u8], domain: &[u8], package: &[u8], class: u8, name: u16) -> u32
     ensures { QueryPromise store.now domain.now «package».now class name result }
 {
     match sound::open_store(store) {
