@@ -18,7 +18,7 @@ handlers k = k.args.handlers.now
 -- the last instruction may end the code
 ends : (k : Else-not-may_end) →
     may_end (u1_at k.args.code.now (k.walk-found.result.last - 1)) ≡ true
-ends k = sym k.may_end.ensures ∙ not-false _ k.if-not-may_end.false-raw
+ends k = sym k.may_end.ensures ∙ k.if-not-may_end.false
 
 -- where all three hold, the number is by whether the code calls
 lands : (k : Else-not-all_fit) (b : Bool) →
@@ -26,8 +26,8 @@ lands : (k : Else-not-all_fit) (b : Bool) →
     k.walk-found.result.calls ≡ b → code_number a.code.now (handlers_in a.handlers.now) ≡ pick b 18 0
 lands k b e =
     number_lands _ (handlers (goal.at.Else-not-all_fit k).After-walk-found) _ _ _ _ _ k.walk-found.ensures k.if-found-eq0.false (ends (goal.at.Else-not-all_fit k).Else-not-may_end) (not-false _ k.if-not-found.false)
-    k.is_within.result k.is_within.ensures (not-false _ k.if-not-is_within.false-raw)
-    k.all_fit.result k.all_fit.ensures (not-false _ k.if-not-all_fit.false-raw) b e
+    k.is_within.result k.is_within.ensures (k.if-not-is_within.false)
+    k.all_fit.result k.all_fit.ensures (k.if-not-all_fit.false) b e
 
 pub walk-found-requires : goal.walk-found-requires
 walk-found-requires c =

@@ -2,7 +2,6 @@
 use native.Mathlib.Omega.{arith}
 use mathlib.Core.Path.{◌≡◌, ap, ◌∙◌}
 use mathlib.Core.Option.{none}
-use borrow.Author.Tests.{not-false}
 use Rattle.rules.specs.Bytes.{u1, counted}
 use Rattle.rules.specs.Package.{most_handlers, edition1, edition2, edition_of, handler, handlers_if}
 use Rattle.fields.specs.Editions.{edition_if}
@@ -26,8 +25,8 @@ counts : (c : Else-not-is_second) → (Leads
     (handlers_if (edition_of c.args.f.now) c.args.implemented) (counted most_handlers u1 handler) c.args.f.now
     c.args.from.at.0 c.args.from.at.0)
 counts c =
-    let edition : edition_of c.args.f.now ≡ edition2 = c.is_second.ensures ∙ ap edition_if (not-false c.is_second.result c.if-not-is_second.false-raw) in
-    handlers_lead (not-false c.args.implemented c.if-not-implemented.false-raw) edition
+    let edition : edition_of c.args.f.now ≡ edition2 = c.is_second.ensures ∙ ap edition_if c.if-not-is_second.false in
+    handlers_lead c.if-not-implemented.false edition
 
 pub returns-in_default : goal.returns-in_default
 returns-in_default c =
