@@ -10,8 +10,8 @@ use lib.ListN.{length, drop, get_or, length-drop}
 use lib.Seq.{get_or-drop}
 use borrow.Author.Tests.{eq-eqb, ne_eqb}
 use Rattle.rules.specs.Bytes.{Bytes, Aid, at, u1}
-use Rattle.rules.specs.Package.{Limits, Format, ClassNumber, Class, class_number, class}
-use Rattle.rules.specs.Store.{Entry, store_limits}
+use Rattle.rules.specs.Package.{Format, ClassNumber, Class, class_number, class}
+use Rattle.rules.specs.Store.{Entry}
 use Rattle.rules.specs.Classes.{Installed}
 use Rattle.rules.proofs.Tests.{none_some}
 use Rattle.rules.proofs.Lists.{at_below}
