@@ -48,18 +48,12 @@ loop-next-init c =
 pub entry_at-requires : goal.entry_at-requires
 entry_at-requires c = left_stand c.loop-next.invariant.0
 
-pub enum_known-next : goal.enum_known-next
-enum_known-next c = c.in-Domain.in-Domain-own.keys1
-
 pub loop-next-smaller-in-Domain : goal.loop-next-smaller-in-Domain
 loop-next-smaller-in-Domain c = omega (arith, domain_in c.loop-next.invariant.0 (is_domain_lem c))
 
 pub loop-next-preserved-in-Domain : goal.loop-next-preserved-in-Domain
 loop-next-preserved-in-Domain c =
     (left_domain c.loop-next.invariant.0 (is_domain_lem c), c.loop-next.invariant.1)
-
-pub enum_known-from : goal.enum_known-from
-enum_known-from c = c.in-Package.in-Package-own.keys2
 
 pub slice_bounds-methods_in-count : goal.slice_bounds-methods_in-count
 slice_bounds-methods_in-count c = (inside c).to
@@ -121,9 +115,6 @@ loop-next-preserved c = (
   left_package c.loop-next.invariant.0 (used-in (goal.at.loop-next-preserved c).At-loop-next) (is_package_lem (goal.at.loop-next-preserved c).In-Package) c.methods_in-n.ensures c.put_line-at.ensures,
   (c.put_line-at.ensures (store_limits c.args.s.now) (inside (goal.at.loop-next-preserved c).In-Package).pack (inside (goal.at.loop-next-preserved c).In-Package).reads).kept ∙ c.loop-next.invariant.1,
 )
-
-pub enum_told-1 : goal.enum_told-1
-enum_told-1 c = c.in-AtEnd.in-AtEnd-own.keys3
 
 pub shape_of-out-in-AtEnd : goal.shape_of-out-in-AtEnd
 shape_of-out-in-AtEnd c = c.loop-next.invariant.1

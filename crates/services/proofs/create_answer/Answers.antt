@@ -7,7 +7,6 @@ use Rattle.rules.specs.Operations.{create}
 use Rattle.store.specs.Sound.{Asked}
 use Rattle.services.proofs.Creation as creation
 use Rattle.services.proofs.Cuts as cuts
-use borrow.Author.Tests.{not-false}
 use lib.ListN.{length}
 use mathlib.Core.Path.{◌≡◌, sym, ◌∙◌, subst}
 use mathlib.Core.Bool.{Bool, true, false}
@@ -16,7 +15,7 @@ use Rattle.services.proofs.create_answer.Goals.{After-domain_fits, Else-not-leng
 
 -- question 3 was answered yes
 three : (k : Else-not-length_ok) → aid_length (length k.args.domain.now) ≡ true
-three k = sym k.length_ok.ensures ∙ not-false _ k.if-not-length_ok.false-raw
+three k = sym k.length_ok.ensures ∙ k.if-not-length_ok.false
 
 -- the answer where there is no such domain, by whether the entry fits
 asked-fits : (k : After-domain_fits) (b : Bool) → k.domain_fits.result ≡ b →

@@ -1,7 +1,6 @@
 -- `services::delete_answer` meets its contract, question by question. Assumes nothing.
 use Rattle.store.specs.Answers.{InUse}
 use Rattle.services.proofs.Cuts as cuts
-use borrow.Author.Tests.{not-false}
 use lib.ListN.{length}
 use mathlib.Core.Path.{◌≡◌, sym, ◌∙◌, subst}
 use mathlib.Core.Bool.{Bool, true, false}
@@ -11,7 +10,7 @@ use Rattle.services.proofs.delete_answer.Goals.{After-domain_in_use, Else-not-le
 
 -- question 3 was answered yes
 three : (k : Else-not-length_ok) → aid_length (length k.args.domain.now) ≡ true
-three k = sym k.length_ok.ensures ∙ not-false _ k.if-not-length_ok.false-raw
+three k = sym k.length_ok.ensures ∙ k.if-not-length_ok.false
 
 -- the answer on its use
 said : (k : After-domain_in_use) (b : Bool) → k.domain_in_use.result ≡ b →

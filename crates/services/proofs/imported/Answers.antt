@@ -58,18 +58,12 @@ loop-next-init c = λ es r. subst (Walk _ _ es _) (sym c.first_entry-at.ensures)
 pub entry_at-requires : goal.entry_at-requires
 entry_at-requires c = found.walks_from c.loop-next.invariant (stand (goal.at.entry_at-requires c).Start)
 
-pub enum_known-next : goal.enum_known-next
-enum_known-next c = c.in-Domain.in-Domain-own.keys1
-
 pub loop-next-smaller-in-Domain : goal.loop-next-smaller-in-Domain
 loop-next-smaller-in-Domain c =
     omega (arith, found.domain_in c.loop-next.invariant (stand (goal.at.loop-next-smaller-in-Domain c).Start) (is_domain_lem c))
 
 pub loop-next-preserved-in-Domain : goal.loop-next-preserved-in-Domain
 loop-next-preserved-in-Domain c = found.walks_domain c.loop-next.invariant (is_domain_lem c) refl
-
-pub enum_known-file : goal.enum_known-file
-enum_known-file c = c.in-Package.in-Package-own.keys2
 
 pub slice_bounds-other_imports-count : goal.slice_bounds-other_imports-count
 slice_bounds-other_imports-count c = omega (arith, package_in c)
@@ -94,9 +88,6 @@ loop-next-smaller c = omega (arith, package_in (goal.at.loop-next-smaller c).In-
 pub loop-next-preserved : goal.loop-next-preserved
 loop-next-preserved c =
     found.walks_package c.loop-next.invariant (is_package_lem (goal.at.loop-next-preserved c).In-Package) (importer_is (goal.at.loop-next-preserved c).After-other_imports false c.if-other_imports.false)
-
-pub enum_told-1 : goal.enum_told-1
-enum_told-1 c = c.in-AtEnd.in-AtEnd-own.keys3
 
 pub returns-in-AtEnd : goal.returns-in-AtEnd
 returns-in-AtEnd c =

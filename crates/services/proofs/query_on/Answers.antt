@@ -4,7 +4,6 @@ use native.Mathlib.Omega.{arith}
 use mathlib.Core.Path.{◌≡◌, refl, sym, ◌∙◌, subst}
 use mathlib.Core.Bool.{true, false}
 use lib.ListN.{length}
-use borrow.Author.Tests.{not-false}
 use Rattle.rules.specs.Bytes.{aid_length}
 use Rattle.files.specs.Say.{Readable}
 use Rattle.store.specs.Entries.{part}
@@ -18,10 +17,10 @@ use Rattle.services.proofs.query_on.Goals.{After-file_allows, Else-not-length_ok
 
 -- both AIDs have 5 to 16 bytes
 domain-yes : (k : Else-not-length_ok) → aid_length (length k.args.domain.now) ≡ true
-domain-yes k = sym k.length_ok.ensures ∙ not-false _ k.if-not-length_ok.false-raw
+domain-yes k = sym k.length_ok.ensures ∙ k.if-not-length_ok.false
 
 package-yes : (k : Else-not-length_ok-2) → aid_length (length k.args.«package».now) ≡ true
-package-yes k = sym k.length_ok-2.ensures ∙ not-false _ k.if-not-length_ok-2.false-raw
+package-yes k = sym k.length_ok-2.ensures ∙ k.if-not-length_ok-2.false
 
 -- the package that was found
 found : (k : In-File) →

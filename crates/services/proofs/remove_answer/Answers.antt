@@ -1,7 +1,6 @@
 -- `services::remove_answer` meets its contract, question by question. Assumes nothing.
 use Rattle.services.specs.Answers.{ImportedSays}
 use Rattle.services.proofs.Cuts as cuts
-use borrow.Author.Tests.{not-false}
 use lib.ListN.{length}
 use mathlib.Core.Path.{◌≡◌, sym, ◌∙◌, subst}
 use mathlib.Core.Bool.{Bool, true, false}
@@ -11,7 +10,7 @@ use Rattle.services.proofs.remove_answer.Goals.{After-imported, Else-not-length_
 
 -- question 3 was answered yes
 three : (k : Else-not-length_ok) → aid_length (length k.args.«package».now) ≡ true
-three k = sym k.length_ok.ensures ∙ not-false _ k.if-not-length_ok.false-raw
+three k = sym k.length_ok.ensures ∙ k.if-not-length_ok.false
 
 -- the answer on its use
 said : (k : After-imported) (b : Bool) → k.imported.result ≡ b →
