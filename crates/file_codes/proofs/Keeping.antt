@@ -2,10 +2,9 @@
 use Prim.Native.Nat.{ℕ, ◌≤◌, ◌<◌}
 use mathlib.Core.Path.{◌≡◌, sym, ◌∙◌, ap}
 use mathlib.Core.Bool.{Bool, true, false, ◌||◌, not}
-use mathlib.Core.List.{List}
 use lib.ListN.{length}
 use Rattle.rules.specs.Bytes.{Bytes, all}
-use Rattle.rules.specs.Package.{Method, Class}
+use Rattle.rules.specs.Package.{Class}
 use Rattle.rules.specs.Subset.{code_without_int}
 use Rattle.files.specs.Say.{ImplementedIs, CodeIs, MethodsAt, ClassesAt}
 use Rattle.files.proofs.Loops.{MethodLoop, methods_hit, methods_none, ClassLoop, every_hit, every_none}

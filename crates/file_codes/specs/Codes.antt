@@ -20,7 +20,7 @@ use Rattle.places.specs.Reads.{Ends}
 use Rattle.places.specs.Parts.{handlers_in}
 use Rattle.files.specs.Say.{OfMethod, OfClass}
 use Rattle.codes.specs.Marks.{no_calls}
-use Rattle.refusals.specs.Order.{Asks, each, no_of, no_of_all}
+use Rattle.refusals.specs.Order.{Asks, each, no_of}
 
 -- a question of a method's code, where it has one
 abbrev pub code_test : (Bytes → Bool) → Method → Bool

@@ -1,4 +1,6 @@
 // The codes of a file: questions 16, 17 and 24 of each, and whether there is a call of which 18 and 19 are to be asked.
+#![tactic(auto)]
+
 pub mod subset;
 
 ghost use Rattle.std.specs.Prelude.{◌≡◌, ◌+◌, ◌*◌, ◌<◌, ◌≤◌, length, take, drop, get_or};
