@@ -8,11 +8,10 @@ use Rattle.rules.specs.Bytes.{Bytes}
 use Rattle.homes.specs.Homes.{own_home, home_of, PackageFrom, NumberedIs}
 use Rattle.homes.specs.Found.{home_numbered, ImportPlaces}
 use Rattle.homes.specs.declared.Home.{Home}
-use Rattle.homes.specs.declared.HomeFound.{HomeFound}
 use Rattle.homes.specs.declared.HomeFound.TheVariants.{At}
 use Rattle.homes.proofs.Places.{home_by}
 use Rattle.homes.proofs.Imported.{numbered_placed, placed_at}
-use Rattle.slots.specs.Slots.{slots_length, with_home, slot_home, SmallHome, SlotsTrue, SlotFor}
+use Rattle.slots.specs.Slots.{with_home, slot_home, SmallHome, SlotsTrue, SlotFor}
 use Rattle.slots.proofs.Imports.{import_kept, same_slot}
 
 -- the slots are true of every file whose imports have these places, and slot 0 is that of the own file

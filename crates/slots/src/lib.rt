@@ -1,5 +1,7 @@
 // Class places and homes of imports of the packages at hand: a slot for each package, filled as far as it was asked. A slot tells the
 // truth of the package whose home stands in it.
+#![tactic(auto)]
+
 pub mod parents;
 
 ghost use Rattle.std.specs.Prelude.{◌≡◌, true, ◌+◌, ◌*◌, ◌<◌, ◌≤◌, length, set};
@@ -14,7 +16,7 @@ use files::Spot;
 use homes::{Home, HomeFound, Places};
 
 // A package whose classes and imports are asked for: its home, and the slot for it.
-#[derive(Drop)]
+#[derive(Clone, Copy)]
 pub struct Site {
     pub home: Home,
     pub slot: usize,
