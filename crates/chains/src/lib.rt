@@ -1,5 +1,7 @@
 // The chain of an own class of kind 0, which is the class and those along its kind-0 parents, the non-static methods of its classes
 // sorted by name, and the method that runs for a name. A chain goes from own classes to stored ones and never back.
+#![tactic(auto)]
+
 pub mod gathered;
 pub mod linked;
 
@@ -17,7 +19,7 @@ use homes::Home;
 use linked::{find_part, home_before, number_in};
 
 // The method that runs, by its package's home and its place in the file there, or none.
-#[derive(Drop)]
+#[derive(Clone, Copy)]
 pub enum RunsFound {
     At(Home, usize),
     Nothing,
@@ -25,7 +27,7 @@ pub enum RunsFound {
 
 // The names of own class `own` over the entries that end at `end`: the names of stored classes end at `stored`, those of own classes
 // at `all`. The stored ones are those of the chain from class `number` at `home` on, if `home` lies in the store.
-#[derive(Drop)]
+#[derive(Clone, Copy)]
 pub struct Names {
     pub end: usize,
     pub own: usize,

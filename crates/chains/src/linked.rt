@@ -10,7 +10,7 @@ use homes::Home;
 use slots::parents;
 
 // Where a part of a chain ends, and the class that follows it.
-#[derive(Drop)]
+#[derive(Clone, Copy)]
 pub struct Stop {
     pub link: usize,
     pub next: ClassFound,
