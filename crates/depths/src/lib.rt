@@ -1,5 +1,7 @@
 // Question 14 of a file over the entries that end at a place: parents and depths. Depths of stored classes are kept in a table of fields
 // of a few bits, written when their package was accepted.
+#![tactic(auto)]
+
 pub mod existence;
 pub mod parents;
 pub mod table;
@@ -18,21 +20,21 @@ use homes::Places;
 use parents::{flag, import_count, larger, own_parents};
 
 // The answer to question 14: no, or yes with the depth of the deepest class, 0 where there is none.
-#[derive(Drop)]
+#[derive(Clone, Copy)]
 pub enum Parented {
     No,
     Yes(usize),
 }
 
 // Where the earlier entries end, and the depth limit.
-#[derive(Drop)]
+#[derive(Clone, Copy)]
 pub struct Bounds {
     pub end: usize,
     pub most: usize,
 }
 
 // An own class: where the earlier entries end, the depth limit, the file's import count, the class's number and the place of its record.
-#[derive(Drop)]
+#[derive(Clone, Copy)]
 pub struct Own {
     pub end: usize,
     pub most: usize,

@@ -13,7 +13,7 @@ use files::Spot;
 use homes::Places;
 
 // A class as it is listed: where the earlier entries end, the bits of a depth in the table, its package number and its class number.
-#[derive(Drop)]
+#[derive(Clone, Copy)]
 pub struct Listed {
     pub end: usize,
     pub width: usize,
@@ -22,14 +22,14 @@ pub struct Listed {
 }
 
 // A parent as it is listed: its package number and its class number.
-#[derive(Drop)]
+#[derive(Clone, Copy)]
 pub struct Parent {
     pub pack: usize,
     pub class: usize,
 }
 
 // Of a class 1 where it is of kind 0, else 0, and its depth; of parents how many are of kind 0, and the greatest depth.
-#[derive(Drop)]
+#[derive(Clone, Copy)]
 pub struct Told {
     pub kind0: usize,
     pub depth: usize,

@@ -1,16 +1,10 @@
 -- `depths::depths_ok` meets its contract: a turn for each class, with the kinds and depths of those before it. Assumes nothing.
-use Prim.Native.Nat.{◌-◌, ◌≤◌, ◌<◌}
-use native.Mathlib.Omega.{arith}
-use mathlib.Core.Path.{◌≡◌, refl, subst}
-use lib.ListN.{length, length-set}
-use borrow.Author.Rules.{rules}
-use Rattle.files.specs.Say.{Readable}
-use Rattle.homes.specs.Homes.{own_home}
-use Rattle.named.specs.Named.{ClassStands, ClassFrom, RowsTrue}
-use Rattle.depths.specs.Depths.{DepthIs, OwnTo}
+use Prim.Native.Nat.{◌-◌, ◌≤◌}
+use mathlib.Core.Path.{◌≡◌}
+use lib.ListN.{length}
+use Rattle.named.specs.Named.{RowsTrue}
+use Rattle.depths.specs.Depths.{OwnTo}
 use Rattle.depths.proofs.Figures as figures
-use Rattle.depths.proofs.Walk as walk
-use Rattle.depths.proofs.Exist as exist
 use Rattle.depths.proofs.depths_ok.Given as goal
 
 abbrev pub invariant-loop-place : goal.invariant-loop-place

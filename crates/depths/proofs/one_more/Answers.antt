@@ -1,6 +1,5 @@
 -- `depths::one_more` meets its contract: counted up to the limit. Assumes nothing.
 use native.Mathlib.Omega.{arith}
-use borrow.Author.Rules.{rules}
 use Rattle.depths.proofs.Walk as walk
 use Rattle.depths.proofs.one_more.Goals as goal
 

@@ -1,6 +1,5 @@
 -- `depths::own_depth` meets its contract: 0 where the kinds are wrong, else one more than the parents' greatest depth. Assumes nothing.
 use native.Mathlib.Omega.{arith}
-use borrow.Author.Rules.{rules}
 use Rattle.homes.specs.Homes.{own_home}
 use Rattle.depths.specs.Depths.{Kind0Is}
 use Rattle.depths.proofs.Walk as walk

@@ -26,10 +26,12 @@ returns-then-not-parents_exist c =
 
 pub depths_ok-requires : goal.depths_ok-requires
 depths_ok-requires c =
-    let all = (
-      (parts.parents_there _ _ _ (said (goal.at.depths_ok-requires c).After-parents_exist _ (not_false _ c.if-not-parents_exist.false-raw)) c.requires.judged.0, c.requires.judged.1),
-      (c.parents_exist.ensures.rows_true_2, c.requires.1.1),
-    ) in record { parents_there = all.0; rows_true = all.1.0; depths_kept = all.1.1.0; most_value = all.1.1.1 }
+    record {
+      parents_there = (parts.parents_there _ _ _ (said (goal.at.depths_ok-requires c).After-parents_exist _ c.if-not-parents_exist.false) c.requires.judged.0, c.requires.judged.1);
+      rows_true = c.parents_exist.ensures.rows_true_2;
+      depths_kept = c.requires.depths_kept;
+      most_value = c.requires.most_value;
+    }
 
 pub shape_of-rows : goal.shape_of-rows
 shape_of-rows c =

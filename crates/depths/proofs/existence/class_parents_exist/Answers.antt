@@ -1,10 +1,7 @@
 -- `depths::existence::class_parents_exist` meets its contract: a turn for each parent, those before it exist. Assumes nothing.
-use Prim.Native.Nat.{◌-◌}
 use native.Mathlib.Omega.{arith}
 use mathlib.Core.Path.{◌≡◌, refl, subst}
 use mathlib.Core.Bool.{Bool}
-use lib.ListN.{length}
-use Rattle.named.specs.Named.{RowsTrue}
 use Rattle.depths.specs.Depths.{ExistsIs}
 use Rattle.depths.proofs.ByNumber.{not_true, not_false}
 use Rattle.depths.proofs.Exist as exist

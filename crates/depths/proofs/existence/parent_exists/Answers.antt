@@ -3,7 +3,6 @@ use mathlib.Core.Path.{refl, subst}
 use mathlib.Core.Bool.{true, false}
 use lib.Dec.{ltb}
 use borrow.Author.Tests.{eq-eqb, ne_eqb}
-use borrow.Author.Rules.{rules}
 use Rattle.files.specs.declared.Spot.{Spot}
 use Rattle.homes.specs.Homes.{ClassPlaced}
 use Rattle.named.specs.Named.{home_of, PackageThere}

@@ -1,10 +1,9 @@
 -- `depths::existence::parents_exist` meets its contract: a turn for each class, the parents of those before it exist. Assumes nothing.
-use Prim.Native.Nat.{◌-◌, ◌≤◌, ◌<◌}
+use Prim.Native.Nat.{◌<◌}
 use native.Mathlib.Omega.{arith}
 use mathlib.Core.Path.{◌≡◌, refl, subst}
 use mathlib.Core.Bool.{Bool}
 use lib.ListN.{length}
-use borrow.Author.Rules.{rules}
 use Rattle.files.specs.Say.{Readable}
 use Rattle.named.specs.Named.{ClassStands, ClassFrom, RowsTrue}
 use Rattle.depths.specs.Depths.{AllExist}

@@ -1,14 +1,8 @@
 -- `depths::existence::parents_exist` meets its contract: a turn for each class, the parents of those before it exist. Assumes nothing.
-use Prim.Native.Nat.{◌-◌, ◌≤◌, ◌<◌}
-use native.Mathlib.Omega.{arith}
-use mathlib.Core.Path.{◌≡◌, refl, subst}
-use mathlib.Core.Bool.{Bool}
+use Prim.Native.Nat.{◌-◌, ◌≤◌}
+use mathlib.Core.Path.{◌≡◌}
 use lib.ListN.{length}
-use borrow.Author.Rules.{rules}
-use Rattle.files.specs.Say.{Readable}
-use Rattle.named.specs.Named.{ClassStands, ClassFrom, RowsTrue}
-use Rattle.depths.specs.Depths.{AllExist}
-use Rattle.depths.proofs.ByNumber.{not_true, not_false}
+use Rattle.named.specs.Named.{RowsTrue}
 use Rattle.depths.proofs.Exist as exist
 use Rattle.depths.proofs.existence.parents_exist.Given as goal
 

@@ -1,5 +1,4 @@
 -- `depths::parents::import_count` meets its contract: the byte before the imports. Assumes nothing.
-use borrow.Author.Rules.{rules}
 use Rattle.depths.proofs.Exist as exist
 use Rattle.depths.proofs.parents.import_count.Goals as goal
 

@@ -1,10 +1,8 @@
 -- `depths::parents::own_parents` meets its contract: a turn for each parent, those before it counted and compared. Assumes nothing.
-use Prim.Native.Nat.{◌-◌, ◌≤◌, ◌<◌}
+use Prim.Native.Nat.{◌<◌}
 use native.Mathlib.Omega.{arith}
-use mathlib.Core.Path.{◌≡◌, refl, ap, ◌∙◌}
-use lib.ListN.{length}
-use borrow.Author.Rules.{rules}
-use Rattle.named.specs.Named.{Judged, RowsTrue}
+use mathlib.Core.Path.{refl, ap, ◌∙◌}
+use Rattle.named.specs.Named.{Judged}
 use Rattle.depths.specs.Depths.{width_for}
 use Rattle.depths.proofs.Walk as walk
 use Rattle.depths.proofs.ListedParents as parent

@@ -1,15 +1,10 @@
 -- `depths::parents::own_parents` meets its contract: a turn for each parent, those before it counted and compared. Assumes nothing.
-use Prim.Native.Nat.{◌-◌, ◌≤◌, ◌<◌}
-use native.Mathlib.Omega.{arith}
-use mathlib.Core.Path.{◌≡◌, refl, ap, ◌∙◌}
+use Prim.Native.Nat.{◌-◌, ◌≤◌}
+use mathlib.Core.Path.{◌≡◌}
 use lib.ListN.{length}
-use borrow.Author.Rules.{rules}
-use Rattle.named.specs.Named.{Judged, RowsTrue}
-use Rattle.depths.specs.Depths.{width_for}
+use Rattle.named.specs.Named.{RowsTrue}
 use Rattle.depths.proofs.Walk as walk
-use Rattle.depths.proofs.ListedParents as parent
 use Rattle.depths.proofs.ParentKinds as kinds
-use Rattle.depths.proofs.Exist as exist
 use Rattle.depths.proofs.parents.own_parents.Given as goal
 
 abbrev pub invariant-loop-i : goal.invariant-loop-i

@@ -2,7 +2,6 @@
 use Prim.Native.Nat.{◌≤◌}
 use native.Mathlib.Omega.{arith}
 use mathlib.Core.Path.{subst}
-use borrow.Author.Rules.{rules}
 use Rattle.rules.specs.Package.{most_imports}
 use Rattle.rules.specs.Store.{store_limits}
 use Rattle.homes.specs.Homes.{HomeThere}

@@ -1,6 +1,5 @@
 -- `depths::table::depth_told` meets its contract: an own class's depth, 1 without parents, else the field. Assumes nothing.
 use native.Mathlib.Omega.{arith}
-use borrow.Author.Rules.{rules}
 use Rattle.depths.proofs.Width.{field_small}
 use Rattle.depths.proofs.ByTable as kept
 use Rattle.depths.proofs.table.depth_told.Goals as goal

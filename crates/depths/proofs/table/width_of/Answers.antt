@@ -1,6 +1,5 @@
 -- `depths::table::width_of` meets its contract: by the limit. Assumes nothing.
 use native.Mathlib.Omega.{arith}
-use mathlib.Core.Path.{sym}
 use borrow.Author.Tests.{le-leb, lt-leb}
 use Rattle.depths.proofs.table.width_of.Goals as goal
 
