@@ -1,16 +1,15 @@
 -- A domain's entry in the table: its AID, what entering it says, what looking for it says. Assumes nothing.
 use Prim.Native.Nat.{ℕ, ◌+◌, ◌-◌, ◌*◌, ◌≤◌, ◌<◌}
 use native.Mathlib.Omega.{arith}
-use mathlib.Core.Path.{◌≡◌, refl, sym, ◌∙◌, ap, ap₂, subst}
+use mathlib.Core.Path.{◌≡◌, refl, sym, ◌∙◌, ap, ap₂}
 use mathlib.Core.Bool.{Bool, true, false, ◌&&◌, ◌||◌, not}
 use mathlib.Core.List.{List, [], ◌∷◌}
 use mathlib.Core.Option.{some, some-injective}
-use lib.Dec.{T, eqb, leb, leb→le}
+use lib.Dec.{leb, leb→le}
 use lib.ListN.{length, get_or, set, length-set}
 use lib.Seq.{get_or-set_same}
 use borrow.Author.Tests.{le-leb, lt-leb}
 use Rattle.rules.specs.Bytes.{Bytes, Aid, any, same, aid_length}
-use Rattle.rules.specs.Code.{u2_at}
 use Rattle.rules.specs.Store.{DomainKind, Entry, domain, loaded, first_entry, store_limits}
 use Rattle.rules.specs.Questions.{q3_lengths, q4_new, q5_created, keeps_subset}
 use Rattle.rules.specs.Operations.{is_domain}
@@ -18,10 +17,10 @@ use Rattle.rules.proofs.Tests.{none_some, and_l, and_r, of_true, is_true, same_e
 use Rattle.rules.proofs.Limits.{first_entry_lem}
 use Rattle.store.specs.Entries.{part, kind_at, EntryAt, Entries, StandFrom}
 use Rattle.store.proofs.Parts.{part_length}
-use Rattle.store.proofs.Stand.{EntryBy, KindBy, domain_by, loaded_by, not_loaded, entry_by, kind_by, entry_next, entry_later, entries_to}
+use Rattle.store.proofs.Stand.{EntryBy, KindBy, domain_by, loaded_by, not_loaded, entry_by, kind_by, entry_later, entries_to}
 use Rattle.store.proofs.Walk.{place_any}
 use Rattle.store.proofs.Asked.{created_place}
-use Rattle.sorted.specs.Sorted.{key_place, key_at, Keyed, count, Sorted, Has, Found, Entered}
+use Rattle.sorted.specs.Sorted.{key_place, key_at, Keyed, count, Sorted, Found, Entered}
 use Rattle.sorted.proofs.Table.{key_place_domain, key_part}
 use Rattle.index.proofs.Tables.{table_start, table_other, table_more, found_none, found_any}
 use Rattle.domains.proofs.Strict.{found_full, found_strict}

@@ -3,9 +3,9 @@ use Prim.Native.Nat.{ℕ}
 use mathlib.Core.Path.{◌≡◌, refl, sym, ◌∙◌, ap}
 use mathlib.Core.Bool.{Bool, true, false, ◌&&◌, ◌||◌, not}
 use mathlib.Core.List.{List, [], ◌∷◌, ◌++◌, append_assoc, append-nil}
-use mathlib.Core.Option.{Option, some}
-use lib.Dec.{T, eqb, eqb→eq}
-use Rattle.rules.specs.Bytes.{Bytes, Aid, some_and}
+use mathlib.Core.Option.{some}
+use lib.Dec.{T, eqb→eq}
+use Rattle.rules.specs.Bytes.{Bytes, Aid}
 use Rattle.rules.specs.Subset.{code_without_int}
 use Rattle.rules.specs.Package.{Limits, Package, read_file}
 use Rattle.rules.specs.Store.{Opening, opening_limits, Entry, domain, loaded}

@@ -1,25 +1,24 @@
 -- The kind of a domain, by the place that the table has for its AID. Assumes nothing.
-use Prim.Native.Nat.{ℕ, ◌<◌}
+use Prim.Native.Nat.{ℕ}
 use native.Mathlib.Omega.{arith}
 use native.Mathlib.Decide.{dec_le, ℕ_discrete}
 use mathlib.Core.Path.{◌≡◌, refl, sym, ◌∙◌, ap, subst}
 use mathlib.Core.Bool.{Bool, true, false}
 use mathlib.Core.List.{List}
-use mathlib.Core.Option.{Option, none, some, some-injective}
+use mathlib.Core.Option.{some, some-injective}
 use lib.Dec.{T}
 use lib.ListN.{get_or}
-use borrow.Author.Tests.{eq-eqb}
 use Rattle.rules.specs.Bytes.{Bytes, Aid, any, same}
 use Rattle.rules.specs.Store.{full, without_int, Entry, domain, loaded, first_entry}
 use Rattle.rules.specs.Questions.{keeps_subset}
 use Rattle.rules.proofs.Tests.{none_some, of_true, is_true, same_eq, same_refl}
-use Rattle.store.specs.Entries.{kind_of, kind_at, EntryAt, Entries, is_without_int}
+use Rattle.store.specs.Entries.{kind_at, EntryAt, Entries, is_without_int}
 use Rattle.store.proofs.Stand.{KindBy, domain_by, loaded_by, entry_by, kind_by, entry_one}
 use Rattle.store.proofs.Asked.{subset_any}
 use Rattle.store.proofs.Checks.{other_kind, third_kind}
-use Rattle.sorted.specs.Sorted.{below, key_at, count, place_at, Has, Sorted}
+use Rattle.sorted.specs.Sorted.{below, key_at, place_at, Has, Sorted}
 use Rattle.sorted.proofs.Order.{below_self}
-use Rattle.index.specs.Index.{Stood, KeyedOf, TableOf}
+use Rattle.index.specs.Index.{TableOf}
 use Rattle.index.proofs.Entered.{FoundThere, stood_any, any_stood}
 use Rattle.index.proofs.Tables.{found_has}
 use Rattle.domains.specs.Domains.{domain_key}

@@ -1,4 +1,6 @@
 // The domains of a store: questions 3, 4 and 5 of its entries in order, each over the earlier ones, and 26 of the packages of kind-3 domains.
+#![tactic(auto)]
+
 ghost use Rattle.std.specs.Prelude.{◌≡◌, true, ◌*◌, ◌≤◌, length};
 ghost use Rattle.rules.specs.Bytes.{aid_length};
 ghost use Rattle.rules.specs.Store.{domain, loaded, first_entry, store_limits};
