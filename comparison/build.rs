@@ -18,7 +18,7 @@ fn main() {
         }
         Err(_) => {
             let name = archive.display();
-            eprintln!("there is no {name}: run `rt staticlib loader`");
+            eprintln!("there is no {name}: run tools/library at the top of the repository");
             std::process::exit(1);
         }
     }

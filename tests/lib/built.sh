@@ -21,33 +21,36 @@ same() {
 
 # current FILE: it is there, and nothing that it is built from is newer.
 current() {
-    [ -f "$1" ] && [ -z "$(find crates crates.txt -newer "$1" | head -n 1)" ]
+    [ -f "$1" ] && [ -z "$(find crates.txt crates/*/src crates/*/specs crates/*/proofs -newer "$1" | head -n 1)" ]
+}
+
+# need_program NAME: the program of crates/NAME, which `rt ci` leaves there too; else proved and built, and run once on no input
+need_program() {
+    if ! current "crates/$1/out/$1"; then
+        (cd "crates/$1" && rt run) </dev/null >"$out/$1.log" 2>&1 || fail "rt run failed in crates/$1" "$out/$1.log"
+    fi
 }
 
 # need_library: sets `library` to an archive that is up to date.
 need_library() {
     library=${LOADER_LIBRARY:-target/staticlib/libloader.a}
     if [ -z "${LOADER_LIBRARY:-}" ] && ! current "$library"; then
-        rt staticlib loader >"$out/staticlib.log" 2>&1 || fail "rt staticlib loader failed" "$out/staticlib.log"
+        tools/library >"$out/library.log" 2>&1 || fail "tools/library failed" "$out/library.log"
     fi
     [ -f "$library" ] || fail "there is no $library"
 }
 
 # need_card: sets `card` to a simulated card that is up to date.
 need_card() {
-    card=${CARD:-target/bin/card}
-    if [ -z "${CARD:-}" ] && ! current "$card"; then
-        rt check card >"$out/card.log" 2>&1 || fail "rt check card failed" "$out/card.log"
-    fi
+    card=${CARD:-crates/card/out/card}
+    [ -n "${CARD:-}" ] || need_program card
     [ -x "$card" ] || fail "there is no program $card"
 }
 
 # need_inventory: sets `inventory` to a program that prints inventories and is up to date.
 need_inventory() {
-    inventory=${INVENTORY:-target/bin/inventory}
-    if [ -z "${INVENTORY:-}" ] && ! current "$inventory"; then
-        rt check inventory >"$out/inventory.log" 2>&1 || fail "rt check inventory failed" "$out/inventory.log"
-    fi
+    inventory=${INVENTORY:-crates/inventory/out/inventory}
+    [ -n "${INVENTORY:-}" ] || need_program inventory
     [ -x "$inventory" ] || fail "there is no program $inventory"
 }
 

@@ -1,5 +1,5 @@
 //! `cards SEED COUNT [CARD]`: line files through the simulated card, the program at
-//! CARD (or in the variable CARD, or target/bin/card), and through the independent card.
+//! CARD (or in the variable CARD, or crates/card/out/card), and through the independent card.
 
 use comparison::process;
 use independent::card::run_card;
@@ -20,7 +20,7 @@ fn main() -> ExitCode {
     };
     let named = arguments.get(2).cloned();
     let card = named.or_else(|| std::env::var("CARD").ok());
-    let card = card.unwrap_or_else(|| "target/bin/card".into());
+    let card = card.unwrap_or_else(|| "crates/card/out/card".into());
     println!("seed {seed}, {count} line files");
     let first = seed.wrapping_mul(1_000_003);
     let generated = (0..count).map(|number| line_file(first.wrapping_add(number)));

@@ -1,5 +1,5 @@
 //! `inventories SEED COUNT [PROGRAM]`: stores through the inventory, the program at PROGRAM (or
-//! in the variable INVENTORY, or target/bin/inventory), and through the independent reader.
+//! in the variable INVENTORY, or crates/inventory/out/inventory), and through the independent reader.
 
 use comparison::process;
 use comparison::report::described;
@@ -26,7 +26,7 @@ fn main() -> ExitCode {
     };
     let named = arguments.get(2).cloned();
     let program = named.or_else(|| std::env::var("INVENTORY").ok());
-    let program = program.unwrap_or_else(|| "target/bin/inventory".into());
+    let program = program.unwrap_or_else(|| "crates/inventory/out/inventory".into());
     println!("seed {seed}, {count} stores");
     let start = Instant::now();
     let first = seed.wrapping_mul(1_000_003);
