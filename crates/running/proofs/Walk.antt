@@ -35,9 +35,12 @@ use Rattle.classes.proofs.Keys.{key_small, key_one}
 use Rattle.classes.proofs.Records.{at_split}
 
 -- a member of a list has a number
+mem_number : {A : Type 0} (x : A) (xs : List A) → Memᴰ x xs → (i : ℕ) × (at xs i ≡ some x)
+mem_number x xs (Memᴰ.head e) = (0, ap some (sym e))
+mem_number x xs (Memᴰ.tail {xs = ys} m) = let r = mem_number x ys m in (suc r.0, r.1)
+
 pub mem_at : {A : Type 0} (xs : List A) (x : A) → Memᴰ x xs → (i : ℕ) × (at xs i ≡ some x)
-mem_at xs x (Memᴰ.head e) = (0, ap some (sym e))
-mem_at xs x (Memᴰ.tail {xs = ys} m) = let r = mem_at ys x m in (suc r.0, r.1)
+mem_at xs x = mem_number x xs
 
 -- a class that a file names as a parent is a parent, and the other way
 named_parent : (is : List Installed) (c : ClassAt) (k : Class) → record_of c ≡ some k → (p : ClassNumber) → Memᴰ p k.parents → (d : ClassAt) →

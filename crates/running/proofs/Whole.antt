@@ -1,5 +1,5 @@
 -- Question 20 of own classes, one after another. Assumes nothing.
-use Prim.Native.Nat.{ℕ, suc, ◌+◌, ◌*◌, ◌/◌, ◌≤◌, ◌<◌}
+use Prim.Native.Nat.{ℕ, suc, ◌+◌, ◌≤◌, ◌<◌}
 use native.Mathlib.Omega.{arith}
 use native.Mathlib.Numerals.{add-one}
 use mathlib.Core.Path.{◌≡◌, refl, sym, ◌∙◌, ap, subst}
@@ -27,7 +27,6 @@ use Rattle.homes.specs.Homes.{format_at, own_home, DomainAt}
 use Rattle.homes.specs.Homes as homes
 use Rattle.homes.specs.Found.{Indexed}
 use Rattle.homes.proofs.Domains.{aid_inside}
-use Rattle.bits.specs.Bits.{bit_at}
 use Rattle.store.proofs.Stand.{entries_to}
 use Rattle.classes.specs.Say.{Judged, Kind0Is, OwnThere}
 use Rattle.named.proofs.Rows.{file_size, classes_few}
@@ -36,7 +35,7 @@ use Rattle.chains.specs.Names.{names_length, NamesIs, Room}
 use Rattle.chains.specs.declared.Names.{Names}
 use Rattle.chains.specs.declared.RunsFound.TheVariants.{Nothing}
 use Rattle.running.specs.Say.{WalkThere, Passes, Fails, Answers, ClassPasses, OwnClassThere, OwnPasses, JudgedThere, RunningIs}
-use Rattle.running.specs.Walk.{visit_for, SmallNames, WalkFrom, SeenPass}
+use Rattle.running.specs.Walk.{visit_for, SmallNames, WalkFrom}
 use Rattle.running.specs.declared.OwnClass.{OwnClass}
 use Rattle.running.specs.declared.visited.Visit.{Visit}
 use Rattle.slots.specs.Slots.{SmallHome}
@@ -48,9 +47,9 @@ all_true : {A : Type 0} (p : A → Bool) (xs : List A) → ((x : A) → Memᴰ x
 all_true p [] h = refl
 all_true p (x ∷ xs) h = rw (h x (Memᴰ.head refl), all_true p xs (λ y m. h y (Memᴰ.tail m)))
 
-all_false : {A : Type 0} (p : A → Bool) (xs : List A) (x : A) → Memᴰ x xs → p x ≡ false → all p xs ≡ false
-all_false p _ x (Memᴰ.head {x = y} {xs = ys} e) h = let z : p y ≡ false = ap p (sym e) ∙ h in rw z
-all_false p _ x (Memᴰ.tail {x = y} {xs = ys} m) h = rest (p y) (all_false p ys x m h)
+all_false : {A : Type 0} (p : A → Bool) (x : A) (xs : List A) → Memᴰ x xs → p x ≡ false → all p xs ≡ false
+all_false p x _ (Memᴰ.head {x = y} {xs = ys} e) h = let z : p y ≡ false = ap p (sym e) ∙ h in rw z
+all_false p x _ (Memᴰ.tail {x = y} {xs = ys} m) h = rest (p y) (all_false p x ys m h)
   where
     rest : (a : Bool) → all p ys ≡ false → (a && all p ys) ≡ false
     rest true e = e
@@ -121,7 +120,7 @@ module _ (f s : Bytes) (end d b : ℕ) where
             s).depth (own self b))
         go true w = sym (all_true _ (ancestors_up_to (installed (store_limits s) es) (store_limits s).depth (own self b)) (λ a m. w a (ancestors_below
             (installed (store_limits s) es) (store_limits s).depth (own self b) a m)))
-        go false w = sym (all_false _ (ancestors_up_to (installed (store_limits s) es) (store_limits s).depth (own self b)) w.0
+        go false w = sym (all_false _ w.0 (ancestors_up_to (installed (store_limits s) es) (store_limits s).depth (own self b))
             (below_ancestors (installed (store_limits s) es) (store_limits s).depth (own self b) w.0 (own_depth f s end b es self j k e) w.1) w.2)
 
 -- the numbers of its names fit two bytes, its own number one

@@ -11,7 +11,7 @@ use homes::Home;
 use policies::RightsPlace;
 
 // A method where it stands: the home of its file, and its place there.
-#[derive(Drop)]
+#[derive(Clone, Copy)]
 pub struct MethodSpot {
     pub home: Home,
     pub place: usize,

@@ -1,6 +1,8 @@
 // Question 20: does the method that runs for an own class and a name allow all that each non-static method of that name allows, in
 // the class and in its ancestors? Functions `.._apart` call themselves where the store has more than 65,535 bytes, which it never has; so
 // the compiler does not make them a part of their callers, and their frames stand on the stack only while they run.
+#![tactic(auto)]
+
 pub mod allowed;
 pub mod visited;
 
@@ -25,7 +27,7 @@ use visited::{Visit, home_of, names_of};
 
 // An own class of kind 0: its names, where the domain of its package stands in the store, and whether the bits of classes seen, which
 // were set for the own class before, hold for it too.
-#[derive(Drop)]
+#[derive(Clone, Copy)]
 pub struct OwnClass {
     pub names: Names,
     pub domain: usize,

@@ -17,7 +17,7 @@ use slots::Site;
 // A class that is visited for own class `own` over the entries that end at `end`, whose names end at `stored` and at `all`, and whose
 // package's domain stands at place `domain` of the store: its home and number, and the slot of its package and the place of its record
 // once these are found.
-#[derive(Drop)]
+#[derive(Clone, Copy)]
 pub struct Visit {
     pub end: u16,
     pub domain: u16,
