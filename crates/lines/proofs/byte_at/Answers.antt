@@ -2,7 +2,6 @@
 use Rattle.lines.proofs.Digits.{first_odd, no_high, no_low, two_digits}
 use native.Mathlib.Omega.{arith}
 use Rattle.lines.proofs.byte_at.Goals as goal
-use Rattle.lines.proofs.byte_at.Goals.{After-digit-high}
 
 pub returns-then-next-digits : goal.returns-then-next-digits
 returns-then-next-digits c = (first_odd c.args.digits.now c.args.at (omega arith) (omega arith), omega arith)

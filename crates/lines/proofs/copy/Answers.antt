@@ -6,7 +6,6 @@ use mathlib.Core.Path.{◌≡◌, refl, ap, ◌∙◌}
 use native.Mathlib.Omega.{arith}
 use lib.ListN.{drop}
 use Rattle.lines.proofs.copy.Goals as goal
-use Rattle.lines.proofs.copy.Goals.{At-loop-i}
 
 pub loop-i-init : goal.loop-i-init
 loop-i-init c = (omega arith, refl, paste-zero c.args.line.now c.args.to (drop c.args.from c.args.chunk.now))

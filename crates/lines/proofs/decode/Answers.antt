@@ -9,7 +9,6 @@ use mathlib.Core.Path.{refl, ◌∙◌}
 use native.Mathlib.Omega.{arith}
 use lib.ListN.{take, drop}
 use Rattle.lines.proofs.decode.Goals as goal
-use Rattle.lines.proofs.decode.Goals.{At-loop-n}
 
 pub loop-n-init : goal.loop-n-init
 loop-n-init c = (omega arith, refl, refl, joined_start (bytes_of c.args.digits.now))

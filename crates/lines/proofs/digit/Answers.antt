@@ -2,7 +2,6 @@
 use Rattle.lines.proofs.Digits.{digit_under, digit_figure, digit_between, digit_capital, digit_over}
 use native.Mathlib.Omega.{arith}
 use Rattle.lines.proofs.digit.Goals as goal
-use Rattle.lines.proofs.digit.Goals.{After-wide-n}
 
 pub returns-then-n-lt48 : goal.returns-then-n-lt48
 returns-then-n-lt48 c = (digit_under c.args.c (omega arith), omega arith)

@@ -3,7 +3,6 @@ use Rattle.lines.proofs.Parts.{before_step, before_stop, before_end}
 use mathlib.Core.Path.{refl, sym, ◌∙◌}
 use native.Mathlib.Omega.{arith}
 use Rattle.lines.proofs.find.Goals as goal
-use Rattle.lines.proofs.find.Goals.{At-loop-i}
 
 pub loop-i-init : goal.loop-i-init
 loop-i-init c = (c.requires, refl)

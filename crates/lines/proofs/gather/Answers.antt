@@ -5,7 +5,6 @@ use mathlib.Core.Path.{ap, ◌∙◌}
 use native.Mathlib.Omega.{arith}
 use lib.ListN.{take, drop}
 use Rattle.lines.proofs.gather.Goals as goal
-use Rattle.lines.proofs.gather.Goals.{After-copy, After-find-at, After-least-n}
 
 pub copy-requires : goal.copy-requires
 copy-requires c = (omega arith, omega arith)

@@ -5,7 +5,6 @@ use Rattle.lines.proofs.Reading.{one_argument, two_parts, found_none, found_some
 use mathlib.Core.Path.{sym, ◌∙◌}
 use native.Mathlib.Omega.{arith}
 use Rattle.lines.proofs.read_arguments.Goals as goal
-use Rattle.lines.proofs.read_arguments.Goals.{After-decode-n, After-find-at, After-read_two}
 
 pub slice_bounds-read_two-end : goal.slice_bounds-read_two-end
 slice_bounds-read_two-end c =

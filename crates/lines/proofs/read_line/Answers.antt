@@ -4,7 +4,6 @@ use Rattle.lines.proofs.Reading.{line_long, line_unspaced, line_alone, line_rest
 use mathlib.Core.Path.{◌∙◌}
 use native.Mathlib.Omega.{arith}
 use Rattle.lines.proofs.read_line.Goals as goal
-use Rattle.lines.proofs.read_line.Goals.{After-read_arguments}
 
 pub returns-then-line-gt-LONGEST : goal.returns-then-line-gt-LONGEST
 returns-then-line-gt-LONGEST c =

@@ -3,7 +3,6 @@ use Rattle.lines.specs.Line.{argument}
 use Rattle.lines.proofs.Reading.{not_load, no_first, no_second, load_said, found_none, found_some}
 use native.Mathlib.Omega.{arith}
 use Rattle.lines.proofs.read_two.Goals as goal
-use Rattle.lines.proofs.read_two.Goals.{After-decode-d, After-decode-n, Else-d-eq0, Else-letter-ne76}
 
 pub returns-then-letter-ne76 : goal.returns-then-letter-ne76
 returns-then-letter-ne76 c =

@@ -16,9 +16,9 @@ pub returns-in_default : goal.returns-in_default
 returns-in_default c =
     let args = c.args in record {
       out_value = (λ out. rw (
-        ne_eqb args.letter 67 c.in_default.in_default-own.rest.0.0.1,
-        ne_eqb args.letter 68 c.in_default.in_default-own.rest.0.1,
-        ne_eqb args.letter 82 c.in_default.in_default-own.rest.1,
+        ne_eqb args.letter 67 (omega arith),
+        ne_eqb args.letter 68 (omega arith),
+        ne_eqb args.letter 82 (omega arith),
       ));
       result_bound = (omega arith, omega arith);
     }

@@ -5,7 +5,6 @@ use Rattle.methods.specs.Table.{Lower}
 use Prim.Native.Nat.{ℕ}
 use mathlib.Core.Path.{sym, ◌∙◌, subst}
 use Rattle.methods.proofs.enter.Goals as goal
-use Rattle.methods.proofs.enter.Goals.{After-lower-r, After-name_at, After-open_at, After-open_at-2, After-place, Else-e-r, Else-name_at-name, Start, Then-e-r}
 
 pub returns-then-e-r : goal.returns-then-e-r
 returns-then-e-r c =

@@ -2,7 +2,6 @@
 use Rattle.methods.proofs.Search as search'
 use mathlib.Core.Path.{sym, ◌∙◌}
 use Rattle.methods.proofs.find.Goals as goal
-use Rattle.methods.proofs.find.Goals.{After-lower-r, After-place, Else-e-r, Start}
 
 pub returns-then-e-r : goal.returns-then-e-r
 returns-then-e-r c =

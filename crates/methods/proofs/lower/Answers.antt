@@ -3,7 +3,6 @@ use Rattle.methods.proofs.Search as search'
 use Prim.Native.Nat.{◌/◌, ◌+◌, ◌-◌}
 use native.Mathlib.Omega.{arith}
 use Rattle.methods.proofs.lower.Goals as goal
-use Rattle.methods.proofs.lower.Goals.{After-place, At-loop-lo, In-loop-lo, Start}
 
 pub loop-lo-init : goal.loop-lo-init
 loop-lo-init c = search'.between_start c.args.t.now c.args.places.now c.args.a

@@ -1,7 +1,6 @@
 -- `methods::open_at` meets its contract: the numbers behind the place are moved one up, the last first. Assumes nothing.
 use Rattle.methods.proofs.Entering as entering
 use Rattle.methods.proofs.open_at.Goals as goal
-use Rattle.methods.proofs.open_at.Goals.{At-loop-k, Start}
 
 pub loop-k-init : goal.loop-k-init
 loop-k-init c = entering.moved_start c.args.places.now c.args.e c.args.r c.requires.1 c.requires.0

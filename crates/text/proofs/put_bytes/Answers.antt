@@ -5,7 +5,7 @@ use mathlib.Core.Path.{◌≡◌}
 use lib.Seq.{length-take-le}
 use Rattle.text.proofs.Puts.{put_none, put_then, put_as, byte_next, byte_last}
 use Rattle.text.proofs.put_bytes.Goals as goal
-use Rattle.text.proofs.put_bytes.Goals.{After-put_byte-to, At-loop-i}
+use Rattle.text.proofs.put_bytes.Goals.{At-loop-i}
 
 -- the place that is reached
 reached : (t : At-loop-i) → t.loop-i.to ≡ t.args.at + t.loop-i.i

@@ -6,7 +6,7 @@ use Rattle.text.specs.Text.{decimal}
 use Rattle.text.proofs.Puts.{put_as}
 use Rattle.text.proofs.Digits.{fewest_digits}
 use Rattle.text.proofs.put_decimal.Goals as goal
-use Rattle.text.proofs.put_decimal.Goals.{After-decimal-count, After-put_bytes}
+use Rattle.text.proofs.put_decimal.Goals.{After-decimal-count}
 
 -- the digits made are those of the figure
 made : (k : After-decimal-count) → take k.decimal-count.result k.decimal-count.new.out ≡ decimal k.args.n

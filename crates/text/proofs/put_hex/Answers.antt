@@ -7,7 +7,7 @@ use lib.Seq.{length-take-le}
 use Rattle.text.specs.Text.{hex_bytes}
 use Rattle.text.proofs.Puts.{put_none, put_then, put_as, byte_last, hex_next, hex_length}
 use Rattle.text.proofs.put_hex.Goals as goal
-use Rattle.text.proofs.put_hex.Goals.{After-put_hex_byte-to, At-loop-i}
+use Rattle.text.proofs.put_hex.Goals.{At-loop-i}
 
 -- the place that is reached
 reached : (t : At-loop-i) → t.loop-i.to ≡ t.args.at + 2 * t.loop-i.i

@@ -1,7 +1,6 @@
 -- `text::put_three` meets its contract: figure, space, two figures. Assumes nothing.
 use Rattle.text.proofs.Puts.{put_then}
 use Rattle.text.proofs.put_three.Goals as goal
-use Rattle.text.proofs.put_three.Goals.{After-put_byte-middle, After-put_two}
 
 pub returns : goal.returns
 returns c =

@@ -1,7 +1,6 @@
 -- `text::put_two` meets its contract: figure, space, figure, newline. Assumes nothing.
 use Rattle.text.proofs.Puts.{put_then}
 use Rattle.text.proofs.put_two.Goals as goal
-use Rattle.text.proofs.put_two.Goals.{After-put_byte, After-put_byte-middle, After-put_decimal-first, After-put_decimal-second}
 
 pub returns : goal.returns
 returns c =

@@ -4,7 +4,6 @@ use Prim.Native.Nat.{◌%◌}
 use Rattle.text.proofs.Puts.{put_counts}
 use Rattle.text.proofs.Digits.{decimal_most}
 use Rattle.lines.proofs.answers.put_answer.Goals as goal
-use Rattle.lines.proofs.answers.put_answer.Goals.{Start}
 
 pub put_three-requires : goal.put_three-requires
 put_three-requires c =

@@ -3,7 +3,6 @@ use native.Mathlib.Omega.{arith}
 use Rattle.text.proofs.Puts.{put_then, put_counts}
 use Rattle.text.proofs.Digits.{decimal_most}
 use Rattle.lines.proofs.answers.put_bad.Goals as goal
-use Rattle.lines.proofs.answers.put_bad.Goals.{After-put_bytes, Start}
 
 pub put_decimal-a-requires : goal.put_decimal-a-requires
 put_decimal-a-requires c =
