@@ -1,6 +1,8 @@
 // The declaration that a class and a name mean: that of the class itself or of the first along its kind-0 parents that declares the name,
 // else of the first among the interfaces of these, each chain member's in turn, depth first in listed order. Functions `.._apart` call
 // themselves where the store has more than 65,535 bytes, which it never has; so the compiler does not make them a part of their callers.
+#![tactic(auto)]
+
 pub mod visited;
 
 ghost use Rattle.std.specs.Prelude.{◌≡◌, false, ℕ, ◌+◌, ◌*◌, ◌/◌, ◌<◌, ◌≤◌, length};
@@ -20,7 +22,7 @@ use slots::parents;
 use visited::Visit;
 
 // A class by the home of its package and its number there, and a name that is sought from it on, over the entries that end at a place.
-#[derive(Drop)]
+#[derive(Clone, Copy)]
 pub struct Sought {
     pub end: usize,
     pub home: Home,
@@ -30,7 +32,7 @@ pub struct Sought {
 
 // Where the declaration found stands: the home of its package, the places of its class record and of its method in the file there; or
 // that there is none.
-#[derive(Drop)]
+#[derive(Clone, Copy)]
 pub enum Declared {
     At(Home, usize, usize),
     Nothing,

@@ -17,7 +17,7 @@ use slots::{Site, parents};
 
 // A class that is visited over the entries that end at `end`, as one number, with the place of its record in its file and the number of
 // its parents, and the name sought. Class 0 is none.
-#[derive(Drop)]
+#[derive(Clone, Copy)]
 pub struct Visit {
     pub class: usize,
     pub name: usize,
@@ -27,7 +27,7 @@ pub struct Visit {
 }
 
 // The numbers of the package and of the class by which a record names a parent.
-#[derive(Drop)]
+#[derive(Clone, Copy)]
 pub struct Named {
     pub pack: usize,
     pub number: usize,
