@@ -1,23 +1,21 @@
 -- What a reference names, step by step: its numbers and name, the class record, the declaration meant. Assumes nothing.
-use Prim.Native.Nat.{ℕ, zero, suc, ◌<◌, ◌≤◌}
+use Prim.Native.Nat.{ℕ, zero, suc, ◌≤◌}
 use native.Mathlib.Omega.{arith}
 use mathlib.Core.Path.{◌≡◌, refl, sym, ◌∙◌, ap, subst}
-use mathlib.Core.Bool.{Bool, true, false, not}
-use mathlib.Core.List.{List, [], ◌∷◌, ◌++◌}
+use mathlib.Core.Bool.{Bool, not}
+use mathlib.Core.List.{List}
 use mathlib.Core.Option.{Option, none, some}
 use lib.ListN.{length}
-use Rattle.rules.specs.Bytes.{Bytes, at, ◌and_then◌, list_of, flat, first_of}
-use Rattle.rules.specs.Package.{Limits, Reference, Method, Class}
+use Rattle.rules.specs.Bytes.{Bytes, at, ◌and_then◌}
+use Rattle.rules.specs.Package.{Reference, Method, Class}
 use Rattle.rules.specs.Store.{Entry, first_entry, store_limits}
 use Rattle.store.proofs.Stand.{entries_to}
-use Rattle.rules.specs.Classes.{Installed, installed, ClassAt, package_numbered, record_of, class_named, is_kind0, kind0_parent, declared, MethodAt, declared_at}
-use Rattle.rules.specs.Search.{chain_up_to, interfaces_up_to, search_up_to}
+use Rattle.rules.specs.Classes.{Installed, installed, ClassAt, package_numbered, record_of, class_named, is_kind0, declared, MethodAt, declared_at}
+use Rattle.rules.specs.Search.{search_up_to}
 use Rattle.rules.specs.Questions.{Named, reference_names}
-use Rattle.places.specs.Reads.{Reads}
 use Rattle.places.proofs.Track.{placed_at, placed_none}
 use Rattle.files.specs.Say.{referenced, Readable, ReferencesAt, ReferenceNth, InterfaceIs, DeclaredPlaced}
 use Rattle.files.specs.Say as say
-use Rattle.files.specs.declared.Spot.{Spot}
 use Rattle.files.specs.declared.Spot.TheVariants.{At, Nothing}
 use Rattle.files.specs.declared.Referenced.{Referenced}
 use Rattle.files.specs.declared.Referenced.TheVariants as referenced'
@@ -27,12 +25,11 @@ use Rattle.homes.specs.declared.Home.{Home}
 use Rattle.homes.specs.declared.HomeFound.TheVariants as homes
 use Rattle.homes.proofs.Homes.{home_bounds, home_below}
 use Rattle.slots.specs.Slots.{SmallHome}
-use Rattle.search.specs.Search.{SearchIs, DeclaredIs, DeclaredThere}
+use Rattle.search.specs.Search.{SearchIs, DeclaredThere}
 use Rattle.search.specs.declared.Sought.{Sought}
 use Rattle.search.specs.declared.Declared.TheVariants as found'
 use Rattle.references.specs.Setting.{Loading, imports_of, setting_of, Judged, OfJudged}
-use Rattle.references.specs.Named.{ClassThere, ClassIs, RecordThere, MeantAt, NamedIs, named_from, MeantIs, NumbersName, ReferenceIs}
-use Rattle.references.specs.declared.Meant.{Meant}
+use Rattle.references.specs.Named.{ClassThere, ClassIs, RecordThere, NamedIs, named_from, MeantIs, NumbersName, ReferenceIs}
 use Rattle.references.specs.declared.Naming.{Naming}
 use Rattle.references.specs.declared.NamedFound.{NamedFound}
 use Rattle.references.specs.declared.NamedFound.TheVariants as found

@@ -8,10 +8,10 @@ use mathlib.Core.Bool.{Bool, true, false}
 use mathlib.Core.List.{List}
 use mathlib.Core.Logic.{◌⊎◌, inl, inr}
 use lib.Dec.{eqb, ltb}
-use lib.ListN.{length, get_or, set, length-set, length-take, length-drop}
+use lib.ListN.{length, get_or, set, length-set}
 use lib.Seq.{get_or-set_same, get_or-set_other}
 use borrow.Author.Tests.{lt-ltb, le-ltb, eq-eqb, ne_eqb}
-use Rattle.rules.specs.Bytes.{Bytes, pick}
+use Rattle.rules.specs.Bytes.{pick}
 use Rattle.homes.specs.declared.Home.{Home}
 use Rattle.slots.specs.Slots.{home_in, with_home}
 use Rattle.slots.proofs.Slots.{home_is, home_length, home_other, home_written}

@@ -10,7 +10,7 @@ use super::{Group, OpenReference, Told, kept, search_reference, tell_reference};
 use homes::Places;
 
 // A place of the table of a group.
-#[derive(Drop)]
+#[derive(Clone, Copy)]
 pub struct PlaceIn {
     pub group: Group,
     pub k: usize,

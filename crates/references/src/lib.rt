@@ -1,4 +1,6 @@
 // What a reference of the file being judged names: the class by the places of the imports, the declaration with the search or without it.
+#![tactic(auto)]
+
 pub mod groups;
 pub mod kept;
 
@@ -15,7 +17,7 @@ use slots::Site;
 
 // The declaration that a reference means: the home of its package, the places of its class record and of its method in the file there;
 // whether the class named is of kind 0; and the number of the package where the class named declares it itself, else 16.
-#[derive(Drop)]
+#[derive(Clone, Copy)]
 pub struct Meant {
     pub home: Home,
     pub class: usize,
@@ -25,7 +27,7 @@ pub struct Meant {
 }
 
 // What a reference names, or nothing.
-#[derive(Drop)]
+#[derive(Clone, Copy)]
 pub enum NamedFound {
     Method(Meant),
     Nothing,
@@ -33,7 +35,7 @@ pub enum NamedFound {
 
 // What is told of a reference: the declaration that it means; that it names nothing; or nothing yet but the class named: it is open. Of that
 // class the home of its package and the place of its record in the file there are told.
-#[derive(Drop)]
+#[derive(Clone, Copy)]
 pub enum Told {
     Method(Meant),
     Nothing,
@@ -41,7 +43,7 @@ pub enum Told {
 }
 
 // A package number, a class number and a name.
-#[derive(Drop)]
+#[derive(Clone, Copy)]
 pub struct Naming {
     pub pack: usize,
     pub class: usize,
@@ -50,7 +52,7 @@ pub struct Naming {
 
 // References of the file being judged, from one on as many as a table holds: where the earlier entries end, where the file's references
 // stand and how many they are, and the number of the first.
-#[derive(Drop)]
+#[derive(Clone, Copy)]
 pub struct Group {
     pub end: usize,
     pub at: usize,
@@ -59,7 +61,7 @@ pub struct Group {
 }
 
 // A reference that is open: its number, and the class named.
-#[derive(Drop)]
+#[derive(Clone, Copy)]
 pub struct OpenReference {
     pub number: usize,
     pub home: Home,
@@ -67,14 +69,14 @@ pub struct OpenReference {
 }
 
 // The class that a reference names: the home of its package and the place of its record in the file there; or nothing.
-#[derive(Drop)]
+#[derive(Clone, Copy)]
 pub enum ClassNamed {
     At(Home, usize),
     Nothing,
 }
 
 // The record of the class named: the number of its package, and the record's place in the file there.
-#[derive(Drop)]
+#[derive(Clone, Copy)]
 pub struct NamedRecord {
     pub pack: usize,
     pub place: usize,
