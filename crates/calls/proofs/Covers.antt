@@ -17,7 +17,7 @@ use Rattle.files.specs.Say.{DomainsAt}
 use Rattle.files.proofs.Walks.{domains_read}
 use Rattle.policies.specs.Say.{slot_aid}
 use Rattle.policies.specs.Numbers.{number_in, NumberIs}
-use Rattle.policies.specs.Rows.{row_length, unknown, Known, Tells, own_lists}
+use Rattle.policies.specs.Rows.{row_length, unknown, Tells}
 use Rattle.policies.specs.declared.TwoLists.{TwoLists}
 use Rattle.policies.specs.declared.RightsPlace.{RightsPlace}
 use Rattle.policies.proofs.Slots.{slot_most}
@@ -28,12 +28,10 @@ use Rattle.homes.specs.declared.Home.{Home}
 use Rattle.homes.proofs.Homes.{home_reads}
 use Rattle.homes.proofs.Domains.{domain_is}
 use Rattle.references.specs.Setting.{Loading, imports_of, setting_of, Judged}
-use Rattle.references.specs.Named.{ReferenceIs}
-use Rattle.calls.specs.Maps.{listed, domains_of, package_domains, package_domain, rows_number, map_length, LoadingIs, MapTrue}
-use Rattle.calls.specs.Rights.{Stands, RightsAt, CallSays, MayCall, CallAllowedIs, Callee, CalleeAllows}
+use Rattle.calls.specs.Maps.{listed, domains_of, rows_number, map_length, LoadingIs, MapTrue}
+use Rattle.calls.specs.Rights.{Stands, RightsAt, MayCall, Callee, CalleeAllows}
 use Rattle.calls.specs.declared.Asker.{Asker}
 use Rattle.references.specs.declared.Meant.{Meant}
-use Rattle.references.specs.declared.NamedFound.TheVariants as found
 
 -- what stands at the place of a file's domains are its domains
 domains_are : (s g : Bytes) (u : ℕ) (p : Package) → read_file (store_limits s) g ≡ some p → DomainsAt g u → (ds : List Aid) (j : ℕ) →

@@ -1,14 +1,13 @@
 -- The form of what is called: visible where it lies outside the file, and as the kind of call asks. Assumes nothing.
 use Prim.Native.Nat.{ℕ}
 use native.Mathlib.Omega.{arith}
-use mathlib.Core.Path.{◌≡◌, refl, sym, ◌∙◌, ap, ap₂, subst}
+use mathlib.Core.Path.{◌≡◌, refl, sym, ◌∙◌, ap, subst}
 use mathlib.Core.Bool.{Bool, true, false, ◌&&◌, ◌||◌, not}
 use mathlib.Core.List.{List, Memᴰ}
-use mathlib.Core.Option.{Option, some}
-use lib.Dec.{T, T_not, eqb}
+use mathlib.Core.Option.{Option}
+use lib.Dec.{T_not, eqb}
 use borrow.Author.Tests.{ne_eqb}
 use Rattle.rules.specs.Bytes.{Bytes, some_and, is_some}
-use Rattle.rules.specs.Package.{Limits}
 use Rattle.rules.specs.Store.{Entry, loaded, store_limits}
 use Rattle.rules.specs.Classes.{Installed, installed_by, installed, has_aid, by_aid}
 use Rattle.rules.specs.Questions.{Named, q12_new, visible_from, call_form}

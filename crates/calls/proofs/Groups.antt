@@ -15,7 +15,7 @@ use Rattle.refusals.proofs.Order.{first_zero}
 use Rattle.references.specs.Kept.{kept_count, in_group}
 use Rattle.references.specs.declared.Group.{Group}
 use Rattle.calls.specs.Maps.{group_from}
-use Rattle.calls.specs.Calls.{Asking, asking, with_group, every_call, call_names, call_allows, class_names, class_allows, FileCallsAre}
+use Rattle.calls.specs.Calls.{asking, with_group, every_call, call_names, call_allows, class_names, class_allows, FileCallsAre}
 
 -- a test that every element passes
 pub all_yes : {A : Type 0} (p : A → Bool) → ((x : A) → p x ≡ true) → (xs : List A) → all p xs ≡ true

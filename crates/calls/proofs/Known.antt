@@ -2,7 +2,7 @@
 -- of the calls is open. Assumes nothing.
 use Prim.Native.Nat.{ℕ, ◌-◌}
 use native.Mathlib.Omega.{arith}
-use mathlib.Core.Path.{◌≡◌, refl, sym, ◌∙◌, ap, ap₂, subst, fun_ext}
+use mathlib.Core.Path.{◌≡◌, refl, sym, ◌∙◌, ap, ap₂, fun_ext}
 use mathlib.Core.Bool.{Bool, true, false, ◌&&◌, ◌||◌, not}
 use mathlib.Core.List.{List, [], ◌∷◌}
 use Rattle.rules.specs.Bytes.{Bytes, Aid, all}
@@ -10,10 +10,8 @@ use Rattle.rules.specs.Code.{Call, calls_of}
 use Rattle.rules.specs.Package.{Method, Class}
 use Rattle.references.specs.Kept.{is_told, in_group, told_in, SameTold, KeptTrue, AllTold}
 use Rattle.references.specs.declared.Group.{Group}
-use Rattle.references.specs.declared.Told.{Told}
-use Rattle.references.specs.declared.Told.TheVariants as told
 use Rattle.references.proofs.Filled.{told_known}
-use Rattle.calls.specs.Calls.{Asking, Which, asking, with_group, with_table, call_names, call_allows, call_names_in, call_allows_in}
+use Rattle.calls.specs.Calls.{Which, asking, with_group, with_table, call_names, call_allows, call_names_in, call_allows_in}
 use Rattle.calls.specs.Calls.{class_names, class_allows}
 use Rattle.calls.specs.Calls.{FileCallsAre}
 use Rattle.calls.proofs.Groups.{all_yes, pair}

@@ -1,10 +1,8 @@
 -- What a method allows where it stands: its policy, the domains that this counts, the domain of its package. Assumes nothing.
 use Prim.Native.Nat.{ℕ, ◌≤◌}
-use native.Mathlib.Omega.{arith}
 use mathlib.Core.Path.{◌≡◌, refl, sym, ◌∙◌, subst}
 use mathlib.Core.List.{List}
 use mathlib.Core.Option.{some-injective}
-use lib.ListN.{length}
 use Rattle.rules.specs.Bytes.{Bytes, Aid, aid}
 use Rattle.rules.specs.Package.{Package, method}
 use Rattle.rules.specs.Store.{Entry, store_limits}

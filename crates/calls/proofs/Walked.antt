@@ -12,7 +12,7 @@ use Rattle.places.proofs.Steady.{steady_method, steady_class}
 use Rattle.files.specs.Say.{MethodsAt, ClassesAt, AfterMethod, AfterClass}
 use Rattle.files.proofs.Walks.{classes_read}
 use Rattle.homes.specs.Homes.{format_at}
-use Rattle.refusals.specs.Order.{first_of, no_of_all, numbers, rising}
+use Rattle.refusals.specs.Order.{first_of, numbers, rising}
 use Rattle.references.specs.Setting.{setting_of, Judged}
 use Rattle.calls.specs.Codes.{code_test, class_test}
 use Rattle.calls.specs.Calls.{Asking, Which, every_call, method_asks, class_asks, method_names, class_names}

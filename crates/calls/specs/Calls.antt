@@ -11,7 +11,7 @@
 -- call_asks, ..        == the two questions with their numbers
 -- calls_number s es self == the number of the first no of a file, 0 where there is none
 -- CallNumberIs, MethodCallsAre, ClassCallsAre, FileCallsAre, CallsNumberIs == the answer is the number of the first no of whatever stands there
-use Rattle.std.specs.Prelude.{ℕ, ◌≡◌, Bool, true, false, ◌&&◌, ◌||◌, not, List, [], ◌∷◌, T}
+use Rattle.std.specs.Prelude.{ℕ, ◌≡◌, Bool, true, ◌&&◌, ◌||◌, not, List, [], ◌∷◌, T}
 use Rattle.std.proofs.Math.Option.{some}
 use Rattle.rules.specs.Bytes.{Bytes, Aid, Reader, all}
 use Rattle.rules.specs.Code.{Call, code_splits, calls_of}
@@ -29,8 +29,6 @@ use Rattle.references.specs.Setting.{Loading, OfJudged}
 use Rattle.references.specs.Kept.{in_group, told_in, is_told}
 use Rattle.references.specs.declared.Group.{Group}
 use Rattle.calls.specs.Codes.{code_test, class_test}
-use Rattle.references.specs.declared.Told.{Told}
-use Rattle.references.specs.declared.Told.TheVariants as told
 
 -- a setting in which the file f is asked, loaded in d
 pub record Asking (f s : Bytes) (end : ℕ) (d : Aid) : Type 0 where

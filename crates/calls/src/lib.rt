@@ -1,4 +1,6 @@
 // The calls of a file, by what its references name: questions 18 and 19.
+#![tactic(auto)]
+
 mod allowed;
 mod naming;
 mod walk;
@@ -24,7 +26,7 @@ use walk::group_calls;
 
 // What a walk over the calls of the file being judged carries: the group of references whose calls are asked, where in the store the loading
 // domain stands, its number among the file's domains, and the place of the method or class at hand.
-#[derive(Drop)]
+#[derive(Clone, Copy)]
 pub struct Asker {
     pub group: Group,
     pub domain: usize,
@@ -33,7 +35,7 @@ pub struct Asker {
 }
 
 // A call: its kind, and the number of its reference.
-#[derive(Drop)]
+#[derive(Clone, Copy)]
 pub struct CallOf {
     pub kind: Calling,
     pub reference: usize,
