@@ -1,14 +1,14 @@
 -- A file's edition by the two bytes of its version. Assumes nothing.
-use Prim.Native.Nat.{ℕ, zero, suc, ◌+◌, ◌*◌, ◌<◌}
+use Prim.Native.Nat.{ℕ, zero, suc, ◌<◌}
 use native.Mathlib.Omega.{arith}
-use mathlib.Core.Path.{◌≡◌, refl, sym, ◌∙◌, ap}
+use mathlib.Core.Path.{◌≡◌, refl}
 use mathlib.Core.Bool.{Bool, true, false}
 use lib.Dec.{eqb}
 use lib.ListN.{length, get_or, get_or-eq_default}
 use borrow.Author.Tests.{eq-eqb, ne_eqb}
-use Rattle.rules.specs.Bytes.{Bytes, pick}
+use Rattle.rules.specs.Bytes.{Bytes}
 use Rattle.rules.specs.Code.{u2_at}
-use Rattle.rules.specs.Package.{Edition, edition1, edition2, edition_of}
+use Rattle.rules.specs.Package.{edition1, edition_of}
 use Rattle.fields.specs.Editions.{edition_if}
 
 -- the edition by a test of the version

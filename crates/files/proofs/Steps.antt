@@ -1,7 +1,7 @@
 -- The steps over one package file: what each function's arithmetic says of whatever stands at a place. Assumes nothing.
 use Prim.Native.Nat.{ℕ, zero, suc, ◌+◌, ◌-◌, ◌*◌, ◌/◌, ◌%◌, ◌≤◌, ◌<◌}
 use native.Mathlib.Omega.{arith}
-use mathlib.Core.Path.{◌≡◌, refl, sym, ◌∙◌, ap, subst}
+use mathlib.Core.Path.{◌≡◌, refl, sym, ◌∙◌, ap}
 use mathlib.Core.Bool.{Bool, true, false, not}
 use mathlib.Core.List.{List, [], ◌∷◌}
 use mathlib.Core.Option.{none, some}
@@ -11,13 +11,13 @@ use lib.ListN.{length, take, drop, get_or}
 use borrow.Author.Tests.{eq-eqb, ne_eqb}
 use Rattle.rules.specs.Bytes.{Bytes, Aid, at, u1, u2, many, aid, counted}
 use Rattle.rules.specs.Code.{u2_at}
-use Rattle.rules.specs.Package.{Limits, format_of, most_references, most_methods, most_classes, ClassNumber, Reference, Item, Policy, Method, class_number, reference, item, policy, method, class}
+use Rattle.rules.specs.Package.{Limits, format_of, most_references, most_methods, most_classes, ClassNumber, Reference, Item, Policy, class_number, reference, item, policy, method, class}
 use Rattle.places.specs.Reads.{Reads, Ends, EndsAt}
 use Rattle.places.proofs.Inverse.{reads_counted, reads_u1, reads_u2}
 use Rattle.places.proofs.Steady.{steady_u1, steady_u2, steady_number, steady_reference, steady_item}
 use Rattle.places.proofs.Parts.{moved, aid_part, number_part, reference_part, item_part, policy_part, method_part, class_part}
 use Rattle.places.proofs.Track.{many_wide, many_nth, many_length, placed_at, counted_inside}
-use Rattle.files.specs.Say.{Aids, References, AfterReferences, ReferenceNth, PolicyThere, AfterPolicy, MethodThere, AfterMethod, PolicyAt, NameIs, VisibleIs, ImplementedIs, StaticIs, InstanceIs, Methods, AfterMethods, ClassThere, AfterClass, ParentsAt, MethodsAt, InterfaceIs, Classes}
+use Rattle.files.specs.Say.{Aids, References, AfterReferences, ReferenceNth, PolicyThere, AfterPolicy, MethodThere, PolicyAt, NameIs, VisibleIs, ImplementedIs, StaticIs, InstanceIs, Methods, AfterMethods, ClassThere, AfterClass, ParentsAt, MethodsAt, InterfaceIs, Classes}
 use Rattle.files.specs.declared.Referenced.TheVariants.{Nothing}
 
 -- AIDs

@@ -18,7 +18,7 @@ use Rattle.rules.proofs.Lengths.{table_length}
 use Rattle.bits.specs.Bits.{bit_at}
 use Rattle.instructions.specs.Table.{BarredIs, Whole}
 use Rattle.instructions.proofs.Rule.{agree, agree_is, at_get_d}
-use Rattle.instructions.proofs.Ends.{in_range, out_below, out_above, one_is}
+use Rattle.instructions.proofs.Ends.{out_below, one_is}
 
 -- the bit of an opcode says whether it is barred
 unfoldable pub right_bit : List ℕ → ℕ → ℕ → Bool

@@ -2,18 +2,16 @@
 -- Assumes nothing.
 use Prim.Native.Nat.{ℕ, zero, suc, ◌+◌, ◌*◌, ◌≤◌}
 use native.Mathlib.Omega.{arith}
-use mathlib.Core.Path.{◌≡◌, refl, sym, ◌∙◌, ap, ap₂}
+use mathlib.Core.Path.{◌≡◌, sym}
 use mathlib.Core.Bool.{Bool, true, false}
-use mathlib.Core.List.{List, [], ◌∷◌}
-use lib.ListN.{length, get_or}
-use Rattle.rules.specs.Bytes.{Bytes, Reader, ◌>>=◌, ret, u1, u2, many}
-use Rattle.rules.specs.Code.{u2_at, Handler}
+use mathlib.Core.List.{List, []}
+use Rattle.rules.specs.Bytes.{Bytes, ◌>>=◌, ret, u1, u2, many}
+use Rattle.rules.specs.Code.{Handler}
 use Rattle.rules.specs.Package.{Edition, edition1, edition2, most_handlers, handler, handlers_if}
 use Rattle.places.specs.Reads.{Reads}
 use Rattle.places.specs.Parts.{handler_at, handlers_at, HandlersPart}
 use Rattle.places.proofs.Inverse.{reads_ret, reads_bind, One, reads_u1, Two, reads_u2, reads_many, reads_done, reads_counted}
 use Rattle.places.proofs.Steady.{steady_u1, steady_u2, steady_handler}
-use Rattle.places.proofs.Parts.{moved}
 
 pub handlers_none : (e : Edition) (s : Bytes) (i : ℕ) (hs : List Handler) (j : ℕ) → Reads (handlers_if e false) s i hs j → ([] ≡ hs) × (i ≡ j)
 unfolding handlers_if

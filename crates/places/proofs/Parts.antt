@@ -16,7 +16,7 @@ use Rattle.rules.specs.Package.{Limits, Format, format_of, most_domains, most_im
 use Rattle.rules.proofs.Tails.{package_of, classes_of, references_of, imports_of, domains_of}
 use Rattle.rules.proofs.Tests.{none_some, and_then_is, and_l, and_r, of_true}
 use Rattle.places.specs.Reads.{Reads}
-use Rattle.places.specs.Parts.{AidPart, ClassNumberPart, ReferencePart, item_at, IsIndex, ItemPart, PolicyPart, CodePart, MethodPart, ClassPart, FilePart}
+use Rattle.places.specs.Parts.{AidPart, ClassNumberPart, ReferencePart, ItemPart, PolicyPart, CodePart, MethodPart, ClassPart, FilePart}
 use Rattle.places.proofs.Inverse.{reads_ret, reads_bind, reads_when, One, reads_u1, Two, reads_u2, Span, reads_span}
 use Rattle.places.proofs.Steady.{steady_u1, steady_many, steady_u2, steady_aid, steady_counted, steady_number, steady_reference, steady_item, steady_policy, steady_code, steady_handlers, steady_method, steady_class}
 

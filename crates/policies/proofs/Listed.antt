@@ -2,12 +2,12 @@
 use Prim.Native.Nat.{ℕ, zero, suc, ◌+◌, ◌-◌, ◌≤◌, ◌<◌}
 use native.Mathlib.Omega.{arith}
 use native.Mathlib.Numerals.{add-one}
-use mathlib.Core.Path.{◌≡◌, refl, sym, ◌∙◌, ap, subst}
+use mathlib.Core.Path.{◌≡◌, refl, sym, ◌∙◌, subst}
 use mathlib.Core.Bool.{Bool, true, false, ◌&&◌, ◌||◌}
 use mathlib.Core.List.{List, [], ◌∷◌, map}
 use mathlib.Core.Logic.{inl, inr}
 use mathlib.Core.Option.{some}
-use lib.Dec.{eqb, ltb}
+use lib.Dec.{eqb}
 use lib.ListN.{length, get_or}
 use borrow.Author.Tests.{lt-ltb, le-ltb}
 use Rattle.rules.specs.Bytes.{Bytes, Aid, any, at, same, u1, aid, counted}
@@ -20,7 +20,7 @@ use Rattle.places.proofs.Track.{track_front, track_more, track_done}
 use Rattle.files.specs.Say.{AidIs}
 use Rattle.files.proofs.Loops.{AidLoop, aids_start}
 use Rattle.policies.specs.Say.{own_slot, indexes_at, ListsIs, ListedIs, Admits}
-use Rattle.policies.specs.Numbers.{DomainsThere, OfDomains, any_from, listed_as, listed_from, ListedDomain, ListedSlot}
+use Rattle.policies.specs.Numbers.{DomainsThere, OfDomains, listed_as, listed_from, ListedDomain, ListedSlot}
 use Rattle.policies.proofs.Slots.{aid_domain}
 use Rattle.policies.proofs.Indexes.{any_indexed}
 use Rattle.policies.proofs.Numbers.{domains_few, domains_length}

@@ -21,7 +21,7 @@ use Rattle.files.specs.Say.{Aids, AidBytes, AidNth}
 use Rattle.files.specs.declared.Spot.{Spot}
 use Rattle.files.specs.declared.Spot.TheVariants.{At, Nothing}
 use Rattle.files.proofs.Steps as steps
-use Rattle.policies.specs.Say.{own_slot, slot_of, slot_aid, IsSlot, IndexesThere, PolicyOver, OfPolicy, Admits, HasSlot, SlotIs, AdmitsAllOf}
+use Rattle.policies.specs.Say.{own_slot, slot_of, slot_aid, IndexesThere, PolicyOver, OfPolicy, Admits, HasSlot, SlotIs, AdmitsAllOf}
 use Rattle.policies.proofs.Slots.{aid_own, aid_domain, slot_below, index_slot, index_means}
 use Rattle.policies.proofs.Numbers.{domains_length}
 

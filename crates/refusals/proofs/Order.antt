@@ -12,9 +12,9 @@ use borrow.Author.Tests.{ne_eqb, lt-ltb, le-ltb, ltb-true}
 use Rattle.rules.specs.Bytes.{Bytes, Aid, pick, all}
 use Rattle.rules.specs.Package.{Package}
 use Rattle.rules.specs.Store.{Opening, Entry}
-use Rattle.rules.specs.Operations.{Question, first_no, package_questions}
-use Rattle.rules.proofs.Tests.{and_l, and_r, is_true}
-use Rattle.refusals.specs.Order.{asked, rank_in, rank, first_of, Asks, answers, answers_all, no_of, no_of_all, numbers, rising}
+use Rattle.rules.specs.Operations.{Question, package_questions}
+use Rattle.rules.proofs.Tests.{and_l, is_true}
+use Rattle.refusals.specs.Order.{asked, rank_in, rank, first_of, Asks, no_of, no_of_all, numbers, rising}
 
 rank_in_most : (ms : List ℕ) (n : ℕ) → rank_in ms n ≤ length ms
 rank_in_most [] n = omega arith

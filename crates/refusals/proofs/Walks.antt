@@ -1,7 +1,7 @@
 -- A loop that keeps the first no over the elements of a list that a reader reads: the start, a turn, the end. Assumes nothing.
 use Prim.Native.Nat.{ℕ, ◌+◌, ◌-◌, ◌≤◌, ◌<◌}
 use mathlib.Core.Path.{◌≡◌, sym, ◌∙◌, ap}
-use mathlib.Core.List.{List, []}
+use mathlib.Core.List.{List}
 use lib.Dec.{T}
 use lib.ListN.{get_or}
 use Rattle.rules.specs.Bytes.{Bytes, Reader, u1, counted}

@@ -1,5 +1,5 @@
 -- A code's instructions said with a list and said without one are the same; so is question 24. No file version occurs. Assumes nothing.
-use Prim.Native.Nat.{ℕ, ◌+◌, ◌≤◌, ◌<◌}
+use Prim.Native.Nat.{ℕ, ◌+◌}
 use native.Mathlib.Omega.{arith}
 use native.Mathlib.Decide.{ℕ_discrete}
 use mathlib.Core.Path.{◌≡◌, refl, sym, ◌∙◌, ap, subst}
@@ -11,7 +11,7 @@ use mathlib.Core.Option.{some, some-injective}
 use lib.Dec.{T, leb, ltb, eqb, eqb→eq, eqb_refl, leb→le, ltb→lt}
 use lib.ListN.{length, get_or-eq_default}
 use borrow.Author.Tests.{eq-eqb, lt-ltb, le-leb, lt-leb}
-use Rattle.rules.specs.Bytes.{Bytes, any, all}
+use Rattle.rules.specs.Bytes.{Bytes, any}
 use Rattle.rules.specs.Code.{u1_at, length_of, length_as, instruction_length, split_from, split, Handler, handler_fits}
 use Rattle.rules.specs.Splitting.{Reaches, first, next, Begins, Splits, HandlerGood}
 use Rattle.rules.proofs.Tests.{and_l, and_r, and_i, of_true, none_some, any_mem, mem_any}

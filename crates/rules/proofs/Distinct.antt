@@ -1,5 +1,5 @@
 -- In a sound store a package is told by its AID, a class by that and its number, a method by these and its name. Assumes nothing.
-use Prim.Native.Nat.{ℕ, ◌+◌}
+use Prim.Native.Nat.{ℕ}
 use mathlib.Core.Path.{◌≡◌, sym, ◌∙◌, ap, ap₂, subst}
 use mathlib.Core.Logic.{inl, inr}
 use mathlib.Core.Bool.{true, ◌&&◌, not}
@@ -7,7 +7,7 @@ use mathlib.Core.List.Memᴰ
 use mathlib.Core.List.{List, [], ◌∷◌, ◌++◌, Memᴰ, append-nil, append_assoc}
 use mathlib.Core.Option.{none, some, some-injective}
 use lib.Dec.{T, eqb, eqb→eq, eqb_refl, T_not}
-use Rattle.rules.specs.Bytes.{all, at, same}
+use Rattle.rules.specs.Bytes.{all, same}
 use Rattle.rules.specs.Package.{Limits, Method, Class}
 use Rattle.rules.specs.Store.{Opening, opening_limits, Entry, domain, loaded}
 use Rattle.rules.specs.Classes.{Installed, installed, has_aid, by_aid, ClassAt, record_of, MethodAt}

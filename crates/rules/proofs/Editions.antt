@@ -9,12 +9,12 @@ use mathlib.Core.Bool.{Bool, true, false}
 use mathlib.Core.Logic.{inl, inr}
 use mathlib.Core.List.Memᴰ
 use mathlib.Core.List.{List, [], ◌∷◌, Memᴰ}
-use mathlib.Core.Option.{Option, some, some-injective}
+use mathlib.Core.Option.{some, some-injective}
 use lib.Dec.{leb, eqb}
 use lib.ListN.{length, drop}
-use Rattle.rules.specs.Bytes.{Bytes, Aid, within, Reader, ◌>>=◌, ret, when, u1, u2, span, many, aid, counted, at_end}
+use Rattle.rules.specs.Bytes.{Bytes, Aid, Reader, ◌>>=◌, ret, when, u1, u2, many, aid, counted, at_end}
 use Rattle.rules.specs.Code.{Handler}
-use Rattle.rules.specs.Package.{Limits, Edition, edition1, edition2, Format, format_of, most_domains, most_imports, most_references, most_classes, most_methods, most_handlers, Policy, ClassNumber, Reference, Method, Class, Package, class_number, reference, policy, code_if, handler, handlers_if, bit, spare_zero, method_of, method, class_of, class, contents, edition_of, sized, read_file}
+use Rattle.rules.specs.Package.{Limits, Edition, edition1, edition2, Format, format_of, most_domains, most_imports, most_references, most_classes, most_methods, Policy, ClassNumber, Method, Class, Package, class_number, reference, policy, code_if, handlers_if, bit, spare_zero, method_of, method, class_of, class, contents, edition_of, sized, read_file}
 use Rattle.rules.proofs.Tails.{package_of, classes_of, references_of, imports_of, domains_of}
 use Rattle.rules.proofs.Tests.{none_some, and_then_is}
 

@@ -13,7 +13,7 @@ use Rattle.rules.specs.Questions.{q16_splits, q24_handlers}
 use Rattle.rules.specs.Splitting.{Begins, Splits, Q24}
 use Rattle.rules.proofs.Tests.{and_l, and_r, and_i, all_mem, some_and_is}
 use Rattle.rules.proofs.Cuts.{split_splits, listed_begins, begins_listed, fits_good, good_fits}
-use Rattle.rules.proofs.Editions.{Formed, EveryMethod, file_formed}
+use Rattle.rules.proofs.Editions.{EveryMethod, file_formed}
 
 pub mem_all : {A : Type 0} (q : A → Bool) (xs : List A) → ((a : A) → Memᴰ a xs → T (q a)) → T (all q xs)
 mem_all q [] h = tt

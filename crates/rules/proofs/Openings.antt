@@ -1,19 +1,19 @@
 -- The two fresh calls, and the limits of a sound store by its bytes: the proof of request 12. Assumes nothing.
-use Prim.Native.Nat.{ℕ, zero, suc, ◌+◌, ◌*◌, ◌≤◌}
+use Prim.Native.Nat.{ℕ, ◌+◌, ◌*◌, ◌≤◌}
 use native.Mathlib.Omega.{arith}
-use mathlib.Core.Path.{◌≡◌, refl, sym, ◌∙◌, ap, ap₂, subst}
+use mathlib.Core.Path.{◌≡◌, refl, sym, ◌∙◌, ap, subst}
 use mathlib.Core.Bool.{Bool, ◌&&◌}
 use mathlib.Core.Logic.{◌⊎◌, inl, inr}
-use mathlib.Core.List.{List, [], ◌∷◌}
+use mathlib.Core.List.{[], ◌∷◌}
 use mathlib.Core.Option.{some, some-injective}
 use lib.Dec.{T, leb, le→leb}
 use lib.ListN.{length, take, drop, get_or}
 use lib.Seq.{get_or-drop}
-use Rattle.rules.specs.Bytes.{Bytes, within, some_and}
+use Rattle.rules.specs.Bytes.{Bytes, within}
 use Rattle.rules.specs.Code.{signed, numbers_from, length_of, length_as, instruction_length, split_from, split, may_end, code_splits, targets_each, switch_targets, targets_at, code_branches, code_handlers, call_at, calls_of}
 use Rattle.rules.specs.Limits.{Limits, standard, limits_range, InRange}
 use Rattle.rules.specs.Package.{class_number, reference, item, items, policy, code_if, handler, handlers_if, method, class, contents, sized, edition_of, read_file}
-use Rattle.rules.specs.Store.{Opening, version1, version2, opening_limits, Entry, write, store_mark, limits, opening_of, entries_of, store_opening, store_limits, limits_at}
+use Rattle.rules.specs.Store.{Opening, version1, version2, opening_limits, write, store_mark, limits, opening_of, entries_of, store_opening, store_limits, limits_at}
 use Rattle.rules.specs.Questions.{q1_size, q3_lengths, q4_new, q5_created, q10_marked, q11_reads, q12_new, q13_imports, q14_parents, q15_names, q16_splits, q17_targets, q24_handlers, keeps_subset, q26_subset, q18_calls, q19_allowed, q20_running, q21_fits, q30_limits}
 use Rattle.rules.specs.Operations.{create_questions, package_questions, load_questions, sound_entries, sound, load, number, deepest, depth_figure, fresh_number, fresh_bytes}
 use Rattle.rules.specs.CasesFiles.{D1}
@@ -22,7 +22,7 @@ use Rattle.rules.proofs.Tests.{and_r, and_i, none_some, same_eq, some_and_is}
 use Rattle.rules.proofs.Asked.{yes_first}
 use Rattle.rules.proofs.Results.{if_refused}
 use Rattle.rules.proofs.Opens.{OpenedAs, first, second, opened_as, entries_opened}
-use Rattle.rules.proofs.Limits.{Ranged, limits_ranged}
+use Rattle.rules.proofs.Limits.{limits_ranged}
 use Rattle.rules.proofs.Whole.{fresh_done}
 
 -- limits in their ranges, as a sentence and as a test

@@ -1,5 +1,5 @@
 -- The opening of a buffer of bytes: what is read is what stands there, and its limits lie in their ranges. Assumes nothing.
-use Prim.Native.Nat.{ℕ, ◌*◌, ◌+◌, ◌<◌, ◌≤◌}
+use Prim.Native.Nat.{ℕ, ◌*◌, ◌+◌, ◌≤◌}
 use native.Mathlib.Omega.{arith}
 use mathlib.Core.Path.{◌≡◌, refl, sym, ◌∙◌, ap, subst, subst⁻¹}
 use mathlib.Core.Bool.{Bool, true, false}
@@ -8,7 +8,7 @@ use mathlib.Core.Option.{Option, none, some, some-injective}
 use lib.Dec.{T, ltb, ltb→lt}
 use lib.ListN.{length, take, drop, length-drop, take-append-drop}
 use lib.Seq.{drop-drop}
-use Rattle.rules.specs.Bytes.{Bytes, all, ◌and_then◌, value_or, same, high, low}
+use Rattle.rules.specs.Bytes.{Bytes, all, value_or, same, high, low}
 use Rattle.rules.specs.Limits.{Limits, standard, limits_range}
 use Rattle.rules.specs.Store.{Opening, version1, version2, opening_range, Entry, store_version, store_mark, limits_bytes, opening_length, limits, second_opening, opening_of, entries_behind, entries_of, store_opening}
 use Rattle.rules.proofs.Tests.{and_l, and_r, of_true, none_some, and_then_is, same_eq}

@@ -117,5 +117,5 @@ package_there l i (e ∷ pre) d f post p r =
     let z : i + length (entry_bytes e ++ entries_bytes pre) ≡ i + length (entry_bytes e) + length (entries_bytes pre) = simp length-append (omega arith) in
     let h : eqb (i + length (entry_bytes e) + length (entries_bytes pre)) i ≡ false = unlike _ i (omega arith) in
     let later : package_from l (i + length (entry_bytes e) + length (entries_bytes pre)) i (e ∷ (pre ++ loaded d f ∷ post)) ≡ some (record { domain = d; pack = p }) =
-        rw h (package_there l (i + length (entry_bytes e)) pre d f post p r) in
+    rw h (package_there l (i + length (entry_bytes e)) pre d f post p r) in
     ap (λ (k : ℕ). package_from l k i (e ∷ (pre ++ loaded d f ∷ post))) z ∙ later

@@ -10,7 +10,7 @@
 --   A package whose classes are nine deep is loaded in a store of limit 16, with the figure 9, and refused with 14 in one of version 1.
 use Prim.Native.Nat.{ℕ, ◌≤◌}
 use mathlib.Core.Path.{◌≡◌}
-use mathlib.Core.Bool.{true, false}
+use mathlib.Core.Bool.{true}
 use mathlib.Core.Logic.{◌⊎◌}
 use mathlib.Core.List.{List, [], Memᴰ}
 use mathlib.Core.Option.{some}

@@ -4,7 +4,7 @@ use mathlib.Core.Bool.{Bool, true, false, ◌||◌, not}
 use mathlib.Core.List.Memᴰ
 use mathlib.Core.List.{List, Memᴰ}
 use lib.Dec.{T}
-use Rattle.rules.specs.Bytes.{Aid, any, same}
+use Rattle.rules.specs.Bytes.{Aid, same}
 use Rattle.rules.specs.Subset.{code_without_int}
 use Rattle.rules.specs.Package.{Method, Class, Package}
 use Rattle.rules.specs.Store.{full, without_int, Entry, domain, loaded}

@@ -20,7 +20,7 @@ use Rattle.rules.specs.Splitting.{first, next, Begins, InHandler, MadeBy, names}
 use Rattle.rules.specs.CasesHandlers.{installing_handlers, handler_packages}
 use Rattle.rules.proofs.Sound.{sound_sane}
 use Rattle.rules.proofs.Paths.{home_installed, found_names}
-use Rattle.rules.proofs.Located.{the, method_by, found}
+use Rattle.rules.proofs.Located.{the, found}
 
 -- the ledger of a buffer of 256 bytes after these calls
 pub handlers_installed : ledger_after version1 256 [] installing_handlers ≡ handler_packages

@@ -1,10 +1,8 @@
 -- Request 2 is not empty: a list of calls installs two packages in two domains, both with FE, and a call path leads from the one to the other.
 -- Assumes nothing.
-use Prim.Native.Nat.{ℕ}
 use mathlib.Core.Path.{◌≡◌, refl}
 use mathlib.Core.List.{[], ◌∷◌}
 use lib.Dec.{T}
-use Rattle.rules.specs.Bytes.{is_some}
 use Rattle.rules.specs.Code.{signed, numbers_from, length_of, length_as, instruction_length, split_from, split, may_end, code_splits, targets_each, switch_targets, targets_at, code_branches, code_handlers, call_at, calls_of}
 use Rattle.rules.specs.Package.{listed, own_domain, only, standard, class_number, reference, item, items, policy, code_if, handler, handlers_if, method, class, contents, sized, edition_of, read_file}
 use Rattle.rules.specs.Store.{version1, write, opening_of, entries_of, store_opening}
@@ -15,7 +13,7 @@ use Rattle.rules.specs.Paths.{InstalledMethod, CallPath}
 use Rattle.rules.specs.Called.{called, calls_b}
 use Rattle.rules.specs.CasesFiles.{D1, D2}
 use Rattle.rules.specs.CasesOwn.{installing_own, own_packages}
-use Rattle.rules.proofs.Located.{method_by, found, called_path}
+use Rattle.rules.proofs.Located.{found, called_path}
 
 -- the ledger of a buffer of 256 bytes after these calls
 pub own_installed : ledger_after version1 256 [] installing_own ≡ own_packages

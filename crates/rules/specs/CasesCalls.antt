@@ -3,7 +3,7 @@
 -- CallRow        == a name, the packages that are there, a caller and a method by package, class and name, whether it calls
 -- two, three     == the first two of the three packages here, and all; searched == those of CasesSearch
 -- failing_calls   == the names of the rows that do not follow from the definitions
-use Rattle.std.specs.Prelude.{ℕ, ◌≡◌, refl, Bool, true, false, not, List, [], ◌∷◌, take}
+use Rattle.std.specs.Prelude.{ℕ, ◌≡◌, refl, Bool, true, false, List, [], ◌∷◌, take}
 use Prim.Native.String.{String}
 use Rattle.rules.specs.Bytes.{Bytes, Aid, pick, some_and}
 use Rattle.rules.specs.Code.{signed, numbers_from, length_of, length_as, instruction_length, split_from, split, call_at, calls_of}

@@ -6,7 +6,7 @@ use Rattle.rules.specs.Bytes.{Bytes}
 use Rattle.rules.specs.Store.{version1, DomainKind, full, without_int, Entry, domain, loaded, write}
 use Rattle.rules.specs.Operations.{Operation, create, delete, load, remove}
 use Rattle.rules.specs.CasesForm.{hex, buffer, query, Step, fresh, fresh_limits, ◌answers◌, ◌gives◌used◌, ◌says◌yes◌, holds, Row, steps}
-use Rattle.rules.specs.CasesFiles.{D1, D2, P1, P2, bare}
+use Rattle.rules.specs.CasesFiles.{D1, D2, P1, bare}
 use Rattle.rules.specs.CasesOpening.{limited}
 use Rattle.rules.specs.CasesSubset.{of_code, both_kinds}
 

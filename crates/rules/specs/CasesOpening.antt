@@ -2,10 +2,10 @@
 use Rattle.std.specs.Prelude.{ℕ, true, false, List, [], ◌∷◌, ◌++◌, replicate}
 use Prim.Native.String.{String}
 use Rattle.rules.specs.Bytes.{Bytes}
-use Rattle.rules.specs.Store.{Opening, version1, version2, full, Entry, domain, loaded, write}
-use Rattle.rules.specs.Operations.{Operation, create, delete, load, remove}
-use Rattle.rules.specs.CasesForm.{hex, buffer, query, Step, fresh, fresh_limits, ◌answers◌, ◌gives◌used◌, ◌says◌yes◌, depth, holds, Row, steps}
-use Rattle.rules.specs.CasesFiles.{D1, D2, P1, bare, library}
+use Rattle.rules.specs.Store.{Opening, version1, version2, full, domain, loaded, write}
+use Rattle.rules.specs.Operations.{create, delete, load, remove}
+use Rattle.rules.specs.CasesForm.{hex, buffer, query, fresh, fresh_limits, ◌answers◌, ◌gives◌used◌, ◌says◌yes◌, depth, holds, Row, steps}
+use Rattle.rules.specs.CasesFiles.{D1, D2, P1, library}
 
 -- version 2 with these limits: depth, parents, code length
 abbrev pub limited : ℕ → ℕ → ℕ → Opening

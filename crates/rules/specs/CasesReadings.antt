@@ -3,7 +3,7 @@ use Rattle.std.specs.Prelude.{true, false, List, [], ◌∷◌, ◌++◌}
 use Rattle.rules.specs.Store.{version1, full, domain, loaded, write}
 use Rattle.rules.specs.Operations.{create, delete, load, remove}
 use Rattle.rules.specs.CasesForm.{hex, times, query, ◌answers◌, ◌gives◌used◌, ◌says◌yes◌, holds, Row, steps}
-use Rattle.rules.specs.CasesFiles.{D1, D2, P1, P2, bare, importer, library, domains_only, with_library, alone, beside}
+use Rattle.rules.specs.CasesFiles.{D1, D2, P1, P2, bare, importer, library, with_library, alone, beside}
 
 -- entries, AIDs and queries
 abbrev stored : List Row

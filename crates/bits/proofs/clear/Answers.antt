@@ -1,9 +1,6 @@
 -- `bits::clear` meets its contract. Assumes nothing.
-use Prim.Native.Nat.{ℕ, ◌-◌, ◌<◌, ◌≤◌}
-use mathlib.Core.Path.{◌≡◌}
 use native.Mathlib.Omega.{arith}
-use lib.ListN.{length, get_or, length-set}
-use borrow.Author.Rules.{rules}
+use lib.ListN.{length-set}
 use Rattle.bits.proofs.Bits.{zero_bits, zeros_more}
 use Rattle.bits.proofs.clear.Goals as goal
 

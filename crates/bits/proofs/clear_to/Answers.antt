@@ -1,9 +1,7 @@
 -- `bits::clear_to` meets its contract. Assumes nothing.
-use Prim.Native.Nat.{ℕ, ◌-◌, ◌/◌, ◌<◌, ◌≤◌}
-use mathlib.Core.Path.{◌≡◌}
+use Prim.Native.Nat.{◌/◌}
 use native.Mathlib.Omega.{arith}
-use lib.ListN.{length, get_or, length-set}
-use borrow.Author.Rules.{rules}
+use lib.ListN.{length-set}
 use Rattle.bits.proofs.Bits.{zero_bit, zeros_more}
 use Rattle.bits.proofs.clear_to.Goals as goal
 

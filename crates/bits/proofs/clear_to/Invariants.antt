@@ -1,10 +1,7 @@
 -- `bits::clear_to` meets its contract. Assumes nothing.
-use Prim.Native.Nat.{ℕ, ◌-◌, ◌/◌, ◌<◌, ◌≤◌}
+use Prim.Native.Nat.{ℕ, ◌-◌, ◌<◌, ◌≤◌}
 use mathlib.Core.Path.{◌≡◌}
-use native.Mathlib.Omega.{arith}
-use lib.ListN.{length, get_or, length-set}
-use borrow.Author.Rules.{rules}
-use Rattle.bits.proofs.Bits.{zero_bit, zeros_more}
+use lib.ListN.{length, get_or}
 use Rattle.bits.proofs.clear_to.Given as goal
 
 abbrev pub invariant-loop-i : goal.invariant-loop-i

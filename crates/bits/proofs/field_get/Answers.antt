@@ -1,8 +1,6 @@
 -- `bits::field_get` meets its contract. Assumes nothing.
-use Prim.Native.Nat.{◌*◌, ◌/◌, ◌%◌}
 use native.Mathlib.Omega.{arith}
-use borrow.Author.Rules.{rules}
-use Rattle.bits.proofs.Fields.{few_bits, power_some, field_is, field_lt}
+use Rattle.bits.proofs.Fields.{few_bits, field_is, field_lt}
 use Rattle.bits.proofs.field_get.Goals as goal
 
 pub overflow_mul-at : goal.overflow_mul-at

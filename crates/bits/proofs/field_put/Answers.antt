@@ -2,7 +2,6 @@
 use Prim.Native.Nat.{ℕ, ◌*◌, ◌%◌}
 use native.Mathlib.Omega.{arith}
 use mathlib.Core.Path.{subst}
-use borrow.Author.Rules.{rules}
 use Rattle.bits.specs.Bits.{PutIs}
 use Rattle.bits.proofs.Fields.{few_bits, put_stored}
 use Rattle.bits.proofs.field_put.Goals as goal

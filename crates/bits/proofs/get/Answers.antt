@@ -1,7 +1,6 @@
 -- `bits::get` meets its contract. Assumes nothing.
 use Prim.Native.Nat.{◌%◌, ◌^◌}
 use native.Mathlib.Omega.{arith}
-use borrow.Author.Rules.{rules}
 use Rattle.bits.proofs.Bits.{power_is, bit_is_test}
 use Rattle.bits.proofs.get.Goals as goal
 

@@ -1,9 +1,6 @@
 -- `bits::is_within` meets its contract. The invariant: the bits of the bytes before i are within. Assumes nothing.
-use Prim.Native.Nat.{◌-◌}
 use native.Mathlib.Omega.{arith}
-use lib.ListN.{length}
-use borrow.Author.Rules.{rules}
-use Rattle.bits.proofs.Within.{WithinTo, within_more, within_not, within_all}
+use Rattle.bits.proofs.Within.{within_more, within_not, within_all}
 use Rattle.bits.proofs.is_within.Goals as goal
 
 pub loop-i-init : goal.loop-i-init

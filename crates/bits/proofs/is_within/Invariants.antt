@@ -1,9 +1,7 @@
 -- `bits::is_within` meets its contract. The invariant: the bits of the bytes before i are within. Assumes nothing.
 use Prim.Native.Nat.{◌-◌}
-use native.Mathlib.Omega.{arith}
 use lib.ListN.{length}
-use borrow.Author.Rules.{rules}
-use Rattle.bits.proofs.Within.{WithinTo, within_more, within_not, within_all}
+use Rattle.bits.proofs.Within.{WithinTo}
 use Rattle.bits.proofs.is_within.Given as goal
 
 abbrev pub invariant-loop-i : goal.invariant-loop-i

@@ -1,6 +1,5 @@
 -- `bits::power` meets its contract. Assumes nothing.
 use mathlib.Core.Path.{refl}
-use borrow.Author.Rules.{rules}
 use Rattle.bits.specs.Bits.{power_of}
 use Rattle.bits.proofs.Bits.{power_pos}
 use Rattle.bits.proofs.power.Goals as goal

@@ -1,5 +1,4 @@
 -- `bits::set` meets its contract. Assumes nothing.
-use borrow.Author.Rules.{rules}
 use Rattle.bits.proofs.Bits.{set_case}
 use Rattle.bits.proofs.set.Goals as goal
 

@@ -1,8 +1,6 @@
 -- `bits::with_bits` meets its contract. Assumes nothing.
-use Prim.Native.Nat.{ℕ, ◌<◌}
 use mathlib.Core.Path.{sym, subst}
 use native.Mathlib.Omega.{arith}
-use borrow.Author.Rules.{rules}
 use Rattle.bits.specs.Bits.{PutIs}
 use Rattle.bits.proofs.Fields as fields
 use Rattle.bits.proofs.with_bits.Goals as goal

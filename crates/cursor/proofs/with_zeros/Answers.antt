@@ -1,11 +1,9 @@
 -- `cursor::with_zeros` meets its contract: the bytes passed are copied, the others zero. Assumes nothing.
-use Prim.Native.Nat.{ℕ, ◌≤◌, ◌-◌}
+use Prim.Native.Nat.{ℕ}
 use native.Mathlib.Omega.{arith}
-use mathlib.Core.Path.{◌≡◌, ap, ◌∙◌}
+use mathlib.Core.Path.{ap, ◌∙◌}
 use mathlib.Core.List.{List}
-use lib.Seq.{paste}
-use lib.ListN.{replicate, length, get_or, set}
-use borrow.Author.Rules.{rules}
+use lib.ListN.{replicate, get_or, set}
 use Rattle.cursor.proofs.Copies.{front_step, front_end}
 use Rattle.cursor.specs.Aids.{padded}
 use Rattle.cursor.proofs.with_zeros.Goals as goal

@@ -1,13 +1,8 @@
 -- `cursor::with_zeros` meets its contract: the bytes passed are copied, the others zero. Assumes nothing.
-use Prim.Native.Nat.{ℕ, ◌≤◌, ◌-◌}
-use native.Mathlib.Omega.{arith}
-use mathlib.Core.Path.{◌≡◌, ap, ◌∙◌}
-use mathlib.Core.List.{List}
+use Prim.Native.Nat.{◌≤◌, ◌-◌}
+use mathlib.Core.Path.{◌≡◌}
 use lib.Seq.{paste}
-use lib.ListN.{replicate, length, get_or, set}
-use borrow.Author.Rules.{rules}
-use Rattle.cursor.proofs.Copies.{front_step, front_end}
-use Rattle.cursor.specs.Aids.{padded}
+use lib.ListN.{replicate, length}
 use Rattle.cursor.proofs.with_zeros.Given as goal
 
 abbrev pub invariant-loop-i : goal.invariant-loop-i

@@ -1,7 +1,6 @@
 -- `fields::same_bytes` meets its contract: lengths that differ decide. Assumes nothing.
 use mathlib.Core.Path.{sym}
 use Rattle.fields.proofs.Same.{same_lengths}
-use borrow.Author.Rules.{rules}
 use Rattle.fields.proofs.same_bytes.Goals as goal
 use Rattle.fields.proofs.same_bytes.Goals.{Start}
 

@@ -1,10 +1,7 @@
 -- `fields::same_each` meets its contract: what is left to compare decides. Assumes nothing.
 use Rattle.fields.proofs.Same.{same_step, same_differ, same_end}
-use Rattle.rules.specs.Bytes.{same}
-use Prim.Native.Nat.{◌-◌, ◌≤◌}
-use mathlib.Core.Path.{◌≡◌, refl, sym, ◌∙◌}
+use mathlib.Core.Path.{refl, sym, ◌∙◌}
 use native.Mathlib.Omega.{arith}
-use lib.ListN.{length, drop}
 use Rattle.fields.proofs.same_each.Goals as goal
 use Rattle.fields.proofs.same_each.Goals.{At-loop-i}
 

@@ -1,10 +1,6 @@
 -- `fields::same_long` compares eight bytes of both a turn, and the last eight at the end. Assumes nothing.
 use Prim.Native.Nat.{◌+◌, ◌-◌, ◌≤◌}
-use native.Mathlib.Omega.{arith}
-use mathlib.Core.Path.{◌≡◌, sym}
-use lib.ListN.{length}
-use Rattle.fields.specs.Words.{eight_at, Octets}
-use Rattle.fields.proofs.Words.{SameTo, differ, decides, same_eight}
+use Rattle.fields.proofs.Words.{SameTo}
 use Rattle.fields.proofs.same_long.Given as goal
 
 abbrev pub invariant-loop-i : goal.invariant-loop-i

@@ -6,7 +6,6 @@ use lib.ListN.{length}
 use Rattle.rules.specs.Code.{u4_at}
 use Rattle.fields.specs.Words.{Octets}
 use Rattle.fields.proofs.Words.{SameTo, differ, decides, same_four}
-use borrow.Author.Rules.{rules}
 use Rattle.fields.proofs.same_short.Goals as goal
 use Rattle.fields.proofs.same_short.Goals.{After-shared_slice_known-2-1, Else-u4_at, Start}
 

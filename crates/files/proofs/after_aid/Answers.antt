@@ -1,6 +1,5 @@
 -- `files::after_aid` meets its contract: an AID ends that many bytes after its length. Assumes nothing.
 use native.Mathlib.Omega.{arith}
-use borrow.Author.Rules.{rules}
 use Rattle.files.proofs.Steps as steps
 use Rattle.files.proofs.after_aid.Goals as goal
 

@@ -2,7 +2,6 @@
 -- code. Assumes nothing.
 use native.Mathlib.Omega.{arith}
 use mathlib.Core.Path.{◌∙◌, ap}
-use borrow.Author.Rules.{rules}
 use Rattle.fields.specs.Editions.{edition_if}
 use Rattle.files.proofs.Steps as steps
 use Rattle.files.proofs.Guards as guards

@@ -1,7 +1,6 @@
 -- `files::after_policy` meets its contract: FF stands alone, a count is followed by that many indexes. Assumes nothing.
 use native.Mathlib.Omega.{arith}
 use mathlib.Core.Path.{sym, ◌∙◌}
-use borrow.Author.Rules.{rules}
 use Rattle.files.proofs.Steps as steps
 use Rattle.files.proofs.after_policy.Goals as goal
 

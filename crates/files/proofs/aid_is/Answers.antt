@@ -1,6 +1,5 @@
 -- `files::aid_is` meets its contract: the part that is the AID is compared. Assumes nothing.
 use mathlib.Core.Path.{ap, ◌∙◌}
-use borrow.Author.Rules.{rules}
 use Rattle.rules.specs.Bytes.{same}
 use Rattle.files.proofs.aid_is.Goals as goal
 

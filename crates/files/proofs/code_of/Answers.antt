@@ -1,6 +1,5 @@
 -- `files::code_of` meets its contract: the part after the code length, or an empty one. Assumes nothing.
 use native.Mathlib.Omega.{arith}
-use borrow.Author.Rules.{rules}
 use Rattle.files.proofs.Steps as steps
 use Rattle.files.proofs.Guards as guards
 use Rattle.files.proofs.code_of.Goals as goal

@@ -1,12 +1,8 @@
 -- `files::find_instance` meets its contract: the loop goes on while no method passed is a non-static one of the name. Assumes nothing.
-use native.Mathlib.Omega.{arith}
-use mathlib.Core.Path.{sym, ◌∙◌}
 use mathlib.Core.Bool.{◌&&◌, not}
 use lib.Dec.{eqb}
-use borrow.Author.Rules.{rules}
 use Rattle.rules.specs.Bytes.{find}
 use Rattle.files.proofs.Loops as loops
-use Rattle.files.proofs.Steps as steps
 use Rattle.files.proofs.find_instance.Given as goal
 
 abbrev pub invariant-loop-left : goal.invariant-loop-left

@@ -3,8 +3,6 @@ use native.Mathlib.Omega.{arith}
 use mathlib.Core.Path.{sym, ◌∙◌}
 use lib.Dec.{eqb}
 use borrow.Author.Tests.{eq-eqb, ne_eqb}
-use borrow.Author.Rules.{rules}
-use Rattle.rules.specs.Bytes.{find}
 use Rattle.files.proofs.Loops as loops
 use Rattle.files.proofs.Steps as steps
 use Rattle.files.proofs.find_method.Goals as goal

@@ -1,12 +1,7 @@
 -- `files::find_method` meets its contract: the loop goes on while no method passed has the name. Assumes nothing.
-use native.Mathlib.Omega.{arith}
-use mathlib.Core.Path.{sym, ◌∙◌}
 use lib.Dec.{eqb}
-use borrow.Author.Tests.{eq-eqb, ne_eqb}
-use borrow.Author.Rules.{rules}
 use Rattle.rules.specs.Bytes.{find}
 use Rattle.files.proofs.Loops as loops
-use Rattle.files.proofs.Steps as steps
 use Rattle.files.proofs.find_method.Given as goal
 
 abbrev pub invariant-loop-left : goal.invariant-loop-left

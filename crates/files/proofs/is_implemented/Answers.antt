@@ -1,6 +1,5 @@
 -- `files::is_implemented` meets its contract: the bit of weight 40. Assumes nothing.
 use native.Mathlib.Omega.{arith}
-use borrow.Author.Rules.{rules}
 use Rattle.files.proofs.Steps as steps
 use Rattle.files.proofs.is_implemented.Goals as goal
 

@@ -1,6 +1,5 @@
 -- `files::is_interface` meets its contract: kind 1. Assumes nothing.
 use native.Mathlib.Omega.{arith}
-use borrow.Author.Rules.{rules}
 use Rattle.files.proofs.Steps as steps
 use Rattle.files.proofs.is_interface.Goals as goal
 

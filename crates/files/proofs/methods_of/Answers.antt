@@ -1,6 +1,5 @@
 -- `files::methods_of` meets its contract: a parent is two bytes. Assumes nothing.
 use native.Mathlib.Omega.{arith}
-use borrow.Author.Rules.{rules}
 use Rattle.files.proofs.Steps as steps
 use Rattle.files.proofs.methods_of.Goals as goal
 

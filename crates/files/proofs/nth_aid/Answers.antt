@@ -1,7 +1,5 @@
 -- `files::nth_aid` meets its contract: the loop passes one AID a turn, counting the number down. Assumes nothing.
 use native.Mathlib.Omega.{arith}
-use borrow.Author.Rules.{rules}
-use Rattle.rules.specs.Bytes.{at}
 use Rattle.files.proofs.Loops as loops
 use Rattle.files.proofs.Steps as steps
 use Rattle.files.proofs.nth_aid.Goals as goal

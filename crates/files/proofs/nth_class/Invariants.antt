@@ -1,9 +1,6 @@
 -- `files::nth_class` meets its contract: the loop passes one class a turn, counting the number down. Assumes nothing.
-use native.Mathlib.Omega.{arith}
-use borrow.Author.Rules.{rules}
 use Rattle.rules.specs.Bytes.{at}
 use Rattle.files.proofs.Loops as loops
-use Rattle.files.proofs.Steps as steps
 use Rattle.files.proofs.nth_class.Given as goal
 
 abbrev pub invariant-loop-left : goal.invariant-loop-left

@@ -1,6 +1,5 @@
 -- `files::reference_at` meets its contract: a reference is four bytes, so the one with a number is found without a loop. Assumes nothing.
 use native.Mathlib.Omega.{arith}
-use borrow.Author.Rules.{rules}
 use Rattle.files.proofs.Steps as steps
 use Rattle.files.proofs.reference_at.Goals as goal
 use Rattle.files.proofs.reference_at.Goals.{After-u2_at, After-wide, Else-u2_at-k}

@@ -1,6 +1,5 @@
 -- `instructions::biased` meets its contract: half the range more, by the two cases. Assumes nothing.
 use native.Mathlib.Omega.{arith}
-use borrow.Author.Rules.{rules}
 use borrow.Author.Tests.{lt-ltb, le-ltb}
 use Rattle.instructions.proofs.biased.Goals as goal
 

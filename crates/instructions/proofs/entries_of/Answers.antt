@@ -2,7 +2,6 @@
 use native.Mathlib.Omega.{arith}
 use mathlib.Core.Option.{some}
 use mathlib.Core.Path.{sym, ap, ◌∙◌}
-use borrow.Author.Rules.{rules}
 use Rattle.rules.specs.Code.{Switch, switch_entries}
 use Rattle.instructions.proofs.Sizes.{pairs, switch_73, switch_74, head_least, entries_span, entries_count}
 use Rattle.instructions.proofs.entries_of.Goals as goal

@@ -1,7 +1,6 @@
 -- `instructions::entry_at` meets its contract: the table's rule is carried to the opcode. Assumes nothing.
 use mathlib.Core.Path.{◌≡◌}
 use lib.ListN.{get_or}
-use borrow.Author.Rules.{rules}
 use Rattle.instructions.proofs.entry_at.Goals as goal
 
 pub returns : goal.returns

@@ -1,7 +1,6 @@
 -- `instructions::instruction_length` meets its contract: too short, plain, or a switch that the code has whole or not. Assumes nothing.
 use Prim.Native.Nat.{◌/◌, ◌%◌, ◌<◌}
 use native.Mathlib.Omega.{arith}
-use borrow.Author.Rules.{rules}
 use Rattle.instructions.proofs.Sizes.{plain_length, too_short, switch_fits, switch_short}
 use Rattle.instructions.proofs.instruction_length.Goals as goal
 use Rattle.instructions.proofs.instruction_length.Goals.{Start}

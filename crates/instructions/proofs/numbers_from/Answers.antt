@@ -2,7 +2,6 @@
 use Prim.Native.Nat.{◌-◌}
 use native.Mathlib.Omega.{arith}
 use mathlib.Core.Path.{◌≡◌, ◌∙◌}
-use borrow.Author.Rules.{rules}
 use Rattle.rules.proofs.Signed.{bias, numbers_some, numbers_none}
 use Rattle.instructions.proofs.Sizes.{number_one}
 use Rattle.instructions.proofs.numbers_from.Goals as goal

@@ -1,14 +1,7 @@
 -- `names::class_ok` meets its contract: the loop goes on while each method passed has its form and a name that is not in the table yet. Assumes nothing.
 use Prim.Native.Nat.{◌-◌}
-use native.Mathlib.Omega.{arith}
-use mathlib.Core.Path.{◌≡◌, refl, sym, ◌∙◌}
-use mathlib.Core.Bool.{Bool, true, false}
-use lib.ListN.{length, length-set}
-use borrow.Author.Tests.{not-true, not-false}
-use borrow.Author.Rules.{rules}
-use Rattle.files.specs.Say.{MethodThere, Methods}
-use Rattle.files.proofs.Steps as steps
-use Rattle.names.specs.Say.{FormIs, ClassIs}
+use mathlib.Core.Path.{◌≡◌}
+use lib.ListN.{length}
 use Rattle.names.proofs.Rules as rules
 use Rattle.names.proofs.class_ok.Given as goal
 

@@ -1,8 +1,7 @@
 -- `names::is_among` meets its contract: what is found is what is among the names passed. Assumes nothing.
-use Prim.Native.Nat.{ℕ, ◌-◌, ◌≤◌}
+use Prim.Native.Nat.{ℕ}
 use native.Mathlib.Omega.{arith}
 use mathlib.Core.Path.{◌≡◌, refl, ◌∙◌, ap}
-use borrow.Author.Rules.{rules}
 use Rattle.names.specs.Say.{among}
 use Rattle.names.proofs.Table.{among_more}
 use Rattle.names.proofs.is_among.Goals as goal

@@ -1,6 +1,5 @@
 -- `names::is_taken` meets its contract: a name that is not below all of them is not among them. Assumes nothing.
 use mathlib.Core.Path.{sym}
-use borrow.Author.Rules.{rules}
 use Rattle.names.proofs.Table.{among_below}
 use Rattle.names.proofs.is_taken.Goals as goal
 use Rattle.names.proofs.is_taken.Goals.{Start}

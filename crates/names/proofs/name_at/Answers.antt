@@ -1,6 +1,5 @@
 -- `names::name_at` meets its contract: the name follows the bitfield. Assumes nothing.
 use native.Mathlib.Omega.{arith}
-use borrow.Author.Rules.{rules}
 use Rattle.files.proofs.Steps as steps
 use Rattle.names.proofs.name_at.Goals as goal
 

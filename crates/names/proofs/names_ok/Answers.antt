@@ -1,10 +1,7 @@
 -- `names::names_ok` meets its contract: the loop goes on while every class passed is right. Assumes nothing.
 use native.Mathlib.Omega.{arith}
-use mathlib.Core.Path.{◌≡◌, refl, sym, ◌∙◌}
-use lib.ListN.{length}
+use mathlib.Core.Path.{refl, sym, ◌∙◌}
 use borrow.Author.Tests.{not-true, not-false}
-use borrow.Author.Rules.{rules}
-use Rattle.rules.specs.Bytes.{all}
 use Rattle.files.specs.Say.{ClassThere, Classes}
 use Rattle.files.proofs.Loops as loops
 use Rattle.files.proofs.Walks as walks

@@ -1,15 +1,8 @@
 -- `names::names_ok` meets its contract: the loop goes on while every class passed is right. Assumes nothing.
-use native.Mathlib.Omega.{arith}
-use mathlib.Core.Path.{◌≡◌, refl, sym, ◌∙◌}
+use mathlib.Core.Path.{◌≡◌}
 use lib.ListN.{length}
-use borrow.Author.Tests.{not-true, not-false}
-use borrow.Author.Rules.{rules}
 use Rattle.rules.specs.Bytes.{all}
-use Rattle.files.specs.Say.{ClassThere, Classes}
 use Rattle.files.proofs.Loops as loops
-use Rattle.files.proofs.Walks as walks
-use Rattle.files.proofs.Steps as steps
-use Rattle.names.proofs.Rules as rules
 use Rattle.names.specs.Say.{class_ok}
 use Rattle.names.proofs.names_ok.Given as goal
 

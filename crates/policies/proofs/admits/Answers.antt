@@ -1,6 +1,5 @@
 -- `policies::admits` meets its contract: FF allows every domain, a list what its slots stand for. Assumes nothing.
 use mathlib.Core.Path.{sym, ◌∙◌}
-use borrow.Author.Rules.{rules}
 use Rattle.policies.proofs.Rules as rules
 use Rattle.policies.proofs.Listed as listed
 use Rattle.policies.proofs.admits.Goals as goal

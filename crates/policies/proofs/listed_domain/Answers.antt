@@ -1,7 +1,6 @@
 -- `policies::listed_domain` meets its contract: the loop passes one domain a turn, and none passed is x and listed. Assumes nothing.
 use native.Mathlib.Omega.{arith}
 use mathlib.Core.Path.{sym, ◌∙◌}
-use borrow.Author.Rules.{rules}
 use Rattle.rules.specs.Bytes.{aid}
 use Rattle.places.specs.Reads.{Ends}
 use Rattle.files.proofs.Steps as steps

@@ -1,6 +1,5 @@
 -- `policies::listed_slot` meets its contract: a domain listed by its index is told first, then the own domain listed as FE. Assumes nothing.
 use mathlib.Core.Path.{sym, ◌∙◌}
-use borrow.Author.Rules.{rules}
 use borrow.Author.Tests.{not-true, not-false}
 use Rattle.policies.proofs.Rules as rules
 use Rattle.policies.proofs.Listed as listed

@@ -1,14 +1,9 @@
 -- `policies::lists` meets its contract: the loop goes on while no index passed is the number. Assumes nothing.
-use Prim.Native.Nat.{◌+◌, ◌≤◌}
 use native.Mathlib.Omega.{arith}
-use mathlib.Core.Path.{◌≡◌, sym, ◌∙◌}
+use mathlib.Core.Path.{sym, ◌∙◌}
 use lib.Dec.{eqb}
-use lib.ListN.{length, take, drop}
-use borrow.Author.Rules.{rules}
 use borrow.Author.Tests.{eq-eqb, ne_eqb}
-use Rattle.rules.specs.Bytes.{any}
 use Rattle.policies.proofs.Indexes as indexes
-use Rattle.policies.specs.Say.{indexes_at}
 use Rattle.policies.proofs.lists.Goals as goal
 use Rattle.policies.proofs.lists.Goals.{At-loop-left, In-loop-left}
 

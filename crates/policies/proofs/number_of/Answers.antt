@@ -1,9 +1,7 @@
 -- `policies::number_of` meets its contract: the loop passes one domain a turn, and none passed is x; the loading domain is compared last. Assumes nothing.
-use Prim.Native.Nat.{◌+◌, ◌≤◌}
 use native.Mathlib.Omega.{arith}
 use mathlib.Core.Path.{sym, ◌∙◌}
 use mathlib.Core.Bool.{true, false}
-use borrow.Author.Rules.{rules}
 use Rattle.files.proofs.Loops as loops
 use Rattle.files.proofs.Steps as steps
 use Rattle.policies.proofs.Numbers as numbers

@@ -1,5 +1,5 @@
 -- `policies::slot` meets its contract: FE has a slot of its own. Assumes nothing.
-use mathlib.Core.Path.{◌∙◌, sym}
+use mathlib.Core.Path.{sym}
 use Rattle.policies.proofs.Slots as slots
 use Rattle.policies.proofs.slot.Goals as goal
 

@@ -1,7 +1,6 @@
 -- `refusals::first_no` meets its contract: no refusal stands behind every other answer. Assumes nothing.
 use native.Mathlib.Omega.{arith}
 use mathlib.Core.Path.{sym, ap, ◌∙◌}
-use borrow.Author.Rules.{rules}
 use Rattle.refusals.specs.Order.{first_of}
 use Rattle.refusals.proofs.Order.{first_left, first_right, first_zero}
 use Rattle.refusals.proofs.first_no.Goals as goal

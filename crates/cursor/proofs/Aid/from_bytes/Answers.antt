@@ -1,6 +1,5 @@
 -- `cursor::Aid::from_bytes` meets its contract: by the two tests of the length. Assumes nothing.
 use native.Mathlib.Omega.{arith}
-use borrow.Author.Rules.{rules}
 use Rattle.cursor.proofs.Aids.{too_short, too_long, made}
 use Rattle.cursor.proofs.Aid.from_bytes.Goals as goal
 use Rattle.cursor.proofs.Aid.from_bytes.Goals.{Start}

@@ -1,7 +1,4 @@
 -- `cursor::Aid::same` meets its contract: it compares the bytes of both. Assumes nothing.
-use native.Mathlib.Omega.{arith}
-use lib.Seq.{length-take-le}
-use lib.ListN.{length}
 use Rattle.cursor.specs.Aids.{bytes_of}
 use Rattle.cursor.proofs.Aid.same.Goals as goal
 

@@ -1,6 +1,5 @@
 -- `cursor::Cursor::aid` meets its contract: by each test of the length. Assumes nothing.
 use native.Mathlib.Omega.{arith}
-use borrow.Author.Rules.{rules}
 use Rattle.cursor.proofs.Fields.{aid_ends, aid_low, aid_high, aid_cut, aid_says}
 use Rattle.cursor.proofs.Cursor.aid.Goals as goal
 use Rattle.cursor.proofs.Cursor.aid.Goals.{After-wide-n, Start}

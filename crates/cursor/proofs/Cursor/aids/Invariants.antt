@@ -1,12 +1,8 @@
 -- `cursor::Cursor::aids` meets its contract: what is left of the list at the cursor decides of the whole. Assumes nothing.
 use Prim.Native.Nat.{◌≤◌}
-use native.Mathlib.Omega.{arith}
-use mathlib.Core.Option.{none, some}
 use lib.ListN.{length}
-use borrow.Author.Rules.{rules}
-use Rattle.rules.specs.Bytes.{u1, aid, many}
-use Rattle.cursor.proofs.Steps.{Leads, said_inside, stop_of, stop_none, none_said, field_is, field_bad, aid_is, aid_bad}
-use Rattle.cursor.proofs.Counts.{count_none, count_many, count_leads, count_says, loop_next, loop_none, loop_done}
+use Rattle.rules.specs.Bytes.{aid, many}
+use Rattle.cursor.proofs.Steps.{Leads}
 use Rattle.cursor.proofs.Cursor.aids.Given as goal
 
 abbrev pub invariant-loop-left : goal.invariant-loop-left

@@ -1,6 +1,5 @@
 -- `cursor::Cursor::skip` meets its contract: by whether that many bytes are left. Assumes nothing.
 use native.Mathlib.Omega.{arith}
-use borrow.Author.Rules.{rules}
 use Rattle.cursor.specs.Says.{stops_none}
 use Rattle.cursor.proofs.Fields.{span_stops, span_ends}
 use Rattle.cursor.proofs.Cursor.skip.Goals as goal

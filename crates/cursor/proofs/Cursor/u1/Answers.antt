@@ -1,6 +1,5 @@
 -- `cursor::Cursor::u1` meets its contract: the byte at the place, if there is one. Assumes nothing.
 use native.Mathlib.Omega.{arith}
-use borrow.Author.Rules.{rules}
 use Rattle.cursor.proofs.Fields.{u1_says, u1_ends}
 use Rattle.cursor.proofs.Cursor.u1.Goals as goal
 use Rattle.cursor.proofs.Cursor.u1.Goals.{Start}

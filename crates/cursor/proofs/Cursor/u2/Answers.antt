@@ -1,6 +1,5 @@
 -- `cursor::Cursor::u2` meets its contract: the two bytes at the place, if they are there. Assumes nothing.
 use native.Mathlib.Omega.{arith}
-use borrow.Author.Rules.{rules}
 use Rattle.cursor.proofs.Fields.{u2_says, u2_ends}
 use Rattle.cursor.proofs.Cursor.u2.Goals as goal
 use Rattle.cursor.proofs.Cursor.u2.Goals.{Start}

@@ -1,6 +1,5 @@
 -- `instructions::subset::barred_opcode` meets its contract: the set's rule is carried to the opcode. Assumes nothing.
 use mathlib.Core.Path.{◌∙◌}
-use borrow.Author.Rules.{rules}
 use Rattle.instructions.proofs.subset.barred_opcode.Goals as goal
 use Rattle.instructions.proofs.subset.barred_opcode.Goals.{Start}
 

@@ -2,8 +2,7 @@
 use mathlib.Core.Path.{◌≡◌, sym, ◌∙◌}
 use mathlib.Core.Bool.{true, false}
 use mathlib.Core.List.{[], ◌∷◌}
-use borrow.Author.Tests.{not-true, not-false}
-use borrow.Author.Rules.{rules}
+use borrow.Author.Tests.{not-false}
 use Rattle.rules.specs.Code.{u1_at, among}
 use Rattle.rules.specs.Subset.{barred_opcode}
 use Rattle.instructions.proofs.Barred.{type_room, barred_plain, barred_none, barred_type}

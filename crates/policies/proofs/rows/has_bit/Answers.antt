@@ -1,6 +1,5 @@
 -- `policies::rows::has_bit` meets its contract. Assumes nothing.
 use mathlib.Core.Path.{refl}
-use borrow.Author.Rules.{rules}
 use Rattle.policies.specs.Rows.{has_bit}
 use Rattle.policies.proofs.rows.has_bit.Goals as goal
 

@@ -2,7 +2,6 @@
 use Prim.Native.Nat.{◌+◌, ◌<◌}
 use native.Mathlib.Omega.{arith}
 use lib.ListN.{length}
-use borrow.Author.Rules.{rules}
 use Rattle.policies.proofs.Kept as kept
 use Rattle.policies.proofs.rows.number_at.Goals as goal
 use Rattle.policies.proofs.rows.number_at.Goals.{Start}

@@ -3,7 +3,6 @@ use Prim.Native.Nat.{◌%◌}
 use native.Mathlib.Omega.{arith}
 use mathlib.Core.Path.{ap}
 use lib.Bits.{bit_or}
-use borrow.Author.Rules.{rules}
 use Rattle.policies.specs.Rows.{with_bit}
 use Rattle.policies.proofs.Masks.{one_shifted}
 use Rattle.policies.proofs.rows.with_bit.Goals as goal
