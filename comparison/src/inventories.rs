@@ -132,7 +132,8 @@ fn timed(mut command: Command, input: &Input) -> Duration {
 /// crates/inventory/out/inventory.
 pub fn print(measured: &Measured, rounds: usize, hostile_rounds: usize) {
     println!("\n## Inventory\n");
-    let program = std::env::var("INVENTORY").unwrap_or_else(|_| "crates/inventory/out/inventory".into());
+    let program =
+        std::env::var("INVENTORY").unwrap_or_else(|_| "crates/inventory/out/inventory".into());
     let page = std::env::current_exe().map(|path| path.to_string_lossy().into_owned());
     let (true, Ok(page)) = (Path::new(&program).is_file(), page) else {
         println!("Not timed: there is no program {program}.");
