@@ -114,14 +114,14 @@
  * are LOADER_DEPTH_STANDARD, LOADER_PARENTS_STANDARD and LOADER_CODE_STANDARD.
  *
  * Time. Every operation but the two fresh calls judges each installed package
- * again, so its time grows with the bytes installed. Measured on one core of an
- * AMD EPYC with ordinary packages (docs/BENCHMARKS.md has every figure), an
- * operation takes about 0.06 ms over a full store of 8,192 bytes and 0.5 ms over
- * one of 65,535. These are no bounds. Packages can be made for the purpose of
- * taking longer: an operation over the slowest store of 65,535 bytes that was
- * found takes 3 seconds, with larger limits (see below) too. For each
- * package judged the time is at most a constant times its file's bytes times the
- * bytes of the packages that it imports, directly or not. It does not grow with
+ * again, so its time grows with the bytes installed. Measured with an older
+ * compiler on one core of an AMD EPYC with ordinary packages (docs/BENCHMARKS.md
+ * has every figure), an operation takes about 0.06 ms over a full store of 8,192
+ * bytes and 0.5 ms over one of 65,535. These are no bounds. Packages can be made
+ * for the purpose of taking longer: an operation over the slowest store of 65,535
+ * bytes that was found takes 3 seconds, with larger limits (see below) too. For
+ * each package judged the time is at most a constant times its file's bytes times
+ * the bytes of the packages that it imports, directly or not. It does not grow with
  * the number of ways up through the classes, whatever the limits.
  *
  * Stack in bytes on x86-64: no call takes more, whatever the bytes. The figures

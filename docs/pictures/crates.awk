@@ -8,9 +8,11 @@ FILENAME ~ /LAYOUT[.]md$/ && /^[|] `[a-z_0-9]+` [|]/ {
     says[part[2]] = part[3]
 }
 FILENAME ~ /crates[.]txt$/ && /^[a-z]/ {
-    name[++crates] = substr($1, 1, length($1) - 1)
+    name[++crates] = $1
+    sub(/:$/, "", name[crates])
     number[name[crates]] = crates
-    for (i = 2; i <= NF; i++) uses[crates, ++count[crates]] = $i
+    sub(/^[^:]*:/, "")
+    for (i = 1; i <= NF; i++) uses[crates, ++count[crates]] = $i
 }
 
 # Does a crate lead to another through a third? Then the direct line is left out.
