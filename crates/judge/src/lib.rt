@@ -1,5 +1,7 @@
 // A load judged over the entries that end at a place, and the packages of a store one after the other: the same functions for question 2
 // and for the call.
+#![tactic(auto)]
+
 pub mod contents;
 pub mod questions;
 
@@ -20,14 +22,14 @@ use store::subset::keeps_subset;
 use store::{EntryPart, Spot, openings};
 
 // A load: the number of the first no, or the depth of the deepest own class.
-#[derive(Drop)]
+#[derive(Clone, Copy)]
 pub enum LoadAnswer {
     Refused(u32),
     Accepted(usize),
 }
 
 // The entry of a package by its places: its start, the file's first byte, its end. The domain's AID stands three bytes behind its start.
-#[derive(Drop)]
+#[derive(Clone, Copy)]
 pub struct PackageEntry {
     pub at: usize,
     pub file: usize,
@@ -36,7 +38,7 @@ pub struct PackageEntry {
 
 // The domain that a file is loaded into: where its AID stands behind its length, and whether 26 is asked. It is asked where the domain is
 // of kind 3, and not of a stored package, of which it was asked with 3 and 5.
-#[derive(Drop)]
+#[derive(Clone, Copy)]
 pub struct LoadingDomain {
     pub aid: usize,
     pub subset: bool,
@@ -44,7 +46,7 @@ pub struct LoadingDomain {
 
 // A file that is judged: where the entries before it end, and the domain that it is loaded into. Its numbers take two bytes each, so that
 // it is handed on in a register.
-#[derive(Drop)]
+#[derive(Clone, Copy)]
 pub struct Judging {
     pub end: u16,
     pub aid: u16,
