@@ -9,7 +9,7 @@ use borrow.Author.Tests.{le-leb}
 use lib.ListN.{length, replicate}
 use Rattle.rules.specs.Bytes.{Bytes, Aid, pick}
 use Rattle.rules.specs.Store.{first_entry, store_limits}
-use Rattle.rules.specs.Operations.{sound_entries, sound, entries, load}
+use Rattle.rules.specs.Operations.{sound_entries}
 use Rattle.rules.proofs.Tests.{of_true}
 use Rattle.store.specs.Entries.{StandFrom}
 use Rattle.store.specs.Sound.{OverSome}

@@ -1,6 +1,8 @@
 // Questions 1 and 2 of a store, and a load judged over it. The tables are as large as the store's length and its depth limit ask: a function
 // for each class of lengths and limits has its own. Such a function calls itself where the store has more than 65,535 bytes, which it never
 // has; so the compiler does not make it a part of its caller, and only the tables of the store's own class stand on the stack.
+#![tactic(auto)]
+
 ghost use Rattle.std.specs.Prelude.{◌≡◌, ◌≤◌, length};
 ghost use Rattle.rules.specs.Store.{store_limits, first_entry};
 ghost use Rattle.store.specs.Entries.{StandFrom};
@@ -12,14 +14,14 @@ use judge::LoadAnswer;
 use store::{Layout, openings};
 
 // Questions 1 and 2: the number of the first no, or where the entries of a sound store end.
-#[derive(Drop)]
+#[derive(Clone, Copy)]
 pub enum Opened {
     Refused(u32),
     Used(usize),
 }
 
 // A load: the number of the first no, or where the entries of the store end and the depth of the deepest own class.
-#[derive(Drop)]
+#[derive(Clone, Copy)]
 pub enum Loading {
     Refused(u32),
     Accepted(usize, usize),
