@@ -1,13 +1,13 @@
 -- The page of a store that questions 1 and 2 refuse, and that of a sound one from its lines and totals. Assumes nothing.
-use Prim.Native.Nat.{ℕ, ◌+◌, ◌*◌, ◌≤◌, ◌<◌}
+use Prim.Native.Nat.{ℕ, ◌+◌, ◌≤◌, ◌<◌}
 use native.Mathlib.Omega.{arith}
-use mathlib.Core.Path.{◌≡◌, refl, sym, ◌∙◌, ap, ap₂}
+use mathlib.Core.Path.{◌≡◌, sym, ◌∙◌, ap, ap₂}
 use mathlib.Core.List.{[], ◌++◌}
 use lib.ListN.{length, take, length-append}
 use lib.Seq.{length-take-le}
 use Rattle.rules.specs.Bytes.{Bytes}
 use Rattle.rules.specs.Store.{store_limits}
-use Rattle.rules.specs.Operations.{on_store, entries, if_done}
+use Rattle.rules.specs.Operations.{on_store, entries}
 use Rattle.store.specs.Sound.{SoundAt}
 use Rattle.store.proofs.Sound.{kept, sound_store}
 use Rattle.sound.specs.Says.{Unopened}
