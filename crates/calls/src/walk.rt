@@ -140,8 +140,9 @@ fn file_calls<'a>(
     number
 }
 
-// The same in a frame of its own, in which the numbers of domains stand: it calls itself where the store has more than 65,535 bytes, which it
-// never has; so the compiler does not make it a part of its caller.
+// The same in a frame of its own, in which the numbers of domains stand: it is `inline(never)`, and calls itself where the store has more than
+// 65,535 bytes, which it never has; so the compiler does not make it a part of its caller.
+#[inline(never)]
 pub fn group_calls<'a>(f: &'a [u8], s: &'a [u8], kept: &mut [u16], a: Asker) -> u8
     requires judged { Judged f.now s.now a.group.end × CodesSplit f.now × AskerTrue f.now s.now a × (length s.now ≤ 65535) }
     requires kept_true { KeptTrue f.now s.now a.group kept.old }

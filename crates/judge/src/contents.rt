@@ -1,6 +1,6 @@
 // What a file holds that passed 14, its names, codes and calls: questions 15 to 17, 24, 26, 18 and 19. `codes_long` and
-// `codes_short` call themselves where the store has more than 65,535 bytes, which it never has: so the compiler does not make them parts of
-// their caller, and their sets stand on the stack only while they are used.
+// `codes_short` are `inline(never)`, and call themselves where the store has more than 65,535 bytes, which it never has: so the compiler does
+// not make them parts of their caller, and their sets stand on the stack only while they are used.
 ghost use Rattle.std.specs.Prelude.{◌≡◌, ◌||◌, not, ◌≤◌, eqb, length};
 ghost use Rattle.rules.specs.Bytes.{aid};
 ghost use Rattle.rules.specs.Store.{store_limits};
@@ -39,6 +39,7 @@ fn calls_number<'a>(
 
 // 16, 17 and 24 of a file: the number of the first no; 18 where there is none and the file has calls, 0 where it has none. With sets for
 // every code limit, in a frame of its own.
+#[inline(never)]
 fn codes_long(s: &[u8], file: &[u8]) -> u8
     requires { ReadSome s.now file.now × (length s.now ≤ 65535) }
     ensures { FileNumberIs file.now result }
@@ -53,6 +54,7 @@ fn codes_long(s: &[u8], file: &[u8]) -> u8
 }
 
 // The same with smaller sets, for a code limit of 4,096 or less.
+#[inline(never)]
 fn codes_short(s: &[u8], file: &[u8]) -> u8
     requires { ReadSome s.now file.now × (length s.now ≤ 65535) × ((store_limits s.now).code ≤ 4096) }
     ensures { FileNumberIs file.now result }

@@ -1,6 +1,6 @@
 // Question 20: does the method that runs for an own class and a name allow all that each non-static method of that name allows, in
-// the class and in its ancestors? Functions `.._apart` call themselves where the store has more than 65,535 bytes, which it never has; so
-// the compiler does not make them a part of their callers, and their frames stand on the stack only while they run.
+// the class and in its ancestors? Functions `.._apart` are `inline(never)`, and call themselves where the store has more than 65,535 bytes,
+// which it never has; so the compiler does not make them a part of their callers, and their frames stand on the stack only while they run.
 #![tactic(auto)]
 
 pub mod allowed;
@@ -71,6 +71,7 @@ fn methods_pass<'a>(f: &'a [u8], s: &'a [u8], names: &[u16], v: Visit) -> bool
 }
 
 // The same in a frame of its own.
+#[inline(never)]
 fn methods_apart<'a>(f: &'a [u8], s: &'a [u8], names: &[u16], v: Visit) -> bool
     requires visit_placed { VisitPlaced f.now s.now v × (length s.now ≤ 65535) }
     requires names_is { NamesIs f.now s.now names.now (visit_names v) }
@@ -192,6 +193,7 @@ fn is_kind0<'a>(f: &'a [u8], s: &'a [u8], slots: &mut [u16; 640], x: ClassSpot) 
 }
 
 // The names of own class b, found in a frame of its own.
+#[inline(never)]
 fn names_apart<'a>(
     f: &'a [u8],
     s: &'a [u8],

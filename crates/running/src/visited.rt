@@ -182,6 +182,7 @@ fn parent_visit<'a>(
 }
 
 // The same in a frame of its own.
+#[inline(never)]
 pub fn parent_apart<'a>(
     f: &'a [u8],
     s: &'a [u8],

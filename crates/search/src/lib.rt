@@ -1,6 +1,7 @@
 // The declaration that a class and a name mean: that of the class itself or of the first along its kind-0 parents that declares the name,
-// else of the first among the interfaces of these, each chain member's in turn, depth first in listed order. Functions `.._apart` call
-// themselves where the store has more than 65,535 bytes, which it never has; so the compiler does not make them a part of their callers.
+// else of the first among the interfaces of these, each chain member's in turn, depth first in listed order. Functions `.._apart` are
+// `inline(never)`, and call themselves where the store has more than 65,535 bytes, which it never has; so the compiler does not make them a
+// part of their callers.
 #![tactic(auto)]
 
 pub mod visited;

@@ -117,6 +117,7 @@ pub fn declares<'a>(f: &'a [u8], s: &'a [u8], v: Visit) -> bool
 }
 
 // The same in a frame of its own.
+#[inline(never)]
 pub fn declares_apart<'a>(f: &'a [u8], s: &'a [u8], v: Visit) -> bool
     requires { VisitPlaced f.now s.now v × (length s.now ≤ 65535) }
     ensures { DeclaresIs f.now s.now (visit_spot v) v.name result }
@@ -140,6 +141,7 @@ fn named_in<'a>(f: &'a [u8], s: &'a [u8], v: Visit, i: usize) -> Named
 }
 
 // Its parent with number i, told in a frame of its own: in the same package, or in one that the slot or the index finds.
+#[inline(never)]
 pub fn parent_apart<'a>(
     f: &'a [u8],
     s: &'a [u8],
@@ -195,6 +197,7 @@ fn interface_at<'a>(f: &'a [u8], s: &'a [u8], slots: &mut [u16], v: Visit, c: us
 }
 
 // The same in a frame of its own.
+#[inline(never)]
 pub fn interface_apart<'a>(f: &'a [u8], s: &'a [u8], slots: &mut [u16], v: Visit, c: usize) -> Visit
     requires spot_there { SpotThere f.now s.now v.end (spot_in c) × (length s.now ≤ 65535) }
     requires slots_true { SlotsTrue f.now s.now slots.old }

@@ -1,6 +1,7 @@
 // Questions 1 and 2 of a store, and a load judged over it. The tables are as large as the store's length and its depth limit ask: a function
-// for each class of lengths and limits has its own. Such a function calls itself where the store has more than 65,535 bytes, which it never
-// has; so the compiler does not make it a part of its caller, and only the tables of the store's own class stand on the stack.
+// for each class of lengths and limits has its own. Such a function is `inline(never)`, and calls itself where the store has more than 65,535
+// bytes, which it never has; so the compiler does not make it a part of its caller, and only the tables of the store's own class stand on the
+// stack.
 #![tactic(auto)]
 
 ghost use Rattle.std.specs.Prelude.{◌≡◌, ◌≤◌, length};
@@ -28,6 +29,7 @@ pub enum Loading {
 }
 
 // Questions 3 to 5 of the entries of a store of 8,192 bytes or less.
+#[inline(never)]
 fn domains_small(s: &[u8], used: usize) -> bool
     requires { StandFrom s.now (first_entry s.now) used × (length s.now ≤ 8192) }
     ensures { AllSay s.now used result }
@@ -40,6 +42,7 @@ fn domains_small(s: &[u8], used: usize) -> bool
 }
 
 // The same of a larger one.
+#[inline(never)]
 fn domains_large(s: &[u8], used: usize) -> bool
     requires { StandFrom s.now (first_entry s.now) used × (length s.now ≤ 65535) }
     ensures { AllSay s.now used result }
@@ -66,6 +69,7 @@ fn domains_sound(s: &[u8], used: usize) -> bool
 }
 
 // The other questions of the entries of a store of 8,192 bytes or less with a depth limit of 8 or less.
+#[inline(never)]
 fn packages_small(s: &[u8], used: usize) -> bool
     requires stand_from { StandFrom s.now (first_entry s.now) used × DomainsYes s.now used }
     requires s_len_bound { (length s.now ≤ 8192) × ((store_limits s.now).depth ≤ 8) }
@@ -82,6 +86,7 @@ fn packages_small(s: &[u8], used: usize) -> bool
 }
 
 // The same of a larger store.
+#[inline(never)]
 fn packages_large(s: &[u8], used: usize) -> bool
     requires stand_from { StandFrom s.now (first_entry s.now) used × DomainsYes s.now used }
     requires s_len_bound { (length s.now ≤ 65535) × ((store_limits s.now).depth ≤ 8) }
@@ -98,6 +103,7 @@ fn packages_large(s: &[u8], used: usize) -> bool
 }
 
 // The same of a store of 8,192 bytes or less with any depth limit.
+#[inline(never)]
 fn packages_deep_small(s: &[u8], used: usize) -> bool
     requires stand_from { StandFrom s.now (first_entry s.now) used × DomainsYes s.now used }
     requires s_len_bound { length s.now ≤ 8192 }
@@ -114,6 +120,7 @@ fn packages_deep_small(s: &[u8], used: usize) -> bool
 }
 
 // The same of a larger store.
+#[inline(never)]
 fn packages_deep_large(s: &[u8], used: usize) -> bool
     requires stand_from { StandFrom s.now (first_entry s.now) used × DomainsYes s.now used }
     requires s_len_bound { length s.now ≤ 65535 }
@@ -153,6 +160,7 @@ fn packages_sound(s: &[u8], used: usize) -> bool
 
 // The same with a load behind them, in a store of 8,192 bytes or less with a depth limit of 8 or less; 2 where an entry of the store is not
 // accepted.
+#[inline(never)]
 fn load_small<'a>(s: &'a [u8], used: usize, domain: &[u8], file: &'a [u8]) -> LoadAnswer
     requires stand_from { StandFrom s.now (first_entry s.now) used × DomainsYes s.now used × (used_at s.now ≡ used) }
     requires s_len_bound { (length s.now ≤ 8192) × ((store_limits s.now).depth ≤ 8) }
@@ -172,6 +180,7 @@ fn load_small<'a>(s: &'a [u8], used: usize, domain: &[u8], file: &'a [u8]) -> Lo
 }
 
 // The same in a larger store.
+#[inline(never)]
 fn load_large<'a>(s: &'a [u8], used: usize, domain: &[u8], file: &'a [u8]) -> LoadAnswer
     requires stand_from { StandFrom s.now (first_entry s.now) used × DomainsYes s.now used × (used_at s.now ≡ used) }
     requires s_len_bound { (length s.now ≤ 65535) × ((store_limits s.now).depth ≤ 8) }
@@ -191,6 +200,7 @@ fn load_large<'a>(s: &'a [u8], used: usize, domain: &[u8], file: &'a [u8]) -> Lo
 }
 
 // The same in a store of 8,192 bytes or less with any depth limit.
+#[inline(never)]
 fn load_deep_small<'a>(s: &'a [u8], used: usize, domain: &[u8], file: &'a [u8]) -> LoadAnswer
     requires stand_from { StandFrom s.now (first_entry s.now) used × DomainsYes s.now used × (used_at s.now ≡ used) }
     requires s_len_bound { length s.now ≤ 8192 }
@@ -210,6 +220,7 @@ fn load_deep_small<'a>(s: &'a [u8], used: usize, domain: &[u8], file: &'a [u8]) 
 }
 
 // The same in a larger store.
+#[inline(never)]
 fn load_deep_large<'a>(s: &'a [u8], used: usize, domain: &[u8], file: &'a [u8]) -> LoadAnswer
     requires stand_from { StandFrom s.now (first_entry s.now) used × DomainsYes s.now used × (used_at s.now ≡ used) }
     requires s_len_bound { length s.now ≤ 65535 }
