@@ -1,15 +1,15 @@
 -- What setting a bit of a byte does to its bits, and from there over the set. Assumes nothing.
-use Prim.Native.Nat.{ℕ, zero, suc, ◌+◌, ◌/◌, ◌%◌, ◌<◌, max, ◌^◌}
+use Prim.Native.Nat.{ℕ, zero, suc, ◌/◌, ◌%◌, ◌<◌, max, ◌^◌}
 use native.Mathlib.Omega.{arith}
 use mathlib.Core.Path.{◌≡◌, refl, sym, ap₂, ◌∙◌}
 use mathlib.Core.Bool.{Bool, true, false, ◌&&◌, ◌||◌}
-use mathlib.Core.List.{List}
+use mathlib.Core.List.{List, ◌++◌}
 use lib.Bits.{bit_or}
 use lib.Dec.{T, eqb, ltb}
-use lib.ListN.{length, get_or, set, get_or-eq_default}
+use lib.ListN.{length, get_or, set, replicate}
 use lib.Seq.{get_or-set_same, get_or-set_other}
 use native.Mathlib.Nat.{zero-div}
-use borrow.Author.Tests.{ltb-true, ltb-false, eqb-true, eqb-false, eq-eqb, ne_eqb}
+use borrow.Author.Tests.{ltb-true, eqb-true, eqb-false, eq-eqb, ne_eqb}
 use Rattle.rules.specs.Bytes.{pick}
 use Rattle.rules.proofs.Tests.{and_l, and_r, is_true}
 use Rattle.bits.specs.Bits.{power_of, flag, bit_at, with_bit}
@@ -79,21 +79,17 @@ pub zero_bit : (s : List ℕ) (j : ℕ) → get_or s (j / 8) 0 ≡ 0 → bit_at 
 unfolding bit_at
 zero_bit s j e = rw (e, zero_flag (j % 8)) refl
 
--- zeros have none
-pub zero_bits : (s : List ℕ) → ((k : ℕ) → k < length s → get_or s k 0 ≡ 0) → (j : ℕ) → bit_at s j ≡ false
-zero_bits s z j = go (ltb (j / 8) (length s)) refl
-  where
-    go : (b : Bool) → ltb (j / 8) (length s) ≡ b → bit_at s j ≡ false
-    go true e = zero_bit s j (z (j / 8) (ltb-true _ _ e))
-    go false e = zero_bit s j (get_or-eq_default s 0 (ltb-false _ _ e))
+-- zeros in front have none
+pub zeros_front : (n : ℕ) (d : List ℕ) (k : ℕ) → k < n → get_or (replicate n 0 ++ d) k 0 ≡ 0
+zeros_front zero d k h = absurd (omega arith)
+zeros_front (suc n) d zero h = refl
+zeros_front (suc n) d (suc k) h = zeros_front n d k (omega arith)
 
--- a byte more is zero
-pub zeros_more : (s : List ℕ) (i : ℕ) → i < length s → ((k : ℕ) → k < i → get_or s k 0 ≡ 0) → (k : ℕ) → k < i + 1 → get_or (set s i 0) k 0 ≡ 0
-zeros_more s i hi z k h = go (eqb k i) refl
-  where
-    go : (b : Bool) → eqb k i ≡ b → get_or (set s i 0) k 0 ≡ 0
-    go true e = rw (eqb-true k i e, get_or-set_same s i 0 0 hi) refl
-    go false e = let ne = eqb-false k i e in rw (get_or-set_other s i k 0 0 ne) (z k (omega (arith, ne)))
+-- zeros alone have none, nor is there one behind them
+pub zeros_all : (n k : ℕ) → ◌≡◌ {A = ℕ} (get_or (replicate n 0) k 0) 0
+zeros_all zero k = refl
+zeros_all (suc n) zero = refl
+zeros_all (suc n) (suc k) = zeros_all n k
 
 -- a power of two
 pub power_is : (k : ℕ) → k < 8 → 2 ^ k ≡ power_of k

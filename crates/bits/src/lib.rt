@@ -37,12 +37,10 @@ pub fn is_within(a: &[u8], b: &[u8]) -> bool
     requires { length a.now ≡ length b.now }
     ensures { WithinIs a.now b.now result }
 {
-    let mut i: usize = 0;
-    while i < a.len() {
+    for i in 0..a.len() {
         if a[i] & b[i] != a[i] {
             return false;
         }
-        i += 1;
     }
     true
 }
@@ -51,11 +49,7 @@ pub fn is_within(a: &[u8], b: &[u8]) -> bool
 pub fn clear(s: &mut [u8])
     ensures { (j : ℕ) → bit_at s.new j ≡ false }
 {
-    let mut i: usize = 0;
-    while i < s.len() {
-        s[i] = 0;
-        i += 1;
-    }
+    s.fill(0);
 }
 
 // No bit of the first n bytes is set.
@@ -63,11 +57,7 @@ pub fn clear_to(s: &mut [u8], n: usize)
     requires { n ≤ length s.old }
     ensures { (j : ℕ) → j / 8 < n → bit_at s.new j ≡ false }
 {
-    let mut i: usize = 0;
-    while i < n {
-        s[i] = 0;
-        i += 1;
-    }
+    s[..n].fill(0);
 }
 
 // The two bytes from number b on, as a number.
@@ -75,7 +65,7 @@ fn two_at(s: &[u8], b: usize) -> usize
     requires { b + 1 < length s.now }
     ensures { (result ≡ two_at s.now b) × (result < 65536) }
 {
-    s[b] as usize + 256 * (s[b + 1] as usize)
+    usize::from(s[b]) + 256 * usize::from(s[b + 1])
 }
 
 // The field with number i of w bits.

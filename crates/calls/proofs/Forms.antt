@@ -1,4 +1,5 @@
 -- The form of what is called: visible where it lies outside the file, and as the kind of call asks. Assumes nothing.
+use Rattle.std.specs.Prelude.{Some, None}
 use Prim.Native.Nat.{ℕ}
 use native.Mathlib.Omega.{arith}
 use mathlib.Core.Path.{◌≡◌, refl, sym, ◌∙◌, ap, subst}
@@ -24,7 +25,6 @@ use Rattle.references.specs.Setting.{Loading, imports_of, Judged}
 use Rattle.references.specs.Named.{ReferenceIs}
 use Rattle.calls.specs.Named.{OfNamed, SeenIs, FormIs, WellIs, CallNamedIs}
 use Rattle.references.specs.declared.Meant.{Meant}
-use Rattle.references.specs.declared.NamedFound.TheVariants as found
 
 -- visible where it lies outside the file
 pub seen_outside : {g : Bytes} {m : ℕ} {o b : Bool} → o ≡ true → VisibleIs g m b → SeenIs g m o b
@@ -96,10 +96,10 @@ lies_own {s = s} {es = es} {self} h x i (stored t) =
 
 -- question 18 of a call
 module _ {f s : Bytes} {end index : ℕ} (kind : Calling) where
-  pub call_unnamed : ReferenceIs f s end index found.Nothing → CallNamedIs f s end kind index false
+  pub call_unnamed : ReferenceIs f s end index None → CallNamedIs f s end kind index false
   call_unnamed q es self m = rw (q es self m)
 
-  module _ (x : Meant) (q : ReferenceIs f s end index (found.Method x)) where
+  module _ (x : Meant) (q : ReferenceIs f s end index (Some x)) where
     pub named_home : Judged f s end → HomeThere f s x.home
     named_home g =
         let z = q g.0 g.1 g.2 in

@@ -1,5 +1,6 @@
 -- Questions 18 and 19 over a list in the file being judged, element by element: start, turn and end. Assumes nothing.
-use Prim.Native.Nat.{ℕ, ◌+◌, ◌-◌, ◌≤◌, ◌<◌}
+use native.Mathlib.Omega.{arith}
+use Prim.Native.Nat.{ℕ, suc, ◌+◌, ◌-◌, ◌≤◌, ◌<◌}
 use mathlib.Core.Path.{◌≡◌, sym, subst}
 use mathlib.Core.Bool.{Bool}
 use mathlib.Core.List.{List, ◌∷◌}
@@ -26,16 +27,17 @@ module _ {A : Type 0} (r : Reader A) (steady : Steady r) (p : A → Bool) (s : B
       let u = reads_u1 s i c.number c.place c.count in
       (x.0, x.1, rw (h, u.byte, u.next) c.list, x.3)
 
-  module _ (left c : ℕ) (h : 0 < left) (x : Reading (many left r) (all p) s c) where
-    reading_one : Reading r p s c
-    reading_one =
+  module _ (left c : ℕ) (x : Reading (many left r) (all p) s c) where
+    reading_one : 0 < left → Reading r p s c
+    reading_one h =
         let z = reads_left r steady left s c x.0 x.1 h x.2 in
         let t : T (all p (z.one ∷ z.others)) = subst (λ (ys : List A). T (all p ys)) (sym z.are) x.3 in
         (z.one, z.place, z.reads, and_l (p z.one) (all p z.others) t)
 
-    reading_on : (d : ℕ) → EndsAt r s c d → Reading (many (left - 1) r) (all p) s d
-    reading_on d e =
-        let z = reads_left r steady left s c x.0 x.1 h x.2 in
+    reading_on : (rest : ℕ) → left ≡ suc rest → (d : ℕ) → EndsAt r s c d → Reading (many rest r) (all p) s d
+    reading_on rest h d e =
+        let less : left - 1 ≡ rest = omega arith in
+        subst (λ (n : ℕ). Reading (many n r) (all p) s d) less let z = reads_left r steady left s c x.0 x.1 (omega arith) x.2 in
         let t : T (all p (z.one ∷ z.others)) = subst (λ (ys : List A). T (all p ys)) (sym z.are) x.3 in
         (z.others, x.1, rw (e z.one z.place z.reads) z.rest, and_r (p z.one) (all p z.others) t)
 
@@ -71,17 +73,17 @@ module _ {A : Type 0} (R : List Aid → Reader A) (steady : (ds : List Aid) → 
   module _ {past left c : ℕ} (l : AskLoop R most t f s end d qs i past left c) where
     module _ (h : 0 < left) where
       pub ask_one : (es : List Entry) × (self : Installed) × Loading f s end es self × Reading (R self.pack.domains) t f c
-      ask_one = (l.es, l.self, l.loading, reading_one (R l.self.pack.domains) (steady l.self.pack.domains) t f left c h l.rest)
+      ask_one = (l.es, l.self, l.loading, reading_one (R l.self.pack.domains) (steady l.self.pack.domains) t f left c l.rest h)
 
-      pub ask_on : (n : ℕ) → ((a : Asking f s end d) (x : A) (j : ℕ) → Reads (R a.self.pack.domains) f c x j → n ≡ no_of (qs a) x) →
-          (m e : ℕ) → m ≡ first_of past n → ((ds : List Aid) → EndsAt (R ds) f c e) → AskLoop R most t f s end d qs i m (left - 1) e
-      ask_on n b m e w k = record {
-        es = l.es;
-        self = l.self;
-        loading = l.loading;
-        rest = reading_on (R l.self.pack.domains) (steady l.self.pack.domains) t f left c h l.rest e (k l.self.pack.domains);
-        numbers = numbers_on read reads most qs order f i past left c l.numbers n h b m e w (λ a. k a.self.pack.domains);
-      }
+    pub ask_on : (n rest : ℕ) → left ≡ suc rest → ((a : Asking f s end d) (x : A) (j : ℕ) → Reads (R a.self.pack.domains) f c x j → n ≡ no_of (qs a) x) →
+        (m e : ℕ) → m ≡ first_of past n → ((ds : List Aid) → EndsAt (R ds) f c e) → AskLoop R most t f s end d qs i m rest e
+    ask_on n rest h b m e w k = record {
+      es = l.es;
+      self = l.self;
+      loading = l.loading;
+      rest = reading_on (R l.self.pack.domains) (steady l.self.pack.domains) t f left c l.rest rest h e (k l.self.pack.domains);
+      numbers = numbers_on read reads most qs order f i past left c l.numbers n rest h b m e w (λ a. k a.self.pack.domains);
+    }
 
     pub ask_end : left ≤ 0 → (a : Asking f s end d) (xs : List A) (j : ℕ) → Reads (counted most u1 (R a.self.pack.domains)) f i xs j →
         past ≡ no_of_all (qs a) xs

@@ -1,5 +1,5 @@
 -- Questions 18 and 19 over the methods of a class and the classes of a file: start, turn and end. Assumes nothing.
-use Prim.Native.Nat.{ℕ, ◌+◌, ◌-◌, ◌≤◌, ◌<◌}
+use Prim.Native.Nat.{ℕ, suc, ◌+◌, ◌≤◌, ◌<◌}
 use mathlib.Core.Path.{◌≡◌, subst}
 use lib.Dec.{T}
 use lib.ListN.{length, get_or}
@@ -48,10 +48,10 @@ module _ {f s : Bytes} {end : ℕ} {d : Aid} (w : Which) where
     pub methods_one : 0 < left → OwnMethod f s end c
     methods_one h = ask_one (method (format_at s f)) (steady_method (format_at s f)) most_methods (code_test code_splits) (λ a. method_asks a w) methods_rise k l h
 
-    pub methods_on : (n m e : ℕ) → 0 < left → MethodCallsAre f s end d w c n → m ≡ first_of past n → AfterMethod f c e → MethodsLoop f s end d w k m (left - 1) e
-    methods_on n m e h b v r =
-        ask_on (method (format_at s f)) (steady_method (format_at s f)) most_methods (code_test code_splits) (λ a. method_asks a w) methods_rise k l h
-        n b m e v (r (store_limits s))
+    pub methods_on : (n rest m e : ℕ) → left ≡ suc rest → MethodCallsAre f s end d w c n → m ≡ first_of past n → AfterMethod f c e → MethodsLoop f s end d w k m rest e
+    methods_on n rest m e h b v r =
+        ask_on (method (format_at s f)) (steady_method (format_at s f)) most_methods (code_test code_splits) (λ a. method_asks a w) methods_rise k l
+        n rest h b m e v (r (store_limits s))
 
     pub methods_end : {i : ℕ} → left ≤ 0 → MethodsAt f i k → ClassCallsAre f s end d w i past
     methods_end h m a x j p =
@@ -81,10 +81,10 @@ module _ {f s : Bytes} {end : ℕ} {d : Aid} (w : Which) where
     pub classes_one : 0 < left → OwnClass f s end c
     classes_one h = ask_one (class (format_at s f)) (steady_class (format_at s f)) most_classes (class_test code_splits) (λ a. class_asks a w) classes_rise k l h
 
-    pub classes_on : (n m e : ℕ) → 0 < left → ClassCallsAre f s end d w c n → m ≡ first_of past n → AfterClass f c e → ClassesLoop f s end d w k m (left - 1) e
-    classes_on n m e h b v r =
-        ask_on (class (format_at s f)) (steady_class (format_at s f)) most_classes (class_test code_splits) (λ a. class_asks a w) classes_rise k l h
-        n b m e v (r (store_limits s))
+    pub classes_on : (n rest m e : ℕ) → left ≡ suc rest → ClassCallsAre f s end d w c n → m ≡ first_of past n → AfterClass f c e → ClassesLoop f s end d w k m rest e
+    classes_on n rest m e h b v r =
+        ask_on (class (format_at s f)) (steady_class (format_at s f)) most_classes (class_test code_splits) (λ a. class_asks a w) classes_rise k l
+        n rest h b m e v (r (store_limits s))
 
     pub classes_end : left ≤ 0 → ClassesAt f k → FileCallsAre f s end d w past
     classes_end h m a =

@@ -9,6 +9,7 @@
 -- CallAllowedIs            == the answer of question 19 for a call
 -- Callee f s end x         == some reference of the file means the declaration x
 -- CalleeAllows             == the answer of question 19 for every call that calls it
+use Rattle.std.specs.Prelude.{Some}
 use Rattle.std.specs.Prelude.{ℕ, ◌≡◌, Bool, ◌&&◌, List}
 use Rattle.std.proofs.Math.Option.{Option, some}
 use Rattle.rules.specs.Bytes.{Bytes, Aid, none_or}
@@ -25,7 +26,6 @@ use Rattle.references.specs.Setting.{Loading, OfJudged}
 use Rattle.references.specs.Named.{reference_named, ReferenceIs}
 use Rattle.calls.specs.Maps.{rows_number}
 use Rattle.references.specs.declared.Meant.{Meant}
-use Rattle.references.specs.declared.NamedFound.TheVariants as found
 
 -- a method stands at place m of the file at home h
 pub record Stands (f s : Bytes) (end : ℕ) (es : List Entry) (self : Installed) (h : Home) (m : ℕ) (x : MethodAt) : Type 0 where
@@ -59,8 +59,8 @@ CallAllowedIs f s end d i index r = OfJudged f s end λ es self. self.domain ≡
     r ≡ none_or (reference_named (store_limits s) (installed (store_limits s) es) self index) (λ x. allows x.means d && allows_all_of x.means z)
 
 abbrev pub Callee : Bytes → Bytes → ℕ → Meant → Type 0
-Callee f s end x = (index : ℕ) × ReferenceIs f s end index (found.Method x)
+Callee f s end x = (index : ℕ) × ReferenceIs f s end index (Some x)
 
 -- of every call, in the method at place i, by a reference that means x
 abbrev pub CalleeAllows : Bytes → Bytes → ℕ → Aid → ℕ → Meant → Bool → Type 0
-CalleeAllows f s end d i x r = (index : ℕ) → ReferenceIs f s end index (found.Method x) → CallAllowedIs f s end d i index r
+CalleeAllows f s end d i x r = (index : ℕ) → ReferenceIs f s end index (Some x) → CallAllowedIs f s end d i index r

@@ -1,8 +1,8 @@
 // The rights of methods, and question 19 of a call by the numbers of domains.
-ghost use Rattle.std.specs.Prelude.{◌+◌, ◌*◌, ◌≤◌, length};
+ghost use Rattle.std.specs.Prelude.{◌+◌, ◌*◌, ◌≤◌, length, Some};
 ghost use Rattle.homes.specs.Homes.{aid_at};
 ghost use Rattle.references.specs.Named.{ReferenceIs};
-ghost use Rattle.references.specs.declared.NamedFound.TheVariants as found;
+ghost use Rattle.refusals.specs.Order.{call_told, Before};
 ghost use Rattle.calls.specs.Maps.{AskerTrue, MapTrue};
 ghost use Rattle.calls.specs.Rights.{StandsThere, RightsAt, MayCall, Callee, CalleeAllows};
 ghost use Rattle.calls.specs.Calls.{OwnMethod, every_call, CallNumberIs};
@@ -13,6 +13,7 @@ use coverage::Asked;
 use homes::Home;
 use policies::{RightsPlace, TwoLists};
 use references::Meant;
+use refusals::refusal::Refusal;
 
 // Where the policy of the method at place m of the file at a home stands, and the list of domains that its indexes count.
 pub fn rights_of<'a>(f: &'a [u8], s: &'a [u8], h: Home, m: usize) -> RightsPlace
@@ -86,8 +87,7 @@ fn callee_allows<'a>(f: &'a [u8], s: &'a [u8], a: Asker, map: &mut [u8], x: Mean
     may_call_above(f, s, a, x)
 }
 
-// Questions 18 and 19 of a call in the method at a place of the file being judged, whose reference means a declaration: the number of the first
-// no, or 0.
+// Questions 18 and 19 of a call in the method at a place of the file being judged, whose reference means a declaration: the first no.
 pub fn meant_answer<'a>(
     f: &'a [u8],
     s: &'a [u8],
@@ -95,21 +95,22 @@ pub fn meant_answer<'a>(
     a: Asker,
     x: Meant,
     c: CallOf,
-) -> u8
+) -> Result<(), Refusal>
     requires own_method { OwnMethod f.now s.now a.group.end a.at × AskerTrue f.now s.now a }
-    requires reference_is { ReferenceIs f.now s.now a.group.end c.reference (found.Method x) }
+    requires reference_is { ReferenceIs f.now s.now a.group.end c.reference (Some x) }
     requires map_true { MapTrue f.now s.now a.group.end (aid_at s.now a.domain) map.old }
     ensures call_number_is { CallNumberIs f.now s.now a.group.end (aid_at s.now a.domain) every_call
-        a.at c.kind c.reference result }
+        a.at c.kind c.reference (call_told result) }
+    ensures before { Before 0 result }
     ensures map_true_2 { MapTrue f.now s.now a.group.end (aid_at s.now a.domain) map.new }
 {
     let kind = c.kind;
     let g = homes::file_of(f, s, x.home);
     if !named_well(g, x, kind) {
-        return 18;
+        return Err(Refusal::CallReference);
     }
     if !callee_allows(f, s, a, map, x) {
-        return 19;
+        return Err(Refusal::CallPolicy);
     }
-    0
+    Ok(())
 }

@@ -14,14 +14,17 @@ ghost use Rattle.slots.specs.Slots.{SlotsTrue};
 ghost use Rattle.references.specs.Setting.{Judged};
 ghost use Rattle.references.specs.Named.{Lent};
 ghost use Rattle.references.specs.Kept.{KeptTrue};
+ghost use Rattle.refusals.specs.Order.{call_told, Before};
 ghost use Rattle.calls.specs.Maps.{asker_at, asker_from, AskerTrue};
 ghost use Rattle.calls.specs.Calls.{with_group, CodesSplit, FileCallsAre, CallsNumberIs};
 
 use codes::Calling;
 use fields::u2_at;
 use homes::{Loaded, Places};
+use references::groups::Asked;
 use references::{Group, groups};
-use refusals::first_no;
+use refusals::first_said;
+use refusals::refusal::Refusal;
 use walk::group_calls;
 
 // What a walk over the calls of the file being judged carries: the group of references whose calls are asked, where in the store the loading
@@ -96,7 +99,7 @@ fn told_of(f: &[u8], s: &[u8], end: usize, domain: usize) -> Asker
 }
 
 // Questions 18 and 19 of the calls that are asked with a group of references, of which the table tells what the classes named declare
-// themselves: the number of the first no, or 0. Where a call asks for what is open that is searched, and the calls are asked again; all of the
+// themselves: the first no. Where a call asks for what is open that is searched, and the calls are asked again; all of the
 // group is searched where 18 is answered once more. What `seen` holds before and after is of no account.
 fn group_answer<'a>(
     f: &'a [u8],
@@ -106,29 +109,32 @@ fn group_answer<'a>(
     seen: &mut [u8],
     kept: &mut [u16],
     a: Asker,
-) -> u8
+) -> Result<(), Refusal>
     requires judged { Judged f.now s.now a.group.end × CodesSplit f.now × AskerTrue f.now s.now a }
     requires kept_true { KeptTrue f.now s.now a.group kept.old }
     requires lent { Lent s.now a.group.end packages.now seen.old }
     requires slots_true { SlotsTrue f.now s.now slots.old }
-    ensures file_calls_are { FileCallsAre f.now s.now a.group.end (aid_at s.now a.domain) (with_group a.group) result }
+    ensures file_calls_are { FileCallsAre f.now s.now a.group.end (aid_at s.now a.domain) (with_group a.group) (call_told result) }
+    ensures before { Before 0 result }
     ensures slots_true_2 { SlotsTrue f.now s.now slots.new }
 {
-    let g = a.group;
+    let group = a.group;
     let told = group_calls(f, s, kept, a);
-    if told != 18 {
+    if told != Err(Refusal::CallReference) {
         return told;
     }
-    groups::search_group(f, s, packages, slots, seen, kept, g);
+    let wanted = Asked { group, all: false };
+    groups::search_open(f, s, packages, slots, seen, kept, wanted);
     let searched = group_calls(f, s, kept, a);
-    if searched != 18 {
+    if searched != Err(Refusal::CallReference) {
         return searched;
     }
-    groups::search_all(f, s, packages, slots, seen, kept, g);
+    let every = Asked { group, all: true };
+    groups::search_open(f, s, packages, slots, seen, kept, every);
     group_calls(f, s, kept, a)
 }
 
-// Questions 18 and 19 of a file that is judged, each code of which splits: the number of the first no, or 0, asked for a group of references
+// Questions 18 and 19 of a file that is judged, each code of which splits: the first no, asked for a group of references
 // after the other. The index of the entries before it and the places of its imports are lent, slots and bits; what `seen` holds before and
 // after is of no account. The index serves the search above the class named alone.
 pub fn calls_ok<'a>(
@@ -139,23 +145,25 @@ pub fn calls_ok<'a>(
     places: &Places,
     slots: &mut [u16],
     seen: &mut [u8],
-) -> u8
+) -> Result<(), Refusal>
     requires judged { Judged f.now s.now x.end × CodesSplit f.now }
     requires ends { Ends aid s.now x.domain × ImportPlaces f.now s.now x.end places.now }
     requires lent { Lent s.now x.end packages.now seen.old }
     requires slots_true { SlotsTrue f.now s.now slots.old }
-    ensures { CallsNumberIs f.now s.now x.end (aid_at s.now x.domain) result }
+    ensures number { CallsNumberIs f.now s.now x.end (aid_at s.now x.domain) (call_told result) }
+    ensures before { Before 0 result }
 {
     let mut kept = [0u16; 192];
     let told = told_of(f, s, x.end, x.domain);
     let mut first = 0;
-    let mut number = 0;
+    let mut number = Ok(());
+    // Kept: a turn is taken even where the file has no references, since calls name some that are not there.
     loop {
         let a = asker_from(told, first);
         let g = a.group;
         groups::tell_group(f, s, places, &mut *slots, &mut kept, g);
         let n = group_answer(f, s, packages, &mut *slots, &mut *seen, &mut kept, a);
-        number = first_no(number, n);
+        number = first_said(number, n);
         first += 32;
         if g.count <= first {
             return number;

@@ -5,18 +5,18 @@
 
 mod answers;
 
-ghost use Rattle.std.specs.Prelude.{◌<◌, ◌≤◌, length};
+ghost use Rattle.std.specs.Prelude.{◌<◌, ◌≤◌, IfOk, length};
 ghost use Rattle.lines.specs.Line.{most_kept};
 ghost use Rattle.lines.specs.Results.{middle, end};
 
 use lines::Form;
+use streams::Failed;
 
-// Where a line is read: how many of its characters are held, its number, and whether the card has stopped, since a write failed.
+// Where a line is read: how many of its characters are held, and its number.
 #[derive(Clone, Copy)]
 struct Place {
     held: usize,
     number: u64,
-    stopped: bool,
 }
 
 // Does what a line of the four forms asks for; its arguments stand in the buffer.
@@ -28,19 +28,17 @@ fn operate(store: &mut [u8], form: Form, arguments: &[u8]) -> u32
         Form::Deletion(n) => loader::loader_delete(store, &arguments[..n]),
         Form::Removal(n) => loader::loader_remove(store, &arguments[..n]),
         Form::Loading(d, n) => loader::loader_load(store, &arguments[..d], &arguments[d..n]),
-        Form::Bad => 0,
     }
 }
 
-// Answers a line, and says whether the answer was written.
-fn answer(rt: &HostRuntime, store: &mut [u8], line: &[u8], number: u64) -> bool
+// Answers a line.
+fn answer(rt: &HostRuntime, store: &mut [u8], line: &[u8], number: u64) -> Result<(), Failed>
     requires { 6 < length store.old }
 {
     let mut arguments = [0u8; 4000];
-    let form = lines::read_line(line, &mut arguments);
-    if let Form::Bad = form {
+    let Some(form) = lines::read_line(line, &mut arguments) else {
         return answers::print_bad(rt, number);
-    }
+    };
     let result = operate(store, form, &arguments);
     answers::print_answer(rt, number, result, fields::u2_at(store, 5))
 }
@@ -53,25 +51,20 @@ fn take_chunk(
     line: &mut [u8],
     chunk: &[u8],
     place: Place,
-) -> Place
+) -> Result<Place, Failed>
     requires { (6 < length store.old) × (most_kept ≤ length line.old) × (place.held ≤ most_kept) }
-    ensures { result.held ≤ most_kept }
+    ensures { IfOk result (λ p. p.held ≤ most_kept) }
 {
     let mut held = place.held;
     let mut number = place.number;
     let mut from = 0;
+    // Kept: a turn goes on to the next newline, wherever it stands, and a loop over the parts of the chunk could not tell the last, which has none.
     while from < chunk.len() {
         let gathered = lines::gather(line, held, chunk, from);
         let at = gathered.at;
         held = gathered.held;
         if at < chunk.len() {
-            if !answer(rt, store, &line[..held], number) {
-                return Place {
-                    held: 0,
-                    number,
-                    stopped: true,
-                };
-            }
+            answer(rt, store, &line[..held], number)?;
             held = 0;
             number = std::num::wrapping_add_u64(number, 1);
             from = at + 1;
@@ -79,56 +72,43 @@ fn take_chunk(
             from = at;
         }
     }
-    Place {
-        held,
-        number,
-        stopped: false,
-    }
+    Ok(Place { held, number })
 }
 
-// Answers the lines of standard input that end in a newline, and holds the characters after the last one; none where the card stops.
-// No input needs as many turns.
-fn take_input(rt: &HostRuntime, store: &mut [u8], line: &mut [u8], chunk: &mut [u8]) -> Place
+// Answers the lines of standard input that end in a newline, and holds the characters after the last one. No input needs as many turns.
+fn take_input(
+    rt: &HostRuntime,
+    store: &mut [u8],
+    line: &mut [u8],
+    chunk: &mut [u8],
+) -> Result<Place, Failed>
     requires { (6 < length store.old) × (most_kept ≤ length line.old) }
-    ensures { result.held ≤ most_kept }
+    ensures { IfOk result (λ p. p.held ≤ most_kept) }
 {
-    let mut place = Place {
-        held: 0,
-        number: 1,
-        stopped: false,
-    };
-    let mut turns = u64::MAX;
-    while turns > 0 {
-        let got = streams::read_some(rt, chunk);
-        if got.failed {
-            answers::tell_input(rt);
-            return Place {
-                held: 0,
-                number: place.number,
-                stopped: true,
-            };
+    let mut place = Place { held: 0, number: 1 };
+    for _ in 0..u64::MAX {
+        match streams::read_some(rt, chunk) {
+            Ok(Some(count)) => place = take_chunk(rt, store, line, &chunk[..count], place)?,
+            Ok(None) => return Ok(place),
+            Err(error) => {
+                answers::tell_input(rt);
+                return Err(error);
+            }
         }
-        if got.ended {
-            return place;
-        }
-        place = take_chunk(rt, store, line, &chunk[..got.count], place);
-        if place.stopped {
-            return place;
-        }
-        turns -= 1;
     }
-    place
+    Ok(place)
 }
 
 // Answers every line of standard input; the last may lack its newline.
-fn run(rt: &HostRuntime, store: &mut [u8], line: &mut [u8], chunk: &mut [u8])
+fn run(rt: &HostRuntime, store: &mut [u8], line: &mut [u8], chunk: &mut [u8]) -> Result<(), Failed>
     requires { (6 < length store.old) × (most_kept ≤ length line.old) }
 {
-    let place = take_input(rt, store, line, chunk);
+    let place = take_input(rt, store, line, chunk)?;
     let held = place.held;
     if held > 0 {
-        answer(rt, store, &line[..held], place.number);
+        answer(rt, store, &line[..held], place.number)?;
     }
+    Ok(())
 }
 
 fn main(rt: HostRuntime) {
@@ -136,5 +116,5 @@ fn main(rt: HostRuntime) {
     let mut line = [0u8; 8001];
     let mut chunk = [0u8; 4096];
     loader::loader_fresh(&mut store);
-    run(&rt, &mut store, &mut line, &mut chunk);
+    let _ = run(&rt, &mut store, &mut line, &mut chunk);
 }

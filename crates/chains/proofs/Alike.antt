@@ -7,6 +7,8 @@ use mathlib.Core.List.{List}
 use mathlib.Core.Logic.{◌⊎◌, inl, inr, ⊎_elim}
 use mathlib.Core.Option.{none, some, some-injective}
 use lib.ListN.{get_or}
+use Rattle.std.specs.Prelude.{Some, None}
+use Rattle.std.specs.Prelude.{Option as Optional}
 use Rattle.rules.specs.Bytes.{Bytes, Aid, pick, none_or}
 use Rattle.rules.specs.Package.{Method, Package, method}
 use Rattle.rules.specs.Store.{Entry, store_limits}
@@ -19,13 +21,11 @@ use Rattle.homes.specs.Homes.{file_of, format_at, own_home, DomainAt}
 use Rattle.homes.specs.declared.Home.{Home}
 use Rattle.homes.proofs.Homes.{home_reads}
 use Rattle.homes.proofs.Domains.{domain_is}
-use Rattle.classes.specs.declared.ClassFound.TheVariants as classes
 use Rattle.methods.specs.Table.{name_at, Has, Nameless}
-use Rattle.chains.specs.Say.{Running, MethodIn, FirstIs}
+use Rattle.chains.specs.Say.{Running, MethodIn, runs_at, FirstIs}
 use Rattle.chains.specs.Names.{text_of, Gathered, Kept, AsStored, RunAlike}
 use Rattle.chains.specs.declared.Names.{Names}
-use Rattle.chains.specs.declared.RunsFound.{RunsFound}
-use Rattle.chains.specs.declared.RunsFound.TheVariants as runs
+use Rattle.chains.specs.declared.MethodSpot.{MethodSpot}
 use Rattle.chains.proofs.Methods.{first_own, runs_first, runs_none}
 
 -- of the k numbers from a on one is the place of a method of name x, or none is
@@ -47,7 +47,7 @@ has_or_none t l a x (suc k) = ⊎_elim before last (has_or_none t l a x k)
             here e = ne (ap (λ (i : ℕ). name_at t (get_or l i 0)) (sym e) ∙ ap (name_at t) has.3 ∙ y)
 
 -- what is first for a stored class and a name can be told
-stored_first : (f s : Bytes) (l : List ℕ) (h : Home) (n a e : ℕ) → Gathered f s l h n classes.Nothing a e → (x : ℕ) → (r : RunsFound) × FirstIs f s h n x r
+stored_first : (f s : Bytes) (l : List ℕ) (h : Home) (n a e : ℕ) → Gathered f s l h n None a e → (x : ℕ) → (r : Optional MethodSpot) × FirstIs f s h n x r
 stored_first f s l h n a e g x = ⊎_elim hit none (subst Told within (has_or_none (text_of f s h) l a x (e - a)))
   where
     Told : ℕ → Type 0
@@ -56,13 +56,13 @@ stored_first f s l h n a e g x = ⊎_elim hit none (subst Told within (has_or_no
     within : a + (e - a) ≡ e
     within = omega (arith, g.sorted.low)
 
-    hit : ((q : ℕ) × Has l a e q × (name_at (text_of f s h) q ≡ x)) → (r : RunsFound) × FirstIs f s h n x r
+    hit : ((q : ℕ) × Has l a e q × (name_at (text_of f s h) q ≡ x)) → (r : Optional MethodSpot) × FirstIs f s h n x r
     hit p =
         let u = g.hit p.0 p.1 in
-        (runs.At u.0 (p.0 - u.0.from), subst (λ (y : ℕ). FirstIs f s h n y (runs.At u.0 (p.0 - u.0.from))) p.2 u.2)
+        (runs_at u.0 (p.0 - u.0.from), subst (λ (y : ℕ). FirstIs f s h n y (runs_at u.0 (p.0 - u.0.from))) p.2 u.2)
 
-    none : Nameless (text_of f s h) l a e x → (r : RunsFound) × FirstIs f s h n x r
-    none nl = (runs.Nothing, g.rest x nl runs.Nothing refl)
+    none : Nameless (text_of f s h) l a e x → (r : Optional MethodSpot) × FirstIs f s h n x r
+    none nl = (None, g.rest x nl None refl)
 
 -- whether a method, if implemented, allows all that another allows, by its domain and its policy
 abbrev asked : Aid → Method → MethodAt → Bool
@@ -92,14 +92,14 @@ module _ (f s : Bytes) (end d b c : ℕ) (es : List Entry) (self : Installed) (p
       )
 
   -- what is first is told alike for both
-  first_alike : (x : ℕ) (r : RunsFound) → FirstIs f s (own_home end) b x r → FirstIs f s (own_home end) c x r → (o : MethodAt) →
+  first_alike : (x : ℕ) (r : Optional MethodSpot) → FirstIs f s (own_home end) b x r → FirstIs f s (own_home end) c x r → (o : MethodAt) →
       none_or (runs_up_to (installed (store_limits s) es) (store_limits s).depth (own self b) x) (λ r. allows_all_of r o)
       ≡ none_or (runs_up_to (installed (store_limits s) es) (store_limits s).depth (own self c) x) (λ r. allows_all_of r o)
-  first_alike x runs.Nothing u v o = rw (runs_none f s end b x u es self p, runs_none f s end c x v es self q)
-  first_alike x (runs.At h i) u v o =
-      let m = first_own f s end b x (runs.At h i) u es self p in
-      let n = first_own f s end c x (runs.At h i) v es self q in
-      let same = same_method_lem h i m.0 n.0 m.2 n.2 in
+  first_alike x None u v o = rw (runs_none f s end b x u es self p, runs_none f s end c x v es self q)
+  first_alike x (Some y) u v o =
+      let m = first_own f s end b x (Some y) u es self p in
+      let n = first_own f s end c x (Some y) v es self q in
+      let same = same_method_lem y.home y.place m.0 n.0 m.2 n.2 in
       rw (runs_first f s end b es self p x m.0 m.1, runs_first f s end c es self q x n.0 n.1)
       (asked_is m.0 o ∙ ap (λ (a : Aid). asked a m.0.method o) same.0 ∙ ap (λ (k : Method). asked n.0.class.home.domain k o) same.1
       ∙ sym (asked_is n.0 o))

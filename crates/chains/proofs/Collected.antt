@@ -8,6 +8,9 @@ use mathlib.Core.Option.{some}
 use lib.ListN.{length}
 use mathlib.Core.Bool.{Bool, true, false}
 use lib.Dec.{eqb}
+use Rattle.std.specs.Prelude.{None}
+use Rattle.std.specs.Prelude.{Option as Optional}
+use Rattle.std.specs.Prelude.{Some}
 use Rattle.rules.specs.Bytes.{Bytes, at, pick}
 use Rattle.rules.specs.Store.{Entry, store_limits}
 use Rattle.rules.specs.Package.{Class, class, method}
@@ -15,20 +18,16 @@ use Rattle.rules.specs.Classes.{Installed, declared_instance}
 use Rattle.places.specs.Reads.{Reads, Placed}
 use Rattle.places.proofs.Track.{put_none}
 use Rattle.files.specs.Say as files
-use Rattle.files.specs.declared.Spot.TheVariants as spots
 use Rattle.homes.specs.Homes.{file_of, format_at, HomeIs}
 use Rattle.homes.specs.declared.Home.{Home}
 use Rattle.classes.specs.Say.{Judged, ClassThere, Kind0ParentIs, RecordAt}
-use Rattle.classes.specs.declared.ClassFound.{ClassFound}
-use Rattle.classes.specs.declared.ClassFound.TheVariants as classes
 use Rattle.classes.specs.declared.ClassSpot.{ClassSpot}
 use Rattle.classes.proofs.Places.{class_at, class_there, there_bounds}
 use Rattle.methods.specs.Table.{name_at, Has, Nameless, Sorted}
-use Rattle.chains.specs.Say.{InstanceAt, FirstIs}
+use Rattle.chains.specs.Say.{runs_at, InstanceAt, FirstIs}
 use Rattle.chains.specs.Chain.{most_links, names_start, link_home, link_place, Part, last, more}
 use Rattle.chains.specs.Names.{text_of, first_link, Held, Gathers, HomeFor, Above, GatheredAll}
-use Rattle.chains.specs.declared.RunsFound.{RunsFound}
-use Rattle.chains.specs.declared.RunsFound.TheVariants as runs
+use Rattle.chains.specs.declared.MethodSpot.{MethodSpot}
 use Rattle.chains.proofs.Methods.{first_here, first_above, first_nowhere}
 use Rattle.chains.proofs.Links.{part_inside, part_link, file_held, link_home_same}
 use Rattle.chains.proofs.Parts.{above_in}
@@ -43,7 +42,7 @@ module _ (f s : Bytes) (hc : Home) (nc p : ℕ) (there : ClassThere f s hc nc) (
   reads = class_at f s hc nc p at_p
 
   -- a name that is not there is not declared
-  pub name_left : (x : ℕ) → Nameless (text_of f s hc) m' a e' x → InstanceAt f s hc nc x spots.Nothing
+  pub name_left : (x : ℕ) → Nameless (text_of f s hc) m' a e' x → InstanceAt f s hc nc x None
   name_left x n end es self j y o k z = let u = reads end es self j y o k z in put_none (w.left (store_limits s) y.pack.domains k u.0 u.1 x n).1
 
   pub name_less : (x : ℕ) → Nameless (text_of f s hc) m' a e' x → Nameless (text_of f s hc) m a e x
@@ -55,7 +54,7 @@ module _ (f s : Bytes) (hc : Home) (nc p : ℕ) (there : ClassThere f s hc nc) (
   -- a place was there, or is that of the first method of its name
   pub place_new : (q : ℕ) → Has m' a e' q →
       Has m a e q ⊎ ((i : ℕ) × (q ≡ hc.from + i) × (i < length (file_of f s hc)) × Nameless (text_of f s hc) m a e (name_at (text_of f s hc) q) × FirstIs f s
-      hc nc (name_at (text_of f s hc) q) (runs.At hc i))
+      hc nc (name_at (text_of f s hc) q) (runs_at hc i))
   place_new q has = go first_time
     where
       c : ClassThere f s hc nc
@@ -72,7 +71,7 @@ module _ (f s : Bytes) (hc : Home) (nc p : ℕ) (there : ClassThere f s hc nc) (
           w.from (store_limits s) d.pack.pack.domains d.class u.0 u.1 q has
 
       always : (i : ℕ) → q ≡ hc.from + i → Nameless (text_of f s hc) m a e (name_at (text_of f s hc) q) → InstanceAt f s hc nc (name_at (text_of f s hc) q)
-          (spots.At i)
+          (Some i)
       always i z n end es self j y o k v =
           let u = reads end es self j y o k v in
           again (w.from (store_limits s) y.pack.domains k u.0 u.1 q has)
@@ -87,7 +86,7 @@ module _ (f s : Bytes) (hc : Home) (nc p : ℕ) (there : ClassThere f s hc nc) (
 
       go : Found there.1.class there.1.pack →
           Has m a e q ⊎ ((i : ℕ) × (q ≡ hc.from + i) × (i < length (file_of f s hc)) × Nameless (text_of f s hc) m a e (name_at (text_of f s hc) q) × FirstIs
-          f s hc nc (name_at (text_of f s hc) q) (runs.At hc i))
+          f s hc nc (name_at (text_of f s hc) q) (runs_at hc i))
       go (inl old) = inl old
       go (inr t) = inr (t.0, t.1, t.2, t.3, first_here f s hc nc (name_at (text_of f s hc) q) t.0 (always t.0 t.1 t.3))
 
@@ -98,7 +97,7 @@ first_small h = go (eqb h.from 0)
     go true = omega arith
     go false = omega arith
 
-pub first_inside : (f s : Bytes) (l : List ℕ) (h : Home) (n top : ℕ) (stop : ClassFound) → Part f s l h n (first_link h) top stop → first_link h ≤ top
+pub first_inside : (f s : Bytes) (l : List ℕ) (h : Home) (n top : ℕ) (stop : Optional ClassSpot) → Part f s l h n (first_link h) top stop → first_link h ≤ top
 first_inside f s l h n top stop p = let z = part_inside f s l h n (first_link h) top stop p in omega arith
 
 module _ (f s : Bytes) (l : List ℕ) (h : Home) (n top a : ℕ) where
@@ -115,7 +114,7 @@ module _ (f s : Bytes) (l : List ℕ) (h : Home) (n top a : ℕ) where
     };
   }
     where
-      start : (stop : ClassFound) → Part f s l h n (first_link h) top stop → Reach l (first_link h) (first_link h) h
+      start : (stop : Optional ClassSpot) → Part f s l h n (first_link h) top stop → Reach l (first_link h) (first_link h) h
       start stop p =
           let t = part_link f s l h n (first_link h) top stop p in
           record {
@@ -131,16 +130,16 @@ module _ (f s : Bytes) (l : List ℕ) (h : Home) (n top a : ℕ) where
   module _ (m : List ℕ) (i e : ℕ) (inv : Collecting f s l m h n top a i e) (small : top ≤ first_link h + most_links) (big : names_start ≤ a)
       (inside : i < top) where
     -- the class at hand
-    pub record Here (stop : ClassFound) (hh : Home) (p : ℕ) : Type 0 where
+    pub record Here (stop : Optional ClassSpot) (hh : Home) (p : ℕ) : Type 0 where
       pub number : ℕ
       pub there : ClassThere f s hh number
       pub record_at : RecordAt f s hh number p
       pub text : text_of f s hh ≡ text_of f s h
       pub part : Part f s l hh number i top stop
       pub reach : Reach l (first_link h) i hh
-      pub up : (x : ℕ) → Nameless (text_of f s h) m a e x → (r : RunsFound) → FirstIs f s hh number x r → FirstIs f s h n x r
+      pub up : (x : ℕ) → Nameless (text_of f s h) m a e x → (r : Optional MethodSpot) → FirstIs f s hh number x r → FirstIs f s h n x r
 
-    pub here : (stop : ClassFound) → Part f s l h n (first_link h) top stop → (hh : Home) (p : ℕ) → hh ≡ link_home m i → p ≡ link_place m i → Here stop hh p
+    pub here : (stop : Optional ClassSpot) → Part f s l h n (first_link h) top stop → (hh : Home) (p : ℕ) → hh ≡ link_home m i → p ≡ link_place m i → Here stop hh p
     here stop part hh p eh ep = go (inv.state stop part).left
       where
         go : Left f s l m h n stop top a i e → Here stop hh p
@@ -159,7 +158,7 @@ module _ (f s : Bytes) (l : List ℕ) (h : Home) (n top a : ℕ) where
               up = up;
             })
 
-    module _ (hh : Home) (p : ℕ) (eh : hh ≡ link_home m i) (ep : p ≡ link_place m i) (stop₀ : ClassFound) (part₀ : Part f s l h n (first_link h) top stop₀) where
+    module _ (hh : Home) (p : ℕ) (eh : hh ≡ link_home m i) (ep : p ≡ link_place m i) (stop₀ : Optional ClassSpot) (part₀ : Part f s l h n (first_link h) top stop₀) where
       pub collect_bounds : (hh.from ≤ hh.to) × (hh.to ≤ length s)
       collect_bounds = let t = here stop₀ part₀ hh p eh ep in there_bounds f s hh t.number t.there
 
@@ -177,52 +176,52 @@ module _ (f s : Bytes) (l : List ℕ) (h : Home) (n top a : ℕ) where
           (subst (λ (b : Bytes). Held (file_of f s hh) b hh.from) (sym zt) (file_held f s hh collect_bounds u v))
 
       module _ (m' : List ℕ) (e' : ℕ) (w : Gathers (file_of f s hh) (text_of f s hh) m m' p hh.from a e e') where
-        module _ (stop : ClassFound) (t : Here stop hh p) where
+        module _ (stop : Optional ClassSpot) (t : Here stop hh p) where
           -- names in the bytes of the first class of the part
           less : (x : ℕ) → Nameless (text_of f s h) m' a e' x → Nameless (text_of f s h) m a e x
           less x u = subst (λ (b : Bytes). Nameless b m a e x) t.text
               (name_less f s hh t.number p t.there t.record_at m m' a e e' w x (subst (λ (b : Bytes). Nameless b m' a e' x) (sym t.text) u))
 
-          not_declared : (x : ℕ) → Nameless (text_of f s h) m' a e' x → InstanceAt f s hh t.number x spots.Nothing
+          not_declared : (x : ℕ) → Nameless (text_of f s h) m' a e' x → InstanceAt f s hh t.number x None
           not_declared x u = name_left f s hh t.number p t.there t.record_at m m' a e e' w x
               (subst (λ (b : Bytes). Nameless b m' a e' x) (sym t.text) u)
 
           new_hit : State f s l m h n stop top a i e → (q : ℕ) → Has m' a e' q → (g : Home) × HomeFor l (first_link h) q g × FirstIs f s h n
-              (name_at (text_of f s h) q) (runs.At g (q - g.from))
+              (name_at (text_of f s h) q) (runs_at g (q - g.from))
           new_hit old q has = ⊎_elim (λ v. old.hit q v) fresh (place_new f s hh t.number p t.there t.record_at m m' a e e' w q has)
             where
               fresh : (x : ℕ) × (q ≡ hh.from + x) × (x < length (file_of f s hh)) × Nameless (text_of f s hh) m a e (name_at (text_of f s hh) q) × FirstIs f
-                  s hh t.number (name_at (text_of f s hh) q) (runs.At hh x) →
-                  (g : Home) × HomeFor l (first_link h) q g × FirstIs f s h n (name_at (text_of f s h) q) (runs.At g (q - g.from))
+                  s hh t.number (name_at (text_of f s hh) q) (runs_at hh x) →
+                  (g : Home) × HomeFor l (first_link h) q g × FirstIs f s h n (name_at (text_of f s h) q) (runs_at g (q - g.from))
               fresh v =
                   let y : v.0 ≡ q - hh.from = omega (arith, v.1) in
                   let name : name_at (text_of f s hh) q ≡ name_at (text_of f s h) q = ap (λ (b : Bytes). name_at b q) t.text in
                   let nl : Nameless (text_of f s h) m a e (name_at (text_of f s h) q) = subst (λ (b : Bytes). Nameless b m a e (name_at b q)) t.text v.3 in
-                  let fi : FirstIs f s hh t.number (name_at (text_of f s h) q) (runs.At hh (q - hh.from)) = subst
-                  (λ (k : ℕ). FirstIs f s hh t.number (name_at (text_of f s h) q) (runs.At hh k)) y
-                  (subst (λ (k : ℕ). FirstIs f s hh t.number k (runs.At hh v.0)) name v.4) in (
+                  let fi : FirstIs f s hh t.number (name_at (text_of f s h) q) (runs_at hh (q - hh.from)) = subst
+                  (λ (k : ℕ). FirstIs f s hh t.number (name_at (text_of f s h) q) (runs_at hh k)) y
+                  (subst (λ (k : ℕ). FirstIs f s hh t.number k (runs_at hh v.0)) name v.4) in (
                     hh,
                     subst (λ (k : ℕ). HomeFor l (first_link h) k hh) (sym v.1)
                         (home_for f s l (first_link h) i hh (there_bounds f s hh t.number t.there) (omega arith) t.reach v.0 v.2),
-                    t.up (name_at (text_of f s h) q) nl (runs.At hh (q - hh.from)) fi,
+                    t.up (name_at (text_of f s h) q) nl (runs_at hh (q - hh.from)) fi,
                   )
 
           new_left : Left f s l m' h n stop top a (i + 1) e'
           new_left = go t.part
             where
-              nothing : Kind0ParentIs f s hh t.number classes.Nothing → (x : ℕ) → Nameless (text_of f s h) m' a e' x → (r : RunsFound) → r ≡
-                  runs.Nothing → FirstIs f s h n x r
-              nothing k x u r z = t.up x (less x u) r (subst (λ (b : RunsFound). FirstIs f s hh t.number x b) (sym z)
+              nothing : Kind0ParentIs f s hh t.number None → (x : ℕ) → Nameless (text_of f s h) m' a e' x → (r : Optional MethodSpot) → r ≡
+                  None → FirstIs f s h n x r
+              nothing k x u r z = t.up x (less x u) r (subst (λ (b : Optional MethodSpot). FirstIs f s hh t.number x b) (sym z)
                   (first_nowhere f s hh t.number x (not_declared x u) k))
 
-              next : (d : ClassSpot) → Kind0ParentIs f s hh t.number (classes.At d) → (x : ℕ) → Nameless (text_of f s h) m' a e' x → (r : RunsFound) →
+              next : (d : ClassSpot) → Kind0ParentIs f s hh t.number (Some d) → (x : ℕ) → Nameless (text_of f s h) m' a e' x → (r : Optional MethodSpot) →
                   FirstIs f s d.home d.number x r → FirstIs f s h n x r
               next d k x u r z = t.up x (less x u) r (first_above f s hh t.number x (not_declared x u) d r k z)
 
-              ends : (stop : ClassFound) → Kind0ParentIs f s hh t.number stop → (x : ℕ) → Nameless (text_of f s h) m' a e' x → (r : RunsFound) → Above f
+              ends : (stop : Optional ClassSpot) → Kind0ParentIs f s hh t.number stop → (x : ℕ) → Nameless (text_of f s h) m' a e' x → (r : Optional MethodSpot) → Above f
                   s stop x r → FirstIs f s h n x r
-              ends (classes.At d) k = next d k
-              ends classes.Nothing k = nothing k
+              ends (Some d) k = next d k
+              ends None k = nothing k
 
               go : Part f s l hh t.number i top stop → Left f s l m' h n stop top a (i + 1) e'
               go (last k q v z) = over (sym z) (ends stop q)
@@ -256,8 +255,8 @@ module _ (f s : Bytes) (l : List ℕ) (h : Home) (n top a : ℕ) where
     end = let same : i ≡ top = omega arith in omega (arith, inv.end);
   }
     where
-      hit : (stop : ClassFound) → Part f s l h n (first_link h) top stop → (q : ℕ) → Has m a e q → (g : Home) × HomeFor m (first_link h) q g × FirstIs f s h
-          n (name_at (text_of f s h) q) (runs.At g (q - g.from))
+      hit : (stop : Optional ClassSpot) → Part f s l h n (first_link h) top stop → (q : ℕ) → Has m a e q → (g : Home) × HomeFor m (first_link h) q g × FirstIs f s h
+          n (name_at (text_of f s h) q) (runs_at g (q - g.from))
       hit stop part q has =
           let t = (inv.state stop part).hit q has in
           let u = t.1 in (
@@ -274,10 +273,10 @@ module _ (f s : Bytes) (l : List ℕ) (h : Home) (n top a : ℕ) where
             t.2,
           )
 
-      rest : (stop : ClassFound) → Part f s l h n (first_link h) top stop → (x : ℕ) → Nameless (text_of f s h) m a e x → (r : RunsFound) → Above f s stop x
+      rest : (stop : Optional ClassSpot) → Part f s l h n (first_link h) top stop → (x : ℕ) → Nameless (text_of f s h) m a e x → (r : Optional MethodSpot) → Above f s stop x
           r → FirstIs f s h n x r
       rest stop part = go (inv.state stop part).left
         where
-          go : Left f s l m h n stop top a i e → (x : ℕ) → Nameless (text_of f s h) m a e x → (r : RunsFound) → Above f s stop x r → FirstIs f s h n x r
+          go : Left f s l m h n stop top a i e → (x : ℕ) → Nameless (text_of f s h) m a e x → (r : Optional MethodSpot) → Above f s stop x r → FirstIs f s h n x r
           go (over e' r) = r
           go (classes_left hc nc q reach text there up) = absurd (omega (arith, part_inside f s l hc nc i top stop q))

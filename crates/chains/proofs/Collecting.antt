@@ -8,20 +8,20 @@ use mathlib.Core.Logic.{inl, inr, ⊎_elim}
 use lib.Dec.{eqb}
 use lib.ListN.{length}
 use borrow.Author.Tests.{ne_eqb}
+use Rattle.std.specs.Prelude.{Option as Optional}
+use Rattle.classes.specs.declared.ClassSpot.{ClassSpot}
 use Rattle.rules.specs.Bytes.{Bytes}
 use Rattle.store.specs.Entries.{part}
 use Rattle.store.proofs.Parts.{part_length}
 use Rattle.homes.specs.Homes.{file_of}
 use Rattle.homes.specs.declared.Home.{Home}
 use Rattle.classes.specs.Say.{ClassThere}
-use Rattle.classes.specs.declared.ClassFound.{ClassFound}
 use Rattle.methods.specs.Table.{name_at, Has, Nameless, Sorted}
 use Rattle.methods.proofs.Search.{less_or}
-use Rattle.chains.specs.Say.{FirstIs}
+use Rattle.chains.specs.Say.{runs_at, FirstIs}
 use Rattle.chains.specs.Chain.{most_links, link_home, Steps, Part, Same}
 use Rattle.chains.specs.Names.{text_of, first_link, HomeFor, Above}
-use Rattle.chains.specs.declared.RunsFound.{RunsFound}
-use Rattle.chains.specs.declared.RunsFound.TheVariants as runs
+use Rattle.chains.specs.declared.MethodSpot.{MethodSpot}
 
 -- the class at link i: its home is that of the first link which does not lie behind its file
 pub record Reach (l : List ℕ) (first i : ℕ) (h : Home) : Type 0 where
@@ -33,15 +33,15 @@ pub record Reach (l : List ℕ) (first i : ℕ) (h : Home) : Type 0 where
   pub under : (j : ℕ) → first ≤ j → j < i + 1 → h.from ≤ (link_home l j).from
 
 -- what is left of a part, the names so far ending at e: its classes from number i on, or nothing
-pub data Left (f s : Bytes) (l m : List ℕ) (h : Home) (n : ℕ) (stop : ClassFound) (top a : ℕ) : ℕ → ℕ → Type 0 where
+pub data Left (f s : Bytes) (l m : List ℕ) (h : Home) (n : ℕ) (stop : Optional ClassSpot) (top a : ℕ) : ℕ → ℕ → Type 0 where
   classes_left : {i e : ℕ} (hc : Home) (nc : ℕ) → Part f s l hc nc i top stop → Reach l (first_link h) i hc → text_of f s hc ≡ text_of f s h → ClassThere f s
       hc nc →
-      ((x : ℕ) → Nameless (text_of f s h) m a e x → (r : RunsFound) → FirstIs f s hc nc x r → FirstIs f s h n x r) → Left f s l m h n stop top a i e
-  over : {i e : ℕ} → i ≡ top → ((x : ℕ) → Nameless (text_of f s h) m a e x → (r : RunsFound) → Above f s stop x r → FirstIs f s h n x r) → Left f s l m h n
+      ((x : ℕ) → Nameless (text_of f s h) m a e x → (r : Optional MethodSpot) → FirstIs f s hc nc x r → FirstIs f s h n x r) → Left f s l m h n stop top a i e
+  over : {i e : ℕ} → i ≡ top → ((x : ℕ) → Nameless (text_of f s h) m a e x → (r : Optional MethodSpot) → Above f s stop x r → FirstIs f s h n x r) → Left f s l m h n
       stop top a i e
 
-pub record State (f s : Bytes) (l m : List ℕ) (h : Home) (n : ℕ) (stop : ClassFound) (top a i e : ℕ) : Type 0 where
-  pub hit : (q : ℕ) → Has m a e q → (g : Home) × HomeFor l (first_link h) q g × FirstIs f s h n (name_at (text_of f s h) q) (runs.At g (q - g.from))
+pub record State (f s : Bytes) (l m : List ℕ) (h : Home) (n : ℕ) (stop : Optional ClassSpot) (top a i e : ℕ) : Type 0 where
+  pub hit : (q : ℕ) → Has m a e q → (g : Home) × HomeFor l (first_link h) q g × FirstIs f s h n (name_at (text_of f s h) q) (runs_at g (q - g.from))
   pub left : Left f s l m h n stop top a i e
 
 pub record Collecting (f s : Bytes) (l m : List ℕ) (h : Home) (n top a i e : ℕ) : Type 0 where
@@ -50,7 +50,7 @@ pub record Collecting (f s : Bytes) (l m : List ℕ) (h : Home) (n top a i e : �
   pub start : first_link h ≤ i
   pub end : e ≤ a + 64 * (i - first_link h)
   pub sorted : Sorted (text_of f s h) m a e
-  pub state : (stop : ClassFound) → Part f s l h n (first_link h) top stop → State f s l m h n stop top a i e
+  pub state : (stop : Optional ClassSpot) → Part f s l h n (first_link h) top stop → State f s l m h n stop top a i e
 
 module _ (f s : Bytes) where
   -- both homes are that of the file being judged, or both lie in the store

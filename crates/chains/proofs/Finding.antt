@@ -1,4 +1,6 @@
 -- All names of an own class: those of the stored classes of its chain, then those of the own ones. Assumes nothing.
+use Rattle.std.specs.Prelude.{Some, None}
+use Rattle.std.specs.Prelude.{Option as Optional}
 use Prim.Native.Nat.{ℕ, ◌+◌, ◌-◌, ◌*◌, ◌≤◌, ◌<◌}
 use native.Mathlib.Omega.{arith}
 use mathlib.Core.Path.{◌≡◌, sym, ap, subst}
@@ -11,8 +13,6 @@ use Rattle.homes.specs.Homes.{own_home}
 use Rattle.homes.specs.Homes as homes
 use Rattle.homes.specs.declared.Home.{Home}
 use Rattle.classes.specs.Say.{ClassThere}
-use Rattle.classes.specs.declared.ClassFound.{ClassFound}
-use Rattle.classes.specs.declared.ClassFound.TheVariants as classes
 use Rattle.classes.specs.declared.ClassSpot.{ClassSpot}
 use Rattle.classes.proofs.Places.{own_depth}
 use Rattle.chains.specs.Say.{RunningThere}
@@ -30,7 +30,7 @@ module _ (f s : Bytes) where
   kept_same l m h n e z low names size t =
       let y = link_stored f s h z in
       record {
-        names = gathered_same f s l m h n classes.Nothing names_start e (λ k u v. low k (omega arith) (omega (arith, y))) names size t.names;
+        names = gathered_same f s l m h n None names_start e (λ k u v. low k (omega arith) (omega (arith, y))) names size t.names;
         few = t.few;
       }
 
@@ -63,7 +63,7 @@ module _ (f s : Bytes) where
     own_link : first_link h ≡ 16
     own_link = ap first_link eh
 
-    module _ (l m : List ℕ) (j : ℕ) (stop : ClassFound) (found : PartIs f s l m (record { home = h; number = b }) (first_link h) j stop) where
+    module _ (l m : List ℕ) (j : ℕ) (stop : Optional ClassSpot) (found : PartIs f s l m (record { home = h; number = b }) (first_link h) j stop) where
       p : PartIs f s l m (record { home = h; number = b }) 16 j stop
       p = subst (λ (i : ℕ). PartIs f s l m (record { home = h; number = b }) i j stop) own_link found
 
@@ -71,17 +71,17 @@ module _ (f s : Bytes) where
       kept_after kept k z = kept_same l m kept.home kept.number kept.stored z (λ x u v. p.below x u v) (λ x u v. p.above x u) p.size (k z)
 
       -- the stored class that follows has room
-      pub next_room : (d : ClassSpot) → stop ≡ classes.At d → PartRoom f s end j (16 + (store_limits s).depth) d.home d.number
-      next_room d e = part_room f s m h b 16 j (classes.At d) end (16 + (store_limits s).depth)
-          (subst (λ (o : ClassFound). Part f s m h b 16 j o) e p.part) own_room
+      pub next_room : (d : ClassSpot) → stop ≡ Some d → PartRoom f s end j (16 + (store_limits s).depth) d.home d.number
+      next_room d e = part_room f s m h b 16 j (Some d) end (16 + (store_limits s).depth)
+          (subst (λ (o : Optional ClassSpot). Part f s m h b 16 j o) e p.part) own_room
 
-      pub next_stored : (d : ClassSpot) → stop ≡ classes.At d → 0 < d.home.from
-      next_stored d e = (part_leaves f s m h b 16 j (classes.At d) end (subst (λ (o : ClassFound). Part f s m h b 16 j o) e p.part)).1
+      pub next_stored : (d : ClassSpot) → stop ≡ Some d → 0 < d.home.from
+      next_stored d e = (part_leaves f s m h b 16 j (Some d) end (subst (λ (o : Optional ClassSpot). Part f s m h b 16 j o) e p.part)).1
 
       inside : 16 < j
       inside = part_inside f s m h b 16 j stop p.part
 
-      pub next_need : (d : ClassSpot) → stop ≡ classes.At d → PartRoom f s end 0 (store_limits s).depth d.home d.number
+      pub next_need : (d : ClassSpot) → stop ≡ Some d → PartRoom f s end 0 (store_limits s).depth d.home d.number
       next_need d e = room_more f s end j (16 + (store_limits s).depth) 0 (store_limits s).depth d.home d.number (omega (arith, inside)) (next_room d e)
 
       -- all names, where those of the stored classes end at `to`
@@ -98,7 +98,7 @@ module _ (f s : Bytes) where
         own_fits r low z = (omega (arith, own_link, p.few), low, omega (arith, own_link, z, r.size, p.size, size))
 
         -- a stored class follows
-        module _ (d : ClassSpot) (e : stop ≡ classes.At d) (k : KeptFor f s l' d.home d.number to) where
+        module _ (d : ClassSpot) (e : stop ≡ Some d) (k : KeptFor f s l' d.home d.number to) where
           few_stored : to + 64 * (j - 16) ≤ names_length s
           few_stored =
               let n = next_room d e in
@@ -114,14 +114,14 @@ module _ (f s : Bytes) where
             kept_end = kept_same l' l'' d.home d.number to (next_stored d e) (λ x u v. g.below x u (omega (arith, k.names.sorted.low)))
                 (λ x u v. g.below x (omega arith) v) g.size k
 
-            own_gathered : Gathered f s l'' (own_home end) b (classes.At d) to all
-            own_gathered = subst (λ (v : Home). Gathered f s l'' v b (classes.At d) to all) eh
-                (g.is (classes.At d) (subst (λ (o : ClassFound). Part f s l' h b (first_link h) j o) e own_part))
+            own_gathered : Gathered f s l'' (own_home end) b (Some d) to all
+            own_gathered = subst (λ (v : Home). Gathered f s l'' v b (Some d) to all) eh
+                (g.is (Some d) (subst (λ (o : Optional ClassSpot). Part f s l' h b (first_link h) j o) e own_part))
 
             pub names_stored : NamesIs f s l'' (record { end = end; own = b; stored = to; all = all; home = d.home; number = d.number })
             names_stored = record {
-              stop = classes.At d;
-              leaves = part_leaves f s l' h b (first_link h) j (classes.At d) end (subst (λ (o : ClassFound). Part f s l' h b (first_link h) j o) e own_part);
+              stop = Some d;
+              leaves = part_leaves f s l' h b (first_link h) j (Some d) end (subst (λ (o : Optional ClassSpot). Part f s l' h b (first_link h) j o) e own_part);
               own = own_gathered;
               stored = kept_end.names;
               few = omega (arith, own_link, g.end, few_stored);
@@ -134,7 +134,7 @@ module _ (f s : Bytes) where
             names_first z y x r w = own_gathered.rest x (λ q has n. omega (arith, has.1, has.2, y)) r w
 
         -- none does
-        module _ (e : stop ≡ classes.Nothing) (z : to ≡ names_start) where
+        module _ (e : stop ≡ None) (z : to ≡ names_start) where
           few_alone : to + 64 * (j - 16) ≤ names_length s
           few_alone = omega (arith, part_few f s m h b 16 j stop end (16 + (store_limits s).depth) p.part own_room, inside)
 
@@ -144,10 +144,10 @@ module _ (f s : Bytes) where
           pub names_alone : (l'' : List ℕ) (all : ℕ) → GatheredAll f s l' l'' h b j to all → NamesIs f s l''
               (record { end = end; own = b; stored = to; all = all; home = h; number = b })
           names_alone l'' all g = record {
-            stop = classes.Nothing;
+            stop = None;
             leaves = tt {0};
-            own = subst (λ (v : Home). Gathered f s l'' v b classes.Nothing to all) eh
-                (g.is classes.Nothing (subst (λ (o : ClassFound). Part f s l' h b (first_link h) j o) e own_part));
+            own = subst (λ (v : Home). Gathered f s l'' v b None to all) eh
+                (g.is None (subst (λ (o : Optional ClassSpot). Part f s l' h b (first_link h) j o) e own_part));
             stored = z;
             few = omega (arith, own_link, g.end, few_alone);
           }

@@ -165,9 +165,9 @@ module _ (g t : Bytes) (l : List ℕ) (start base a e : ℕ) (held : Held g t ba
           loop = λ x n. loops.find_miss (is_instance x) (inv.loop x (less x n)) more (test_other g t base c held at_c x (other x n)) after;
         }
 
-      pub gathering_step : Added g t m m' c (base + c) a to to' → Gathering g t l m' start base a e (left - 1) next to'
-      gathering_step (inl u) = skipped u.0 u.1 u.2
-      gathering_step (inr u) = entered u.0 u.1
+      pub gathering_step : (rest : ℕ) → rest ≡ left - 1 → Added g t m m' c (base + c) a to to' → Gathering g t l m' start base a e rest next to'
+      gathering_step rest y (inl u) = rw y (skipped u.0 u.1 u.2)
+      gathering_step rest y (inr u) = rw y (entered u.0 u.1)
 
   pub gathering_end : (m : List ℕ) (left c to i : ℕ) → Gathering g t l m start base a e left c to → left ≤ 0 → MethodsAt g i start → Gathers g t l m i
       base a e to

@@ -1,4 +1,6 @@
 -- The names of stored classes are kept from one own class to the next; all names of an own class. Assumes nothing.
+use Rattle.std.specs.Prelude.{Some, None}
+use Rattle.std.specs.Prelude.{Option as Optional}
 use Prim.Native.Nat.{ℕ, ◌+◌, ◌-◌, ◌*◌, ◌≤◌, ◌<◌}
 use native.Mathlib.Omega.{arith}
 use mathlib.Core.Path.{◌≡◌, refl, sym, ◌∙◌, ap, subst}
@@ -13,8 +15,6 @@ use Rattle.rules.specs.Store.{store_limits}
 use Rattle.rules.proofs.Limits.{limits_range_lem}
 use Rattle.homes.specs.Homes.{own_home}
 use Rattle.homes.specs.declared.Home.{Home}
-use Rattle.classes.specs.declared.ClassFound.{ClassFound}
-use Rattle.classes.specs.declared.ClassFound.TheVariants as classes
 use Rattle.classes.specs.declared.ClassSpot.{ClassSpot}
 use Rattle.methods.specs.Table.{Has}
 use Rattle.chains.specs.Chain.{most_links, names_start, link_home, Steps, Leaves, Part, last, more, Same, PartRoom, PartIs}
@@ -30,7 +30,7 @@ home_kept l m i x y k a b = home_of_lem (link_home l i) _ _ _ (k (4 * i) a (omeg
 
 module _ (f s : Bytes) where
   -- names that stand as they stood, with the links of their part
-  module _ (l m : List ℕ) (h : Home) (n : ℕ) (stop : ClassFound) (a e : ℕ) (links : Same l m (4 * first_link h) (4 * (first_link h + most_links)))
+  module _ (l m : List ℕ) (h : Home) (n : ℕ) (stop : Optional ClassSpot) (a e : ℕ) (links : Same l m (4 * first_link h) (4 * (first_link h + most_links)))
       (names : Same l m a e) (size : length m ≡ length l) where
     has_same : (q : ℕ) → Has m a e q → Has l a e q
     has_same q t = (t.0, t.1, t.2, sym (names t.0 t.1 t.2) ∙ t.3)
@@ -62,9 +62,9 @@ module _ (f s : Bytes) where
     }
 
   -- a part in the store goes on to nothing
-  pub part_stored : (l : List ℕ) (h : Home) (n i j : ℕ) (stop : ClassFound) → 0 < h.from → Part f s l h n i j stop → Part f s l h n i j classes.Nothing
-  part_stored l h n i j (classes.At d) z (last t q v e) = absurd (omega (arith, v.0))
-  part_stored l h n i j classes.Nothing z (last t q v e) = last t q v e
+  pub part_stored : (l : List ℕ) (h : Home) (n i j : ℕ) (stop : Optional ClassSpot) → 0 < h.from → Part f s l h n i j stop → Part f s l h n i j None
+  part_stored l h n i j (Some d) z (last t q v e) = absurd (omega (arith, v.0))
+  part_stored l h n i j None z (last t q v e) = last t q v e
   part_stored l h n i j stop z (more d t q v p) = more d t q v (part_stored l d.home d.number (i + 1) j stop (next v) p)
     where
       next : Steps h d.home → 0 < d.home.from
@@ -72,27 +72,27 @@ module _ (f s : Bytes) where
       next (inr u) = u.0
 
   -- what follows own classes is stored
-  pub part_leaves : (l : List ℕ) (h : Home) (n i j : ℕ) (stop : ClassFound) (end : ℕ) → Part f s l h n i j stop → Leaves (own_home end) stop
-  part_leaves l h n i j (classes.At d) end (last t q v e) = (refl, v.1)
-  part_leaves l h n i j classes.Nothing end (last t q v e) = tt {0}
+  pub part_leaves : (l : List ℕ) (h : Home) (n i j : ℕ) (stop : Optional ClassSpot) (end : ℕ) → Part f s l h n i j stop → Leaves (own_home end) stop
+  part_leaves l h n i j (Some d) end (last t q v e) = (refl, v.1)
+  part_leaves l h n i j None end (last t q v e) = tt {0}
   part_leaves l h n i j stop end (more d t q v p) = part_leaves l d.home d.number (i + 1) j stop end p
 
   -- a part leaves room for what follows it
-  abbrev RoomLeft : ℕ → ℕ → ℕ → ClassFound → Type 0
-  RoomLeft end j top (classes.At d) = PartRoom f s end j top d.home d.number
-  RoomLeft end j top classes.Nothing = j ≤ top
+  abbrev RoomLeft : ℕ → ℕ → ℕ → Optional ClassSpot → Type 0
+  RoomLeft end j top (Some d) = PartRoom f s end j top d.home d.number
+  RoomLeft end j top None = j ≤ top
 
-  pub part_room : (l : List ℕ) (h : Home) (n i j : ℕ) (stop : ClassFound) (end top : ℕ) → Part f s l h n i j stop → PartRoom f s end i top h n → RoomLeft
+  pub part_room : (l : List ℕ) (h : Home) (n i j : ℕ) (stop : Optional ClassSpot) (end top : ℕ) → Part f s l h n i j stop → PartRoom f s end i top h n → RoomLeft
       end j top stop
-  part_room l h n i j (classes.At d) end top (last t q v e) room = subst (λ (k : ℕ). PartRoom f s end k top d.home d.number) (sym e)
+  part_room l h n i j (Some d) end top (last t q v e) room = subst (λ (k : ℕ). PartRoom f s end k top d.home d.number) (sym e)
       (room_above f s end i top h n room d q)
-  part_room l h n i j classes.Nothing end top (last t q v e) room = let z = room_inside f s end i top h n room in omega arith
+  part_room l h n i j None end top (last t q v e) room = let z = room_inside f s end i top h n room in omega arith
   part_room l h n i j stop end top (more d t q v p) room = part_room l d.home d.number (i + 1) j stop end top p (room_above f s end i top h n room d q)
 
-  pub part_few : (l : List ℕ) (h : Home) (n i j : ℕ) (stop : ClassFound) (end top : ℕ) → Part f s l h n i j stop → PartRoom f s end i top h n → j ≤ top
-  part_few l h n i j (classes.At d) end top p room = let z = room_inside f s end j top d.home d.number
-      (part_room l h n i j (classes.At d) end top p room) in omega arith
-  part_few l h n i j classes.Nothing end top p room = part_room l h n i j classes.Nothing end top p room
+  pub part_few : (l : List ℕ) (h : Home) (n i j : ℕ) (stop : Optional ClassSpot) (end top : ℕ) → Part f s l h n i j stop → PartRoom f s end i top h n → j ≤ top
+  part_few l h n i j (Some d) end top p room = let z = room_inside f s end j top d.home d.number
+      (part_room l h n i j (Some d) end top p room) in omega arith
+  part_few l h n i j None end top p room = part_room l h n i j None end top p room
 
   pub room_more : (end i top i' top' : ℕ) (h : Home) (n : ℕ) → i' + top ≤ i + top' → PartRoom f s end i top h n → PartRoom f s end i' top' h n
   room_more end i top i' top' h n z r = record { class = r.class; depth = r.depth; room = omega (arith, r.room); within = r.within }
@@ -106,7 +106,7 @@ module _ (f s : Bytes) where
     stored_room = room_more end 0 (store_limits s).depth (first_link d.home) (first_link d.home + most_links) d.home d.number
         (omega (arith, (limits_range_lem s).0)) room
 
-    module _ (l m : List ℕ) (j : ℕ) (stop : ClassFound) (found : PartIs f s l m d (first_link d.home) j stop) where
+    module _ (l m : List ℕ) (j : ℕ) (stop : Optional ClassSpot) (found : PartIs f s l m d (first_link d.home) j stop) where
       p : PartIs f s l m d 0 j stop
       p = subst (λ (i : ℕ). PartIs f s l m d i j stop) (link_stored d.home stored) found
 
@@ -127,7 +127,7 @@ module _ (f s : Bytes) where
         pub stored_new : KeptFor f s m' d.home d.number e × Same l m' 64 names_start × (length m' ≡ length l)
         stored_new = (
           record {
-            names = g.is classes.Nothing (part_stored m d.home d.number (first_link d.home) j stop stored first);
+            names = g.is None (part_stored m d.home d.number (first_link d.home) j stop stored first);
             few = λ end' es self asked x o k c top within.
                 let r : PartRoom f s end' 0 top d.home d.number = record {
                   class = record { entries = es; self = self; asked = asked; pack = x; home = o; class = k; is = c };

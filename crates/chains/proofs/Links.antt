@@ -1,4 +1,6 @@
 -- Links of a chain in a table: written, and kept where the table changes elsewhere; files in the bytes that hold them. Assumes nothing.
+use Rattle.std.specs.Prelude.{Option as Optional}
+use Rattle.classes.specs.declared.ClassSpot.{ClassSpot}
 use Prim.Native.Nat.{ℕ, ◌+◌, ◌-◌, ◌*◌, ◌≤◌, ◌<◌}
 use native.Mathlib.Omega.{arith}
 use mathlib.Core.Path.{◌≡◌, refl, sym, ◌∙◌, ap, subst}
@@ -14,7 +16,6 @@ use Rattle.store.proofs.Parts.{part_length}
 use Rattle.homes.specs.Homes.{file_of}
 use Rattle.homes.specs.declared.Home.{Home}
 use Rattle.classes.specs.Say.{RecordAt}
-use Rattle.classes.specs.declared.ClassFound.{ClassFound}
 use Rattle.chains.specs.Chain.{all_links, names_start, link_home, link_place, with_link, LinkIs, Part, last, more, Same}
 use Rattle.chains.specs.Names.{text_of, Held}
 
@@ -25,9 +26,6 @@ home_of a b c = record { from = a; to = b; before = c }
 pub home_of_lem : (h : Home) (a b c : ℕ) → a ≡ h.from → b ≡ h.to → c ≡ h.before → record { from = a; to = b; before = c } ≡ h
 unfolding home_of
 home_of_lem h a b c p q r = ap (λ (n : ℕ). home_of n b c) p ∙ ap (λ (n : ℕ). home_of h.from n c) q ∙ ap (λ (n : ℕ). home_of h.from h.to n) r
-
-pub home_is : (g h : Home) → g.from ≡ h.from → g.to ≡ h.to → g.before ≡ h.before → g ≡ h
-home_is g h a b c = home_of_lem h g.from g.to g.before a b c
 
 -- a link is written: four numbers, and the others are kept
 module _ (old : List ℕ) (i : ℕ) (h : Home) (c : ℕ) (y : i < all_links) (z : names_start ≤ length old) where
@@ -90,16 +88,16 @@ module _ (f s : Bytes) where
     place = subst (RecordAt f s h n) (sym (k (4 * i + 3) (omega arith) (omega arith))) t.place;
   }
 
-  pub part_inside : (l : List ℕ) (h : Home) (n i j : ℕ) (stop : ClassFound) → Part f s l h n i j stop → i < j
+  pub part_inside : (l : List ℕ) (h : Home) (n i j : ℕ) (stop : Optional ClassSpot) → Part f s l h n i j stop → i < j
   part_inside l h n i j stop (last t q v e) = omega arith
   part_inside l h n i j stop (more d t q v p) = let w = part_inside l d.home d.number (i + 1) j stop p in omega arith
 
-  pub part_link : (l : List ℕ) (h : Home) (n i j : ℕ) (stop : ClassFound) → Part f s l h n i j stop → LinkIs f s l h n i
+  pub part_link : (l : List ℕ) (h : Home) (n i j : ℕ) (stop : Optional ClassSpot) → Part f s l h n i j stop → LinkIs f s l h n i
   part_link l h n i j stop (last t q v e) = t
   part_link l h n i j stop (more d t q v p) = t
 
   -- and so does a part
-  pub part_same : (l m : List ℕ) (h : Home) (n i j : ℕ) (stop : ClassFound) → Same l m (4 * i) (4 * j) → Part f s l h n i j stop → Part f s m h n i j stop
+  pub part_same : (l m : List ℕ) (h : Home) (n i j : ℕ) (stop : Optional ClassSpot) → Same l m (4 * i) (4 * j) → Part f s l h n i j stop → Part f s m h n i j stop
   part_same l m h n i j stop k (last t q v e) = last (link_same h n i l m (λ x a b. k x a (omega arith)) t) q v e
   part_same l m h n i j stop k (more d t q v p) =
       let w = part_inside l d.home d.number (i + 1) j stop p in

@@ -15,39 +15,39 @@ use Rattle.rules.proofs.Tests.{is_true, none_some, some_and_is}
 use Rattle.rules.proofs.Bounds.{first_is, is_first}
 use Rattle.places.specs.Reads.{Reads, Placed}
 use Rattle.places.proofs.Track.{placed_at, placed_none}
-use Rattle.files.specs.Say.{spot, ImplementedIs, InstancePlaced}
+use Rattle.files.specs.Say.{ImplementedIs, InstancePlaced}
 use Rattle.files.specs.Say as say
-use Rattle.files.specs.declared.Spot.{Spot}
-use Rattle.files.specs.declared.Spot.TheVariants as spots
+use Rattle.std.specs.Prelude.{Some, None}
+use Rattle.std.specs.Prelude.{Option as Optional}
+use Rattle.std.specs.Prelude.{ℕ}
+use Rattle.fields.specs.Told.{told}
 use Rattle.homes.specs.Homes.{file_of, format_at, own_home, ClassPlaced}
 use Rattle.homes.specs.Homes as homes
 use Rattle.homes.specs.declared.Home.{Home}
 use Rattle.homes.proofs.Homes.{home_bounds}
 use Rattle.classes.specs.Say.{ClassThere, Kind0ParentIs}
-use Rattle.classes.specs.declared.ClassFound.TheVariants as classes
 use Rattle.classes.specs.declared.ClassSpot.{ClassSpot}
 use Rattle.classes.proofs.Places.{class_at, own_depth}
-use Rattle.chains.specs.Say.{Running, InstanceAt, FirstFound, FirstIs, RunningThere, RunsIs}
-use Rattle.chains.specs.declared.RunsFound.{RunsFound}
-use Rattle.chains.specs.declared.RunsFound.TheVariants.{At, Nothing}
+use Rattle.chains.specs.Say.{Running, InstanceAt, runs_at, FirstFound, FirstIs, RunningThere, RunsIs}
+use Rattle.chains.specs.declared.MethodSpot.{MethodSpot}
 
 module _ (f s : Bytes) (h : Home) (n : ℕ) where
   -- the non-static method of a name
-  pub instance_is : (g : Bytes) (i name : ℕ) (r : Spot) → g ≡ file_of f s h → ClassPlaced f s h n (spots.At i) → InstancePlaced g i name r → InstanceAt f s
+  pub instance_is : (g : Bytes) (i name : ℕ) (r : Optional ℕ) → g ≡ file_of f s h → ClassPlaced f s h n (Some i) → InstancePlaced g i name r → InstanceAt f s
       h n name r
   instance_is g i name r z p q end es self j x o k e =
       let y = class_at f s h n i p end es self j x o k e in
-      subst (λ (b : Bytes). Placed (method (format_at s b) x.pack.domains) b (declared_instance k name) (spot r)) z
+      subst (λ (b : Bytes). Placed (method (format_at s b) x.pack.domains) b (declared_instance k name) (told r)) z
       (q (store_limits s) x.pack.domains k y.0 (subst (λ (b : Bytes). Reads (class (format_at s b) x.pack.domains) b i k y.0) (sym z) y.1))
 
   -- the first method of a name: the class declares it
-  pub first_here : (name i : ℕ) → InstanceAt f s h n name (spots.At i) → FirstIs f s h n name (At h i)
+  pub first_here : (name i : ℕ) → InstanceAt f s h n name (Some i) → FirstIs f s h n name (runs_at h i)
   first_here name i p end es self j x o k e =
       let y = placed_at (p end es self j x o k e) in
       (record { class = record { home = x; number = n }; method = y.0 }, declares k y.0 e y.2, record { home = o; ends = y.1; reads = y.3 })
 
   -- or its kind-0 parent has it
-  module _ (name : ℕ) (p : InstanceAt f s h n name spots.Nothing) where
+  module _ (name : ℕ) (p : InstanceAt f s h n name None) where
     first_up : (is : List Installed) (c : ClassAt) (k : Class) → record_of c ≡ some k → declared_instance k name ≡ none → (d : ClassAt) → kind0_parent is c ≡
         some d →
         (m : MethodAt) → First is c name m → First is d name m
@@ -64,18 +64,18 @@ module _ (f s : Bytes) (h : Home) (n : ℕ) where
         none_some (sym i ∙ ap (λ (a : Class). declared_instance a name) (sym z) ∙ i')
     first_not is c k e i q m (inherits k' d' e' i' q' r) = none_some (sym q ∙ q')
 
-    pub first_above : (d : ClassSpot) (r : RunsFound) → Kind0ParentIs f s h n (classes.At d) → FirstIs f s d.home d.number name r → FirstIs f s h n name r
+    pub first_above : (d : ClassSpot) (r : Optional MethodSpot) → Kind0ParentIs f s h n (Some d) → FirstIs f s d.home d.number name r → FirstIs f s h n name r
     first_above d r q t end es self j x o k e =
         let u = q end es self j x o k e in
         go r (t end es self j u.0 u.1 u.3 u.4) (placed_none (p end es self j x o k e)) u.2
       where
-        go : (r : RunsFound) {y : Installed} → FirstFound f s end es self (record { home = y; number = d.number }) name r → declared_instance k name ≡ none →
+        go : (r : Optional MethodSpot) {y : Installed} → FirstFound f s end es self (record { home = y; number = d.number }) name r → declared_instance k name ≡ none →
             kind0_parent (installed (store_limits s) es) (record { home = x; number = n }) ≡ some (record { home = y; number = d.number }) → FirstFound f s
             end es self (record { home = x; number = n }) name r
-        go (At g i) v w z = (v.0, inherits k _ e w z v.1, v.2)
-        go Nothing v w z = λ m first. v m (first_up (installed (store_limits s) es) (record { home = x; number = n }) k e w _ z m first)
+        go (Some y) v w z = (v.0, inherits k _ e w z v.1, v.2)
+        go None v w z = λ m first. v m (first_up (installed (store_limits s) es) (record { home = x; number = n }) k e w _ z m first)
 
-    pub first_nowhere : Kind0ParentIs f s h n classes.Nothing → FirstIs f s h n name Nothing
+    pub first_nowhere : Kind0ParentIs f s h n None → FirstIs f s h n name None
     first_nowhere q end es self j x o k e m first =
         first_not (installed (store_limits s) es) (record { home = x; number = n }) k e (placed_none (p end es self j x o k e)) (q end es self j x o k e) m first
 
@@ -109,21 +109,21 @@ module _ (f s : Bytes) (end b : ℕ) where
         go (some m) e = absurd (q m (first_is (installed (store_limits s) es) (store_limits s).depth (own self b) name m e))
 
   module _ (name : ℕ) where
-    pub first_own : (r : RunsFound) → FirstIs f s (own_home end) b name r → (es : List Entry) (self : Installed) → Running f s end b es self → FirstFound f s
+    pub first_own : (r : Optional MethodSpot) → FirstIs f s (own_home end) b name r → (es : List Entry) (self : Installed) → Running f s end b es self → FirstFound f s
         end es self (own self b) name r
     first_own r p es self q = let y = own_class es self q in p end es self q.judged self homes.own y.0 y.1
 
-    pub runs_none : FirstIs f s (own_home end) b name Nothing → RunsIs f s end b name Nothing
-    runs_none p es self q = runs_never es self q name (first_own Nothing p es self q)
+    pub runs_none : FirstIs f s (own_home end) b name None → RunsIs f s end b name None
+    runs_none p es self q = runs_never es self q name (first_own None p es self q)
 
-    module _ (h : Home) (i : ℕ) (p : FirstIs f s (own_home end) b name (At h i)) where
+    module _ (h : Home) (i : ℕ) (p : FirstIs f s (own_home end) b name (runs_at h i)) where
       pub first_bounds : RunningThere f s end b → (h.from ≤ h.to) × (h.to ≤ length s)
-      first_bounds t = let u = first_own (At h i) p t.0 t.1 t.2 in home_bounds f s end t.0 t.1 h u.0.class.home u.2.home
+      first_bounds t = let u = first_own (runs_at h i) p t.0 t.1 t.2 in home_bounds f s end t.0 t.1 h u.0.class.home u.2.home
 
       module _ (g : Bytes) (z : g ≡ file_of f s h) where
         pub first_method : RunningThere f s end b → say.MethodThere g i
         first_method t =
-            let u = first_own (At h i) p t.0 t.1 t.2 in
+            let u = first_own (runs_at h i) p t.0 t.1 t.2 in
             let d : List Aid = u.0.class.home.pack.domains in (
               store_limits s,
               d,
@@ -137,24 +137,24 @@ module _ (f s : Bytes) (end b : ℕ) where
 
         -- the first is implemented
         implemented_is : (b' : Bool) → ImplementedIs g i b' → (es : List Entry) (self : Installed) (q : Running f s end b es self) → b' ≡
-            (first_own (At h i) p es self q).0.method.implemented
+            (first_own (runs_at h i) p es self q).0.method.implemented
         implemented_is b' y es self q =
-            let u = first_own (At h i) p es self q in
+            let u = first_own (runs_at h i) p es self q in
             let d : List Aid = u.0.class.home.pack.domains in
             y (store_limits s) d u.0.method u.2.ends (subst (λ (t : Bytes). Reads (method (format_at s t) d) t i u.0.method u.2.ends)
             (sym z) u.2.reads)
 
-        pub runs_this : ImplementedIs g i true → RunsIs f s end b name (At h i)
+        pub runs_this : ImplementedIs g i true → RunsIs f s end b name (runs_at h i)
         runs_this y es self q =
-            let u = first_own (At h i) p es self q in
+            let u = first_own (runs_at h i) p es self q in
             (u.0, runs_first es self q name u.0 u.1 ∙ given u.0 (sym (implemented_is true y es self q)), u.2)
           where
             given : (o : MethodAt) → o.method.implemented ≡ true → if_implemented o ≡ some o
             given o e = rw e
 
-        pub runs_not : ImplementedIs g i false → RunsIs f s end b name Nothing
+        pub runs_not : ImplementedIs g i false → RunsIs f s end b name None
         runs_not y es self q =
-            let u = first_own (At h i) p es self q in
+            let u = first_own (runs_at h i) p es self q in
             runs_first es self q name u.0 u.1 ∙ given u.0 (sym (implemented_is false y es self q))
           where
             given : (o : MethodAt) → o.method.implemented ≡ false → if_implemented o ≡ none

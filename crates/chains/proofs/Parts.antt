@@ -1,4 +1,6 @@
 -- How a part of a chain is found: start, turn and end of the loop. Assumes nothing.
+use Rattle.std.specs.Prelude.{Some}
+use Rattle.std.specs.Prelude.{Option as Optional}
 use Prim.Native.Nat.{ℕ, zero, suc, ◌+◌, ◌*◌, ◌≤◌, ◌<◌}
 use native.Mathlib.Omega.{arith}
 use mathlib.Core.Path.{◌≡◌, refl, sym, ◌∙◌, ap, subst}
@@ -13,8 +15,6 @@ use Rattle.rules.specs.Store.{first_entry, store_limits}
 use Rattle.homes.specs.declared.Home.{Home}
 use Rattle.homes.proofs.Homes.{home_bounds, home_below}
 use Rattle.classes.specs.Say.{Judged, ClassIn, ClassThere, Nearer, Kind0ParentIs, RecordAt}
-use Rattle.classes.specs.declared.ClassFound.{ClassFound}
-use Rattle.classes.specs.declared.ClassFound.TheVariants as classes
 use Rattle.classes.specs.declared.ClassSpot.{ClassSpot}
 use Rattle.classes.proofs.Places.{class_at}
 use Rattle.classes.proofs.Apart.{Apart, same, earlier, enters, parent_apart}
@@ -23,7 +23,7 @@ use Rattle.chains.proofs.Links.{link_size, set_home, set_place, link_below, link
 
 module _ (f s : Bytes) where
   -- the class above a class, which is its kind-0 parent
-  unfoldable pub above_in : (end : ℕ) (h : Home) (n : ℕ) (d : ClassSpot) → Kind0ParentIs f s h n (classes.At d) → ClassIn (Judged f s end) f s end h n →
+  unfoldable pub above_in : (end : ℕ) (h : Home) (n : ℕ) (d : ClassSpot) → Kind0ParentIs f s h n (Some d) → ClassIn (Judged f s end) f s end h n →
       ClassIn (Judged f s end) f s end d.home d.number
   above_in end h n d q c =
       let u = q end c.entries c.self c.asked c.pack c.home c.class c.is in
@@ -40,7 +40,7 @@ module _ (f s : Bytes) where
     pub room_inside : i < top
     room_inside = omega (arith, room.room, room.within)
 
-    pub room_above : (d : ClassSpot) → Kind0ParentIs f s h n (classes.At d) → PartRoom f s end (i + 1) top d.home d.number
+    pub room_above : (d : ClassSpot) → Kind0ParentIs f s h n (Some d) → PartRoom f s end (i + 1) top d.home d.number
     unfolding above_in
     room_above d q = go room.depth room.room room.within
       where
@@ -74,7 +74,7 @@ module _ (f s : Bytes) where
         (omega (arith, b.0, b.1), omega (arith, b.1), omega (arith, room_below, x.1), omega (arith, y.from, t.inside, t.short))
 
     -- the class that follows
-    module _ (d : ClassSpot) (q : Kind0ParentIs f s h n (classes.At d)) (z : Nearer h d.home) where
+    module _ (d : ClassSpot) (q : Kind0ParentIs f s h n (Some d)) (z : Nearer h d.home) where
       apart : Apart h d.home
       apart = parent_apart f s end h n d room.class q z
 
@@ -90,10 +90,10 @@ module _ (f s : Bytes) where
           go (earlier a b) = inr (a, b)
           go (enters a b) = absurd (omega arith)
 
-      pub leaves : h.from < d.home.from → Leaves h (classes.At d)
+      pub leaves : h.from < d.home.from → Leaves h (Some d)
       leaves less = go apart
         where
-          go : Apart h d.home → Leaves h (classes.At d)
+          go : Apart h d.home → Leaves h (Some d)
           go (same e) = let z : d.home.from ≡ h.from = ap (λ (a : Home). a.from) e in absurd (omega arith)
           go (earlier a b) = absurd (omega (arith, above_bounds.0))
           go (enters a b) = (a, b)
@@ -105,7 +105,7 @@ pub record Finding (f s : Bytes) (end : ℕ) (l m : List ℕ) (c : ClassSpot) (i
   pub start : i ≤ k
   pub below : Same l m 0 (4 * i)
   pub above : (x : ℕ) → 4 * (i + most_links) ≤ x → get_or m x 0 ≡ get_or l x 0
-  pub grow : (m' : List ℕ) → Same m m' (4 * i) (4 * k) → (j : ℕ) (stop : ClassFound) → Part f s m' h n k j stop → Part f s m' c.home c.number i j stop
+  pub grow : (m' : List ℕ) → Same m m' (4 * i) (4 * k) → (j : ℕ) (stop : Optional ClassSpot) → Part f s m' h n k j stop → Part f s m' c.home c.number i j stop
 
 module _ (f s : Bytes) (end : ℕ) (l : List ℕ) (c : ClassSpot) (i : ℕ) where
   pub finding_start : PartRoom f s end i (i + most_links) c.home c.number → Finding f s end l l c i i c.home c.number
@@ -142,7 +142,7 @@ module _ (f s : Bytes) (end : ℕ) (l : List ℕ) (c : ClassSpot) (i : ℕ) wher
       written_above x a = beyond x (omega (arith, room_inside f s end k (i + most_links) h n inv.room)) ∙ inv.above x a
 
       -- the part ends here
-      pub finding_last : (stop : ClassFound) → Kind0ParentIs f s h n stop → Leaves h stop → PartIs f s l m' c i (k + 1) stop
+      pub finding_last : (stop : Optional ClassSpot) → Kind0ParentIs f s h n stop → Leaves h stop → PartIs f s l m' c i (k + 1) stop
       finding_last stop q v = record {
         size = written_size;
         part = inv.grow m' (λ x a b. kept x b) (k + 1) stop (last written_link q v refl);
@@ -152,7 +152,7 @@ module _ (f s : Bytes) (end : ℕ) (l : List ℕ) (c : ClassSpot) (i : ℕ) wher
       }
 
       -- or goes on
-      pub finding_more : (d : ClassSpot) → Kind0ParentIs f s h n (classes.At d) → Nearer h d.home → d.home.from ≤ h.from → Finding f s end l m' c i
+      pub finding_more : (d : ClassSpot) → Kind0ParentIs f s h n (Some d) → Nearer h d.home → d.home.from ≤ h.from → Finding f s end l m' c i
           (k + 1) d.home d.number
       finding_more d q z less = record {
         room = room_above f s end k (i + most_links) h n inv.room d q;
@@ -165,6 +165,6 @@ module _ (f s : Bytes) (end : ℕ) (l : List ℕ) (c : ClassSpot) (i : ℕ) wher
             (steps f s end k (i + most_links) h n inv.room d q z less) p);
       }
 
-      pub finding_leaves : (d : ClassSpot) → Kind0ParentIs f s h n (classes.At d) → Nearer h d.home → h.from < d.home.from → PartIs f s l m' c i
-          (k + 1) (classes.At d)
-      finding_leaves d q z less = finding_last (classes.At d) q (leaves f s end k (i + most_links) h n inv.room d q z less)
+      pub finding_leaves : (d : ClassSpot) → Kind0ParentIs f s h n (Some d) → Nearer h d.home → h.from < d.home.from → PartIs f s l m' c i
+          (k + 1) (Some d)
+      finding_leaves d q z less = finding_last (Some d) q (leaves f s end k (i + most_links) h n inv.room d q z less)

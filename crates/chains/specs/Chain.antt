@@ -8,14 +8,15 @@
 -- Same l m i j          == the numbers from i up to j stand as they stood
 -- PartRoom              == class n is there, and so are links for it and all above it
 use Rattle.std.specs.Prelude.{ℕ, suc, ◌+◌, ◌*◌, ◌<◌, ◌≤◌, ◌≡◌, List, ◌⊎◌, length, get_or, set}
+use Rattle.std.specs.Prelude.{Some, None}
+use Rattle.std.specs.Prelude.{Option as Optional}
 use Rattle.rules.specs.Bytes.{Bytes}
 use Rattle.rules.specs.Store.{store_limits}
 use Rattle.rules.specs.Classes.{installed, depth_up_to}
 use Rattle.homes.specs.declared.Home.{Home}
+use Rattle.slots.specs.Slots.{home_in, with_home}
 use Rattle.classes.specs.Say.{Judged, ClassIn, Kind0ParentIs, RecordAt}
 use Rattle.classes.specs.declared.ClassSpot.{ClassSpot}
-use Rattle.classes.specs.declared.ClassFound.{ClassFound}
-use Rattle.classes.specs.declared.ClassFound.TheVariants as classes
 
 -- a part of a chain has as many classes at most as the greatest depth that any limits allow
 abbrev pub most_links : ℕ
@@ -29,13 +30,13 @@ abbrev pub names_start : ℕ
 names_start = 128
 
 abbrev pub link_home : List ℕ → ℕ → Home
-link_home l i = record { from = get_or l (4 * i) 0; to = get_or l (4 * i + 1) 0; before = get_or l (4 * i + 2) 0 }
+link_home l i = home_in l (4 * i)
 
 abbrev pub link_place : List ℕ → ℕ → ℕ
 link_place l i = get_or l (4 * i + 3) 0
 
 abbrev pub with_link : List ℕ → ℕ → Home → ℕ → List ℕ
-with_link l i h c = set (set (set (set l (4 * i) h.from) (4 * i + 1) h.to) (4 * i + 2) h.before) (4 * i + 3) c
+with_link l i h c = set (with_home l (4 * i) h) (4 * i + 3) c
 
 pub record LinkIs (f s : Bytes) (l : List ℕ) (h : Home) (n i : ℕ) : Type 0 where
   pub home : link_home l i ≡ h
@@ -46,13 +47,13 @@ abbrev pub Steps : Home → Home → Type 0
 Steps h g = (g ≡ h) ⊎ ((0 < g.from) × (g.to ≤ h.from))
 
 -- the class that follows a part is the first stored one behind own ones
-abbrev pub Leaves : Home → ClassFound → Type 0
-Leaves h (classes.At d) = (h.from ≡ 0) × (0 < d.home.from)
-Leaves h classes.Nothing = Unit {0}
+abbrev pub Leaves : Home → Optional ClassSpot → Type 0
+Leaves h (Some d) = (h.from ≡ 0) × (0 < d.home.from)
+Leaves h None = Unit {0}
 
-pub data Part (f s : Bytes) (l : List ℕ) : Home → ℕ → ℕ → ℕ → ClassFound → Type 0 where
-  last : {h : Home} {n i j : ℕ} {stop : ClassFound} → LinkIs f s l h n i → Kind0ParentIs f s h n stop → Leaves h stop → j ≡ i + 1 → Part f s l h n i j stop
-  more : {h : Home} {n i j : ℕ} {stop : ClassFound} (d : ClassSpot) → LinkIs f s l h n i → Kind0ParentIs f s h n (classes.At d) → Steps h d.home →
+pub data Part (f s : Bytes) (l : List ℕ) : Home → ℕ → ℕ → ℕ → Optional ClassSpot → Type 0 where
+  last : {h : Home} {n i j : ℕ} {stop : (Optional ClassSpot)} → LinkIs f s l h n i → Kind0ParentIs f s h n stop → Leaves h stop → j ≡ i + 1 → Part f s l h n i j stop
+  more : {h : Home} {n i j : ℕ} {stop : (Optional ClassSpot)} (d : ClassSpot) → LinkIs f s l h n i → Kind0ParentIs f s h n (Some d) → Steps h d.home →
       Part f s l d.home d.number (i + 1) j stop → Part f s l h n i j stop
 
 abbrev pub Same : List ℕ → List ℕ → ℕ → ℕ → Type 0
@@ -66,7 +67,7 @@ pub record PartRoom (f s : Bytes) (end i top : ℕ) (h : Home) (n : ℕ) : Type 
   pub within : depth_up_to (installed (store_limits s) class.entries) (suc depth) (record { home = class.pack; number = n }) ≤ depth
 
 -- what a part that was found is: it ends at link j, its numbers are written, all others stand as they stood
-pub record PartIs (f s : Bytes) (l m : List ℕ) (c : ClassSpot) (i j : ℕ) (stop : ClassFound) : Type 0 where
+pub record PartIs (f s : Bytes) (l m : List ℕ) (c : ClassSpot) (i j : ℕ) (stop : Optional ClassSpot) : Type 0 where
   pub size : length m ≡ length l
   pub part : Part f s m c.home c.number i j stop
   pub few : j ≤ i + most_links

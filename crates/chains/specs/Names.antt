@@ -13,7 +13,9 @@
 -- AsStored f s v       == what is first for own class v.own is what is first for the stored class at which its chain goes on, where no own
 --                         class of the chain has a name
 -- RunAlike v w         == no own class of either chain has a name, and both chains go on at the same stored class
-use Rattle.std.specs.Prelude.{ℕ, suc, ◌+◌, ◌-◌, ◌*◌, ◌<◌, ◌≤◌, ◌≡◌, Bool, true, false, List, ◌⊎◌, eqb, length, get_or}
+use Rattle.std.specs.Prelude.{ℕ, suc, ◌+◌, ◌-◌, ◌*◌, ◌<◌, ◌≤◌, ◌≡◌, Bool, true, false, List, ◌⊎◌, eqb, length, get_or, None}
+use Rattle.std.specs.Prelude.{Option as Optional}
+use Rattle.std.specs.Prelude.{Some}
 use Rattle.std.proofs.Math.Option.{none, some}
 use Rattle.rules.specs.Bytes.{Bytes, pick}
 use Rattle.rules.specs.Package.{format_of, method}
@@ -24,15 +26,12 @@ use Rattle.files.specs.Say as files
 use Rattle.homes.specs.Homes.{own_home}
 use Rattle.homes.specs.declared.Home.{Home}
 use Rattle.classes.specs.Say.{ClassThere, AtClass}
-use Rattle.classes.specs.declared.ClassFound.{ClassFound}
-use Rattle.classes.specs.declared.ClassFound.TheVariants as classes
 use Rattle.classes.specs.declared.ClassSpot.{ClassSpot}
 use Rattle.methods.specs.Table.{name_at, Has, Nameless, Sorted, Entered}
-use Rattle.chains.specs.Say.{FirstIs, RunningThere, RunsIs}
+use Rattle.chains.specs.Say.{runs_at, FirstIs, RunningThere, RunsIs}
 use Rattle.chains.specs.Chain.{most_links, names_start, link_home, Leaves, Part, Same}
 use Rattle.chains.specs.declared.Names.{Names}
-use Rattle.chains.specs.declared.RunsFound.{RunsFound}
-use Rattle.chains.specs.declared.RunsFound.TheVariants as runs
+use Rattle.chains.specs.declared.MethodSpot.{MethodSpot}
 
 abbrev pub text_of : Bytes → Bytes → Home → Bytes
 text_of f s h = pick (eqb h.from 0) f s
@@ -74,40 +73,40 @@ pub record HomeFor (l : List ℕ) (i q : ℕ) (g : Home) : Type 0 where
 abbrev pub HomeForIs : List ℕ → ℕ → ℕ → Home → Type 0
 HomeForIs l i q r = (g : Home) → HomeFor l i q g → r ≡ g
 
-abbrev pub Above : Bytes → Bytes → ClassFound → ℕ → RunsFound → Type 0
-Above f s (classes.At d) x r = FirstIs f s d.home d.number x r
-Above f s classes.Nothing x r = r ≡ runs.Nothing
+abbrev pub Above : Bytes → Bytes → Optional ClassSpot → ℕ → Optional MethodSpot → Type 0
+Above f s (Some d) x r = FirstIs f s d.home d.number x r
+Above f s None x r = r ≡ None
 
-pub record Gathered (f s : Bytes) (l : List ℕ) (h : Home) (n : ℕ) (stop : ClassFound) (a e : ℕ) : Type 0 where
+pub record Gathered (f s : Bytes) (l : List ℕ) (h : Home) (n : ℕ) (stop : Optional ClassSpot) (a e : ℕ) : Type 0 where
   pub sorted : Sorted (text_of f s h) l a e
-  pub hit : (q : ℕ) → Has l a e q → (g : Home) × HomeFor l (first_link h) q g × FirstIs f s h n (name_at (text_of f s h) q) (runs.At g (q - g.from))
-  pub rest : (x : ℕ) → Nameless (text_of f s h) l a e x → (r : RunsFound) → Above f s stop x r → FirstIs f s h n x r
+  pub hit : (q : ℕ) → Has l a e q → (g : Home) × HomeFor l (first_link h) q g × FirstIs f s h n (name_at (text_of f s h) q) (runs_at g (q - g.from))
+  pub rest : (x : ℕ) → Nameless (text_of f s h) l a e x → (r : Optional MethodSpot) → Above f s stop x r → FirstIs f s h n x r
 
 -- a class, and a part of a chain that begins with it
 abbrev pub PartThere : Bytes → Bytes → List ℕ → Home → ℕ → ℕ → Type 0
-PartThere f s l h n j = ClassThere f s h n × (stop : ClassFound) × Part f s l h n (first_link h) j stop
+PartThere f s l h n j = ClassThere f s h n × (stop : Optional ClassSpot) × Part f s l h n (first_link h) j stop
 
 -- what gathering a part does to a table
 pub record GatheredAll (f s : Bytes) (l m : List ℕ) (h : Home) (n j a r : ℕ) : Type 0 where
-  pub is : (stop : ClassFound) → Part f s l h n (first_link h) j stop → Gathered f s m h n stop a r
+  pub is : (stop : Optional ClassSpot) → Part f s l h n (first_link h) j stop → Gathered f s m h n stop a r
   pub size : length m ≡ length l
   pub below : Same l m 0 a
   pub end : r ≤ a + 64 * (j - first_link h)
 
 -- the first method of name x for own class b stands at place q of the bytes that hold it
 abbrev pub Hit : Bytes → Bytes → List ℕ → ℕ → ℕ → ℕ → ℕ → ℕ → Type 0
-Hit f s l i end b q x = (g : Home) × HomeFor l i q g × FirstIs f s (own_home end) b x (runs.At g (q - g.from))
+Hit f s l i end b q x = (g : Home) × HomeFor l i q g × FirstIs f s (own_home end) b x (runs_at g (q - g.from))
 
 abbrev pub HitThere : Bytes → Bytes → List ℕ → ℕ → ℕ → Type 0
 HitThere f s l i q = (end : ℕ) × (b : ℕ) × (x : ℕ) × RunningThere f s end b × Hit f s l i end b q x
 
-abbrev pub HitRuns : Bytes → Bytes → List ℕ → ℕ → ℕ → RunsFound → Type 0
+abbrev pub HitRuns : Bytes → Bytes → List ℕ → ℕ → ℕ → Optional MethodSpot → Type 0
 HitRuns f s l i q r = (end b x : ℕ) → RunningThere f s end b → Hit f s l i end b q x → RunsIs f s end b x r
 
 -- the stored names, for the stored class at which the chain goes on
-abbrev pub StoredIs : Bytes → Bytes → List ℕ → ℕ → ClassFound → Type 0
-StoredIs f s l e (classes.At d) = Gathered f s l d.home d.number classes.Nothing names_start e
-StoredIs f s l e classes.Nothing = e ≡ names_start
+abbrev pub StoredIs : Bytes → Bytes → List ℕ → ℕ → Optional ClassSpot → Type 0
+StoredIs f s l e (Some d) = Gathered f s l d.home d.number None names_start e
+StoredIs f s l e None = e ≡ names_start
 
 -- the links, and room for 64 names of each class that the depth limit allows
 abbrev pub names_length : Bytes → ℕ
@@ -117,7 +116,7 @@ abbrev pub names_of : ℕ → ℕ → ℕ → ℕ → ClassSpot → Names
 names_of end own stored all c = record { end = end; own = own; stored = stored; all = all; home = c.home; number = c.number }
 
 pub record NamesIs (f s : Bytes) (l : List ℕ) (v : Names) : Type 0 where
-  pub stop : ClassFound
+  pub stop : Optional ClassSpot
   pub leaves : Leaves (own_home v.end) stop
   pub own : Gathered f s l (own_home v.end) v.own stop v.stored v.all
   pub stored : StoredIs f s l v.stored stop
@@ -129,7 +128,7 @@ Few f s h n e = AtClass f s h n λ end es self x k. (m : ℕ) → depth_up_to (i
     names_start + 64 * m
 
 pub record KeptFor (f s : Bytes) (l : List ℕ) (h : Home) (n e : ℕ) : Type 0 where
-  pub names : Gathered f s l h n classes.Nothing names_start e
+  pub names : Gathered f s l h n None names_start e
   pub few : Few f s h n e
 
 abbrev pub Kept : Bytes → Bytes → List ℕ → Names → Type 0
@@ -140,7 +139,7 @@ NoneKept v = v.home.from ≡ 0
 
 -- the first method of each name is that of the stored class at which the chain goes on
 abbrev pub AsStored : Bytes → Bytes → Names → Type 0
-AsStored f s v = 0 < v.home.from → v.all ≡ v.stored → (x : ℕ) (r : RunsFound) → FirstIs f s v.home v.number x r →
+AsStored f s v = 0 < v.home.from → v.all ≡ v.stored → (x : ℕ) (r : Optional MethodSpot) → FirstIs f s v.home v.number x r →
     FirstIs f s (own_home v.end) v.own x r
 
 -- so it is for both, and the class is the same
@@ -159,4 +158,4 @@ pub record Room (f s : Bytes) (l : List ℕ) : Type 0 where
 
 -- nothing runs for any name, where the answer is yes
 abbrev pub NoneRuns : Bytes → Bytes → ℕ → ℕ → Bool → Type 0
-NoneRuns f s end b r = r ≡ true → (x : ℕ) → RunsIs f s end b x runs.Nothing
+NoneRuns f s end b r = r ≡ true → (x : ℕ) → RunsIs f s end b x None

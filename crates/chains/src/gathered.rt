@@ -6,7 +6,6 @@ ghost use Rattle.chains.specs.Names.{text_of, first_link, Held, Added, Gathers, 
 ghost use Rattle.chains.specs.Say.{RecordThere, MethodHere};
 
 use super::linked::{first_link, link_home, link_place};
-use fields::wide;
 use homes::Home;
 
 // Enters the method at place m of the file g, which stands in t from `base` on, among the names from a up to e, unless it is static.
@@ -44,13 +43,11 @@ fn gather_class(
     ensures { Gathers g.now t.now names.old names.new c base a e result }
 {
     let start = files::methods_of(g, c);
-    let mut left = wide(g[start]);
     let mut m = start + 1;
     let mut to = e;
-    while 0 < left {
+    for _ in 0..usize::from(g[start]) {
         to = add_method(g, t, &mut *names, base, m, a, to);
         m = files::after_method(g, m);
-        left -= 1;
     }
     to
 }
@@ -80,9 +77,8 @@ pub fn gather<'a>(
     requires f_len_bound { (length f.now ≤ 65535) × (length s.now ≤ 65535) }
     ensures { GatheredAll f.now s.now names.old names.new h n last a result }
 {
-    let mut i = first_link(h);
     let mut to = a;
-    while i < last {
+    for i in first_link(h)..last {
         let g = link_home(&*names, i);
         let c = link_place(&*names, i);
         let base = g.from;
@@ -95,7 +91,6 @@ pub fn gather<'a>(
             a,
             to,
         );
-        i += 1;
     }
     to
 }

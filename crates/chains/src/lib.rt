@@ -13,16 +13,16 @@ ghost use Rattle.chains.specs.Names.{names_of, HitThere, HitRuns, NamesIs, Kept,
 ghost use Rattle.chains.specs.Say.{MethodHere, IfImplemented, RunningThere, RunsIs};
 ghost use Rattle.rules.specs.Store.{store_limits};
 
-use classes::{ClassFound, ClassSpot};
+use classes::ClassSpot;
 use gathered::gather;
 use homes::Home;
-use linked::{find_part, home_before, number_in};
+use linked::{find_part, home_before};
 
-// The method that runs, by its package's home and its place in the file there, or none.
+// A method where it stands: the home of its file, and its place there.
 #[derive(Clone, Copy)]
-pub enum RunsFound {
-    At(Home, usize),
-    Nothing,
+pub struct MethodSpot {
+    pub home: Home,
+    pub place: usize,
 }
 
 // The names of own class `own` over the entries that end at `end`: the names of stored classes end at `stored`, those of own classes
@@ -38,18 +38,18 @@ pub struct Names {
 }
 
 // The method at a place of the file at a home, if implemented.
-fn if_implemented(g: &[u8], h: Home, at: usize) -> RunsFound
+fn if_implemented(g: &[u8], h: Home, at: usize) -> Option<MethodSpot>
     requires { MethodHere g.now at }
     ensures { IfImplemented g.now h at result }
 {
     if !files::is_implemented(g, at) {
-        return RunsFound::Nothing;
+        return None;
     }
-    RunsFound::At(h, at)
+    Some(MethodSpot { home: h, place: at })
 }
 
 // The method at place q of the bytes that hold it, whose home is that of a link from i on, if implemented.
-fn if_runs<'a>(f: &'a [u8], s: &'a [u8], names: &[u16], i: usize, q: usize) -> RunsFound
+fn if_runs<'a>(f: &'a [u8], s: &'a [u8], names: &[u16], i: usize, q: usize) -> Option<MethodSpot>
     requires hit_there { HitThere f.now s.now names.now i q }
     requires i_le_most_links { (i ≤ most_links) × (names_start ≤ length names.now) }
     ensures { HitRuns f.now s.now names.now i q result }
@@ -66,22 +66,18 @@ pub fn running_method<'a>(
     names: &[u16],
     v: Names,
     name: usize,
-) -> RunsFound
+) -> Option<MethodSpot>
     requires running_there { RunningThere f.now s.now v.end v.own }
     requires names_is { NamesIs f.now s.now names.now v }
     ensures { RunsIs f.now s.now v.end v.own name result }
 {
-    let stored = v.stored;
-    let all = v.all;
-    let i = methods::find(f, names, stored, all, name);
-    if i < all {
-        return if_runs(f, s, names, 16, number_in(names[i]));
+    match methods::find(f, names, v.stored, v.all, name) {
+        Some(i) => if_runs(f, s, names, 16, usize::from(names[i])),
+        None => match methods::find(s, names, 128, v.stored, name) {
+            Some(j) => if_runs(f, s, names, 0, usize::from(names[j])),
+            None => None,
+        },
     }
-    let j = methods::find(s, names, 128, stored, name);
-    if j < stored {
-        return if_runs(f, s, names, 0, number_in(names[j]));
-    }
-    RunsFound::Nothing
 }
 
 // Has the chain of own class v.own no non-static method at all? Then nothing runs for any name.
@@ -89,41 +85,21 @@ pub fn none_run<'a>(f: &'a [u8], s: &'a [u8], names: &[u16], v: Names) -> bool
     requires { NamesIs f.now s.now names.now v }
     ensures { NoneRuns f.now s.now v.end v.own result }
 {
-    if v.all == 128 {
-        return true;
-    }
-    false
+    v.all == 128
 }
 
 // No names, before the first own class.
 pub fn no_names(end: usize) -> Names
     ensures { (result.end ≡ end) × NoneKept result }
 {
-    let h = homes::own_home(end);
     Names {
-        end: end,
+        end,
         own: 0,
         stored: 128,
         all: 128,
-        home: h,
+        home: homes::own_home(end),
         number: 0,
     }
-}
-
-// Are two classes, by home and number, the same?
-fn same_class(g: Home, m: usize, h: Home, n: usize) -> bool
-    ensures { result ≡ true → (g ≡ h) × (m ≡ n) }
-{
-    if g.from != h.from {
-        return false;
-    }
-    if g.to != h.to {
-        return false;
-    }
-    if g.before != h.before {
-        return false;
-    }
-    m == n
 }
 
 // Do the same methods run for the own classes of both names? They do where no own class of either chain has a non-static method, and both
@@ -131,16 +107,11 @@ fn same_class(g: Home, m: usize, h: Home, n: usize) -> bool
 pub fn run_alike(v: Names, w: Names) -> bool
     ensures { result ≡ true → RunAlike v w }
 {
-    if v.home.from == 0 {
-        return false;
-    }
-    if v.all != v.stored {
-        return false;
-    }
-    if w.all != w.stored {
-        return false;
-    }
-    same_class(v.home, v.number, w.home, w.number)
+    v.home.from != 0
+        && v.all == v.stored
+        && w.all == w.stored
+        && v.home == w.home
+        && v.number == w.number
 }
 
 // The names of the chain from stored class d on, from number 128 of the table up to the number told: those kept, if they are of this class.
@@ -163,7 +134,7 @@ fn stored_names<'a>(
     let g = d.home;
     let n = d.number;
     let to = kept.stored;
-    if same_class(g, n, kept.home, kept.number) {
+    if g == kept.home && n == kept.number {
         return to;
     }
     let stop = find_part(f, s, kept.end, index, &mut *names, slots, d);
@@ -174,13 +145,12 @@ fn stored_names<'a>(
 fn names_of(end: usize, own: usize, stored: usize, all: usize, c: ClassSpot) -> Names
     ensures { result ≡ names_of end own stored all c }
 {
-    let h = c.home;
     Names {
-        end: end,
-        own: own,
-        stored: stored,
-        all: all,
-        home: h,
+        end,
+        own,
+        stored,
+        all,
+        home: c.home,
         number: c.number,
     }
 }
@@ -208,12 +178,12 @@ pub fn find_names<'a>(
     let last = stop.link;
     let next = stop.next;
     match next {
-        ClassFound::At(d) => {
+        Some(d) => {
             let to = stored_names(f, s, index, &mut *names, slots, kept, d);
             let all = gather(f, s, names, h, b, last, to);
             names_of(kept.end, b, to, all, d)
         }
-        ClassFound::Nothing => {
+        None => {
             let all = gather(f, s, names, h, b, last, 128);
             names_of(kept.end, b, 128, all, x)
         }

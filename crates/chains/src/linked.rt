@@ -5,7 +5,7 @@ ghost use Rattle.slots.specs.Slots.{SlotsTrue};
 ghost use Rattle.chains.specs.Chain.{most_links, all_links, names_start, link_home, link_place, with_link, PartRoom, PartIs};
 ghost use Rattle.chains.specs.Names.{first_link, HomeForIs};
 
-use classes::{ClassFound, ClassSpot};
+use classes::ClassSpot;
 use homes::Home;
 use slots::parents;
 
@@ -13,14 +13,7 @@ use slots::parents;
 #[derive(Clone, Copy)]
 pub struct Stop {
     pub link: usize,
-    pub next: ClassFound,
-}
-
-// A number of the table.
-pub fn number_in(x: u16) -> usize
-    ensures { result ≡ x }
-{
-    x as usize
+    pub next: Option<ClassSpot>,
 }
 
 // Writes link i: the home of a class's package, and the place of its record in the file there.
@@ -29,11 +22,8 @@ fn set_link(names: &mut [u16], i: usize, h: Home, c: usize)
     requires from_bound { (h.from ≤ 65535) × (h.to ≤ 65535) × (h.before ≤ 65535) × (c ≤ 65535) }
     ensures { names.new ≡ with_link names.old i h c }
 {
-    let at = 4 * i;
-    names[at] = h.from as u16;
-    names[at + 1] = h.to as u16;
-    names[at + 2] = h.before as u16;
-    names[at + 3] = c as u16;
+    slots::put_home(&mut *names, 4 * i, h);
+    names[4 * i + 3] = c as u16;
 }
 
 // The home of link i.
@@ -41,12 +31,7 @@ pub fn link_home(names: &[u16], i: usize) -> Home
     requires { (i < all_links) × (names_start ≤ length names.now) }
     ensures { result ≡ link_home names.now i }
 {
-    let at = 4 * i;
-    Home {
-        from: number_in(names[at]),
-        to: number_in(names[at + 1]),
-        before: number_in(names[at + 2]),
-    }
+    slots::home_in(names, 4 * i)
 }
 
 // The place of its record.
@@ -54,7 +39,7 @@ pub fn link_place(names: &[u16], i: usize) -> usize
     requires { (i < all_links) × (names_start ≤ length names.now) }
     ensures { result ≡ link_place names.now i }
 {
-    number_in(names[4 * i + 3])
+    usize::from(names[4 * i + 3])
 }
 
 // The first link of the part to which a home belongs.
@@ -83,43 +68,46 @@ pub fn find_part<'a>(
     ensures part_is { PartIs f.now s.now names.old names.new c (first_link c.home) result.link result.next }
     ensures slots_true { SlotsTrue f.now s.now slots.new }
 {
-    let mut i = first_link(c.home);
     let mut x = c;
-    while i < 32 {
+    for i in first_link(c.home)..32 {
         let at = parents::place_of(f, s, slots, x);
         set_link(&mut *names, i, x.home, at);
-        i += 1;
         let n = parents::kind0_parent(f, s, end, index, slots, x);
         match n {
-            ClassFound::At(d) => {
+            Some(d) => {
                 if x.home.from < d.home.from {
-                    return Stop { link: i, next: n };
+                    return Stop {
+                        link: i + 1,
+                        next: n,
+                    };
                 }
                 x = d;
             }
-            ClassFound::Nothing => {
-                return Stop { link: i, next: n };
+            None => {
+                return Stop {
+                    link: i + 1,
+                    next: n,
+                };
             }
         }
     }
     Stop {
-        link: i,
-        next: ClassFound::Nothing,
+        link: 32,
+        next: None,
     }
 }
 
 // The home of the first link from i on that does not lie behind place q.
+// Kept: a home of zeros behind the loop, where every caller has a link: a function that could not fail still cannot.
 pub fn home_before(names: &[u16], i: usize, q: usize) -> Home
     requires { (i ≤ most_links) × (names_start ≤ length names.now) }
     ensures { HomeForIs names.now i q result }
 {
-    let mut k = i;
-    while k < 32 {
+    for k in i..32 {
         let h = link_home(names, k);
         if h.from <= q {
             return h;
         }
-        k += 1;
     }
     Home {
         from: 0,

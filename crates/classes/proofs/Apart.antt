@@ -1,4 +1,5 @@
 -- Where the homes of a class and of its kind-0 parent lie to each other. Assumes nothing.
+use Rattle.std.specs.Prelude.{Some}
 use Prim.Native.Nat.{ℕ, ◌≤◌, ◌<◌}
 use native.Mathlib.Omega.{arith}
 use mathlib.Core.Path.{◌≡◌, refl}
@@ -14,7 +15,6 @@ use Rattle.homes.specs.declared.Home.{Home}
 use Rattle.homes.proofs.Homes.{home_below}
 use Rattle.classes.specs.Say.{Judged, ClassIn, Nearer, Kind0ParentIs}
 use Rattle.classes.specs.declared.ClassSpot.{ClassSpot}
-use Rattle.classes.specs.declared.ClassFound.TheVariants as classes
 
 -- of two homes one of which is the nearer: they are one, or that one's file lies before the other's in the store, or the other is that of the file being judged
 pub data Apart (h g : Home) : Type 0 where
@@ -34,7 +34,7 @@ module _ (f s : Bytes) (end : ℕ) (es : List Entry) (self : Installed) (j : Set
 
 -- a class and its kind-0 parent
 pub parent_apart : (f s : Bytes) (end : ℕ) (h : Home) (n : ℕ) (d : ClassSpot) → ClassIn (Judged f s end) f s end h n → Kind0ParentIs f s h n
-    (classes.At d) → Nearer h d.home → Apart h d.home
+    (Some d) → Nearer h d.home → Apart h d.home
 parent_apart f s end h n d c q z =
     let u = q end c.entries c.self c.asked c.pack c.home c.class c.is in
     homes_apart f s end c.entries c.self c.asked.parents.imported.setting h d.home c.pack u.0 c.home u.1 z

@@ -1,4 +1,5 @@
 -- Parents where they stand: each exists, and its rank is smaller; the first of kind 0. Assumes nothing.
+use Rattle.std.specs.Prelude.{Some, None}
 use Prim.Native.Nat.{ℕ, zero, suc, ◌+◌, ◌*◌, ◌≤◌, ◌<◌}
 use native.Mathlib.Omega.{arith}
 use native.Mathlib.Numerals.{add-one}
@@ -22,11 +23,9 @@ use Rattle.store.specs.Entries.{part}
 use Rattle.homes.specs.Homes.{Parents, HomeIs, NumberedIs, RecordIs}
 use Rattle.homes.specs.Homes as homes
 use Rattle.homes.specs.declared.Home.{Home}
-use Rattle.homes.specs.declared.HomeFound.TheVariants as found
 use Rattle.homes.proofs.Homes.{stored_yes, parent_smaller}
 use Rattle.classes.specs.Say.{Judged, ClassThere, AtClass, CountIs, ParentThere, rank, NamedAt, Nearer, ParentIs, Kind0Is, Kind0ParentIs}
 use Rattle.classes.specs.declared.ClassSpot.{ClassSpot}
-use Rattle.classes.specs.declared.ClassFound.TheVariants.{At, Nothing}
 use Rattle.classes.proofs.Records.{record_front, at_split}
 
 -- a package that a file names is found the same among more entries
@@ -79,11 +78,11 @@ module _ (f s : Bytes) (end : ℕ) (es : List Entry) (self : Installed) where
       record { pack = y; home = o; named = z; class = k.0; is = k.1 }
 
   pub parent_named : Judged f s end es self → (h : Home) (x : Installed) → HomeIs f s end es self h x → (n : ℕ) (k : Class) → at x.pack.classes n ≡ some k →
-      (p : ClassNumber) → Memᴰ p k.parents → (g : Home) (m : ℕ) → m ≡ p.class → m < 256 → NumberedIs f s h p.pack (found.At g) →
+      (p : ClassNumber) → Memᴰ p k.parents → (g : Home) (m : ℕ) → m ≡ p.class → m < 256 → NumberedIs f s h p.pack (Some g) →
       NamedAt f s end es self x p (record { home = g; number = m }) × (rank g m < rank h n) × Nearer h g
   parent_named j h x o n k e p mem g m z small q = go p.pack refl q
     where
-      go : (a : ℕ) → p.pack ≡ a → NumberedIs f s h a (found.At g) → NamedAt f s end es self x p (record { home = g; number = m }) ×
+      go : (a : ℕ) → p.pack ≡ a → NumberedIs f s h a (Some g) → NamedAt f s end es self x p (record { home = g; number = m }) ×
           (rank g m < rank h n) × Nearer h g
       go zero w q =
           let same : g ≡ h = cc in
@@ -100,10 +99,10 @@ module _ (f s : Bytes) (end : ℕ) (es : List Entry) (self : Installed) where
   -- a parent's package is never missing
   pub parent_missing : Judged f s end es self → (h : Home) (x : Installed) → HomeIs f s end es self h x → (n : ℕ) (k : Class) → at x.pack.classes n ≡
       some k →
-      (p : ClassNumber) → Memᴰ p k.parents → NumberedIs f s h p.pack found.Nothing → ⊥
+      (p : ClassNumber) → Memᴰ p k.parents → NumberedIs f s h p.pack None → ⊥
   parent_missing j h x o n k e p mem q = go p.pack refl q
     where
-      go : (a : ℕ) → p.pack ≡ a → NumberedIs f s h a found.Nothing → ⊥
+      go : (a : ℕ) → p.pack ≡ a → NumberedIs f s h a None → ⊥
       go zero w q = let z : ◌≡◌ {A = ℕ} 0 1 = cc in omega arith
       go (suc a) w q =
           let t : package_numbered (installed (store_limits s) es) x (suc a) ≡ none = q end es self j.parents.imported x o in
@@ -113,20 +112,20 @@ module _ (f s : Bytes) (end : ℕ) (es : List Entry) (self : Installed) where
 
 module _ (f s : Bytes) (h : Home) (n i : ℕ) (r : Bytes) (p : RecordIs f s h n r) (a b : ℕ) (ea : a ≡ get_or r (2 + 2 * i) 0) (eb : b ≡ get_or r (3 + 2 * i) 0) where
   -- parent i of a class
-  pub parent_is : (g : Home) → b < 256 → NumberedIs f s h a (found.At g) → ParentIs f s h n i (record { home = g; number = b })
+  pub parent_is : (g : Home) → b < 256 → NumberedIs f s h a (Some g) → ParentIs f s h n i (record { home = g; number = b })
   parent_is g small q end es self j x o k e m at_i =
       let t = (record_front f s h n r p end es self j x o k e).pair i m at_i in
       parent_named f s end es self j h x o n k e m (at_mem k.parents i m at_i) g b (eb ∙ t.1) small
-      (subst (λ (v : ℕ). NumberedIs f s h v (found.At g)) (ea ∙ t.0) q)
+      (subst (λ (v : ℕ). NumberedIs f s h v (Some g)) (ea ∙ t.0) q)
 
-  pub parent_none : ParentThere f s h n i → NumberedIs f s h a found.Nothing → ⊥
+  pub parent_none : ParentThere f s h n i → NumberedIs f s h a None → ⊥
   parent_none t q =
       let c = t.class.1 in
       let m = at_split c.class.parents i t.inside in
       let u = (record_front f s h n r p t.class.0 c.entries c.self c.asked c.pack c.home c.class c.is).pair i m.0 m.1 in
       parent_missing f s t.class.0 c.entries c.self c.asked h c.pack c.home n c.class c.is m.0
       (at_mem c.class.parents i m.0 m.1)
-      (subst (λ (v : ℕ). NumberedIs f s h v found.Nothing) (ea ∙ u.0) q)
+      (subst (λ (v : ℕ). NumberedIs f s h v None) (ea ∙ u.0) q)
 
 -- the first parent of kind 0 is that of the parents from i on
 abbrev pub Kind0From : Bytes → Bytes → Home → ℕ → ℕ → Type 0
@@ -143,7 +142,7 @@ pub kind0_start : (f s : Bytes) (h : Home) (n : ℕ) → Kind0From f s h n 0
 kind0_start f s h n end es self j x o k e = rw e
 
 module _ (f s : Bytes) (h : Home) (n count i : ℕ) (q : CountIs f s h n count) (inv : Kind0From f s h n i) where
-  pub kind0_none : count ≤ i → Kind0ParentIs f s h n Nothing
+  pub kind0_none : count ≤ i → Kind0ParentIs f s h n None
   kind0_none z end es self j x o k e =
       let d : drop i k.parents ≡ [] = drop_of_length-le k.parents {i = i} (omega (arith, q end es self j x o k e)) in
       inv end es self j x o k e ∙ ap (λ (ps : List ClassNumber). find is_kind0 (parents_named (installed (store_limits s) es) x ps)) d
@@ -182,7 +181,7 @@ module _ (f s : Bytes) (h : Home) (n count i : ℕ) (q : CountIs f s h n count) 
         let m = at_split c.class.parents i (parent_there t z).inside in
         (p t.0 c.entries c.self c.asked c.pack c.home c.class c.is m.0 m.1).1
 
-    pub kind0_hit : Kind0Is f s r.home r.number true → Kind0ParentIs f s h n (At r)
+    pub kind0_hit : Kind0Is f s r.home r.number true → Kind0ParentIs f s h n (Some r)
     kind0_hit y end es self j x o k e =
         let m = at_split k.parents i (omega (arith, q end es self j x o k e)) in
         let c = (p end es self j x o k e m.0 m.1).0 in

@@ -1,4 +1,5 @@
 -- A class where it stands: the places of its record and of its list of methods, and the depth of own classes. Assumes nothing.
+use Rattle.std.specs.Prelude.{Some, None}
 use Prim.Native.Nat.{ℕ, suc, ◌≤◌}
 use mathlib.Core.Path.{◌≡◌, sym, ◌∙◌, subst}
 use mathlib.Core.List.{List}
@@ -16,7 +17,6 @@ use Rattle.places.specs.Reads.{Reads}
 use Rattle.places.proofs.Track.{placed_at, placed_none}
 use Rattle.files.specs.Say.{MethodsAt}
 use Rattle.files.specs.Say as say
-use Rattle.files.specs.declared.Spot.TheVariants as spots
 use Rattle.homes.specs.Homes.{file_of, format_at, own_home, HomeIs, ClassPlaced}
 use Rattle.homes.specs.Homes as homes
 use Rattle.homes.specs.declared.Home.{Home}
@@ -28,7 +28,7 @@ module _ (f s : Bytes) (h : Home) (n : ℕ) where
   there_bounds t = let c = t.1 in home_bounds f s t.0 c.entries c.self h c.pack c.home
 
   -- the place of a class's record
-  pub class_at : (i : ℕ) → ClassPlaced f s h n (spots.At i) → (end : ℕ) (es : List Entry) (self : Installed) → Judged f s end es self → (x : Installed) →
+  pub class_at : (i : ℕ) → ClassPlaced f s h n (Some i) → (end : ℕ) (es : List Entry) (self : Installed) → Judged f s end es self → (x : Installed) →
       HomeIs f s end es self h x →
       (k : Class) → at x.pack.classes n ≡ some k → (j : ℕ) × Reads (class (format_at s (file_of f s h)) x.pack.domains) (file_of f s h) i k j
   class_at i p end es self j x o k e =
@@ -36,11 +36,11 @@ module _ (f s : Bytes) (h : Home) (n : ℕ) where
       let z : y.0 ≡ k = some-injective _ _ (sym y.2 ∙ e) in
       (y.1, subst (λ (a : Class). Reads (class (format_at s (file_of f s h)) x.pack.domains) (file_of f s h) i a y.1) z y.3)
 
-  pub class_nowhere : (i : ℕ) → ClassPlaced f s h n spots.Nothing → ClassThere f s h n → RecordAt f s h n i
+  pub class_nowhere : (i : ℕ) → ClassPlaced f s h n None → ClassThere f s h n → RecordAt f s h n i
   class_nowhere i p t = let c = t.1 in absurd
       (none_some (sym (placed_none (p t.0 c.entries c.self c.asked.parents.imported c.pack c.home)) ∙ c.is))
 
-  pub class_there : (g : Bytes) (i : ℕ) → g ≡ file_of f s h → ClassPlaced f s h n (spots.At i) → ClassThere f s h n → say.ClassThere g i
+  pub class_there : (g : Bytes) (i : ℕ) → g ≡ file_of f s h → ClassPlaced f s h n (Some i) → ClassThere f s h n → say.ClassThere g i
   class_there g i z p t =
       let c = t.1 in
       let y = class_at i p t.0 c.entries c.self c.asked c.pack c.home c.class c.is in (
@@ -55,7 +55,7 @@ module _ (f s : Bytes) (h : Home) (n : ℕ) where
       )
 
   -- the list of methods
-  pub methods_in_lem : (g : Bytes) (i r : ℕ) → g ≡ file_of f s h → ClassPlaced f s h n (spots.At i) → MethodsAt g i r → MethodsIn f s h n r
+  pub methods_in_lem : (g : Bytes) (i r : ℕ) → g ≡ file_of f s h → ClassPlaced f s h n (Some i) → MethodsAt g i r → MethodsIn f s h n r
   methods_in_lem g i r z p q end es self j x o k e =
       let y = class_at i p end es self j x o k e in (
         y.0,

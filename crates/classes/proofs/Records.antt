@@ -1,4 +1,7 @@
 -- A class record as a part of its file: its kind, how many parents it has, and where each is named. Assumes nothing.
+use Rattle.std.specs.Prelude.{ℕ, Some, None}
+use Rattle.std.specs.Prelude.{Option as Optional}
+use Rattle.fields.specs.Told.{told}
 use Prim.Native.Nat.{ℕ, zero, suc, ◌+◌, ◌*◌, ◌≤◌, ◌<◌}
 use native.Mathlib.Omega.{arith}
 use mathlib.Core.Path.{◌≡◌, refl, sym, ◌∙◌, ap, subst}
@@ -21,9 +24,6 @@ use Rattle.places.proofs.Steady.{steady_u1, steady_number}
 use Rattle.places.proofs.Inverse.{reads_counted, reads_u1}
 use Rattle.places.proofs.Parts.{number_part, class_part}
 use Rattle.places.proofs.Track.{placed_at, placed_none, many_length, many_wide, many_nth}
-use Rattle.files.specs.Say.{spot}
-use Rattle.files.specs.declared.Spot.{Spot}
-use Rattle.files.specs.declared.Spot.TheVariants.{At, Nothing}
 use Rattle.homes.specs.Homes.{file_of, format_at, record_from, HomeIs, HomeThere, RecordIs}
 use Rattle.homes.specs.declared.Home.{Home}
 use Rattle.classes.specs.Say.{Judged, ClassThere, CountIs, ParentThere, Kind0Is}
@@ -83,14 +83,14 @@ module _ (f s : Bytes) (h : Home) (n : ℕ) where
         let t = p end es self j.parents.imported x o in
         go t.0 t.1 t.2
       where
-        go : (c : Spot) → Placed (class (format_at s (file_of f s h)) x.pack.domains) (file_of f s h) (at x.pack.classes n) (spot c) → r ≡ record_from
+        go : (c : Optional ℕ) → Placed (class (format_at s (file_of f s h)) x.pack.domains) (file_of f s h) (at x.pack.classes n) (told c) → r ≡ record_from
             (file_of f s h) c → Front k r
-        go (At c) q z =
+        go (Some c) q z =
             let y = placed_at q in
             let same : y.0 ≡ k = some-injective _ _ (sym y.2 ∙ e) in
             subst (λ (b : Bytes). Front k b) (sym z) (subst (λ (a : Class). Front a (drop c (file_of f s h))) same
             (front (format_at s (file_of f s h)) (limits_range_lem s).1 x.pack.domains (file_of f s h) c y.0 y.1 y.3))
-        go Nothing q z = absurd (none_some (sym (placed_none q) ∙ e))
+        go None q z = absurd (none_some (sym (placed_none q) ∙ e))
 
     there_front : (t : ClassThere f s h n) → Front t.1.class r
     there_front t = let c = t.1 in record_front t.0 c.entries c.self c.asked c.pack c.home c.class c.is

@@ -9,6 +9,8 @@
 --                          earlier one; FoundBefore == its rank is smaller
 -- RecordAt, MethodsIn   == the class's record, or its counted list of methods, stands at a place of the file at home h
 use Rattle.std.specs.Prelude.{ℕ, ◌+◌, ◌*◌, ◌<◌, ◌≡◌, Bool, List, ◌⊎◌, T, length}
+use Rattle.std.specs.Prelude.{Some, None}
+use Rattle.std.specs.Prelude.{Option as Optional}
 use Rattle.std.proofs.Math.Option.{Option, none, some}
 use Rattle.rules.specs.Bytes.{Bytes, at, u1, counted}
 use Rattle.rules.specs.Package.{most_methods, ClassNumber, Class, method}
@@ -16,12 +18,9 @@ use Rattle.rules.specs.Store.{Entry, store_limits}
 use Rattle.rules.specs.Classes.{Installed, installed, ClassAt, class_named, is_kind0, kind0_parent}
 use Rattle.rules.specs.Questions.{q14_parents}
 use Rattle.places.specs.Reads.{Reads}
-use Rattle.files.specs.declared.Spot.TheVariants as spots
 use Rattle.homes.specs.Homes.{Parents, file_of, format_at, HomeIs, ClassPlaced}
 use Rattle.homes.specs.declared.Home.{Home}
 use Rattle.classes.specs.declared.ClassSpot.{ClassSpot}
-use Rattle.classes.specs.declared.ClassFound.{ClassFound}
-use Rattle.classes.specs.declared.ClassFound.TheVariants as classes
 
 -- questions 13 and 14 were answered yes
 pub record Judged (f s : Bytes) (end : ℕ) (es : List Entry) (self : Installed) : Type 0 where
@@ -88,28 +87,28 @@ abbrev pub Kind0Is : Bytes → Bytes → Home → ℕ → Bool → Type 0
 Kind0Is f s h n r = AtClass f s h n λ end es self x k. r ≡ is_kind0 (record { home = x; number = n })
 
 -- a class told, if one is told
-abbrev pub FoundAt : Bytes → Bytes → ℕ → List Entry → Installed → Option ClassAt → ClassFound → Type 0
-FoundAt f s end es self o (classes.At r) = (y : Installed) × HomeIs f s end es self r.home y × (o ≡ some (record { home = y; number = r.number })) ×
+abbrev pub FoundAt : Bytes → Bytes → ℕ → List Entry → Installed → Option ClassAt → Optional ClassSpot → Type 0
+FoundAt f s end es self o (Some r) = (y : Installed) × HomeIs f s end es self r.home y × (o ≡ some (record { home = y; number = r.number })) ×
     (k : Class) × (at y.pack.classes r.number ≡ some k)
-FoundAt f s end es self o classes.Nothing = o ≡ none
+FoundAt f s end es self o None = o ≡ none
 
-abbrev pub Kind0ParentIs : Bytes → Bytes → Home → ℕ → ClassFound → Type 0
+abbrev pub Kind0ParentIs : Bytes → Bytes → Home → ℕ → Optional ClassSpot → Type 0
 Kind0ParentIs f s h n r = AtClass f s h n λ end es self x k. FoundAt f s end es self
     (kind0_parent (installed (store_limits s) es) (record { home = x; number = n })) r
 
 -- the class told lies at the same home, or its entry stands before
-abbrev pub FoundNearer : Home → ClassFound → Type 0
-FoundNearer h (classes.At r) = Nearer h r.home
-FoundNearer h classes.Nothing = Unit {0}
+abbrev pub FoundNearer : Home → Optional ClassSpot → Type 0
+FoundNearer h (Some r) = Nearer h r.home
+FoundNearer h None = Unit {0}
 
 -- and its rank is smaller
-abbrev pub FoundBefore : Home → ℕ → ClassFound → Type 0
-FoundBefore h n (classes.At r) = rank r.home r.number < rank h n
-FoundBefore h n classes.Nothing = Unit {0}
+abbrev pub FoundBefore : Home → ℕ → Optional ClassSpot → Type 0
+FoundBefore h n (Some r) = rank r.home r.number < rank h n
+FoundBefore h n None = Unit {0}
 
 -- the record of class n of the package at home h stands at place i of the file there
 abbrev pub RecordAt : Bytes → Bytes → Home → ℕ → ℕ → Type 0
-RecordAt f s h n i = ClassPlaced f s h n (spots.At i)
+RecordAt f s h n i = ClassPlaced f s h n (Some i)
 
 -- the place of its list of methods
 abbrev pub MethodsIn : Bytes → Bytes → Home → ℕ → ℕ → Type 0

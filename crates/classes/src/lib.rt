@@ -5,15 +5,8 @@
 use homes::Home;
 
 // A class by its package's home and its number there.
-#[derive(Clone, Copy)]
+#[derive(Clone, Copy, PartialEq, Eq)]
 pub struct ClassSpot {
     pub home: Home,
     pub number: usize,
-}
-
-// A class, or none.
-#[derive(Clone, Copy)]
-pub enum ClassFound {
-    At(ClassSpot),
-    Nothing,
 }

@@ -12,8 +12,8 @@ use Rattle.rules.specs.Bytes.{Bytes, all, some_and}
 use Rattle.rules.specs.Code.{instruction_length, split_from, split}
 use Rattle.rules.specs.Subset.{barred_at, code_without_int}
 use Rattle.rules.proofs.Splitting.{behind, split_end, split_none, split_more}
-use Rattle.instructions.specs.Table.{nonzero, Whole}
-use Rattle.instructions.proofs.Sizes.{nonzero_is, nonzero_none, whole_is}
+use Rattle.instructions.specs.Table.{Whole}
+use Rattle.instructions.proofs.Sizes.{whole_is}
 
 module _ (code : Bytes) where
   -- none of these instructions is barred, where there is a split
@@ -46,20 +46,20 @@ module _ (code : Bytes) where
     pub unbarred_end : length code ≤ at → code_without_int code ≡ true
     unbarred_end h = u.same ∙ ap none_in (split_end code at u.fuel (omega (arith, u.within)))
 
-    module _ (h : at < length code) (n : ℕ) (i : instruction_length code at ≡ nonzero n) where
+    module _ (h : at < length code) where
       -- no instruction is there whole
-      pub unbarred_broken : n ≡ 0 → code_without_int code ≡ false
-      unbarred_broken z = u.same ∙ ap none_in (split_none code at u.fuel (λ e. omega arith) (i ∙ nonzero_none n z))
+      pub unbarred_broken : instruction_length code at ≡ none → code_without_int code ≡ false
+      unbarred_broken i = u.same ∙ ap none_in (split_none code at u.fuel (λ e. omega arith) i)
 
-      module _ (z : n ≡ 0 → ⊥) where
+      module _ (n : ℕ) (i : instruction_length code at ≡ some n) (z : 0 < n) where
         pub whole : Whole code at
-        whole = whole_is (instruction_length code at) n i z
+        whole = whole_is (instruction_length code at) n i
 
         step : code_without_int code ≡ (none_in (split_from (u.fuel - 1) code (at + n)) && not (barred_at code at))
         step =
             let e : u.fuel ≡ suc (u.fuel - 1) = omega (arith, u.enough) in
             u.same ∙ ap (λ (k : ℕ). none_in (split_from k code at)) e
-            ∙ ap none_in (split_more code at (u.fuel - 1) n (λ q. omega arith) (i ∙ nonzero_is n z))
+            ∙ ap none_in (split_more code at (u.fuel - 1) n (λ q. omega arith) i)
             ∙ none_behind at (split_from (u.fuel - 1) code (at + n))
 
         -- one is barred

@@ -8,13 +8,12 @@ use lib.Dec.{T}
 use lib.ListN.{length}
 use Rattle.rules.specs.Bytes.{Bytes, is_some, some_and, list_of, flat}
 use Rattle.rules.specs.Code.{Call, call_at, calls_of, instruction_length, split_from, split, last_may_end, code_splits}
-use Rattle.instructions.specs.Table.{nonzero, Whole}
+use Rattle.std.specs.Prelude.{Some, None}
+use Rattle.std.specs.Prelude.{Option as Optional}
+use Rattle.instructions.specs.Table.{Whole}
 use Rattle.codes.specs.Calls.{kind_of, SplitsFrom, calls_from, calls_here, IndexFits}
-use Rattle.codes.specs.declared.Calling.{Calling}
 use Rattle.codes.specs.declared.CallHere.{CallHere}
-use Rattle.codes.specs.declared.CallHere.TheVariants as here
 use Rattle.rules.proofs.Splitting.{split_turn, split_ended, split_inside}
-use Rattle.instructions.proofs.Sizes.{nonzero_is, whole_nonzero}
 
 -- from offset 0 on they are the calls of the code
 pub calls_start : (code : Bytes) → calls_from code 0 ≡ calls_of code
@@ -75,26 +74,22 @@ module _ (code : Bytes) (at : ℕ) (s : SplitsFrom code at) where
 
 -- one turn of the walk from call to call: `from` is where it began, n the length of the instruction
 module _ (code : Bytes) (from at n : ℕ) (s : SplitsFrom code at) (h : at < length code) (same : calls_from code from ≡ calls_from code at)
-    (i : instruction_length code at ≡ nonzero n) (r : CallHere) (e : calls_here r ≡ call_at code at) where
-  pub walk_grows : n ≡ 0 → ⊥
-  walk_grows = whole_nonzero (instruction_length code at) n (splits_whole code at s h) i
-
+    (i : instruction_length code at ≡ some n) (r : Optional CallHere) (e : calls_here r ≡ call_at code at) where
   step : SplitsFrom code (at + n) × (calls_from code from ≡ calls_here r ++ calls_from code (at + n))
   step =
-      let t = calls_step code at s h n (i ∙ nonzero_is n walk_grows) in
+      let t = calls_step code at s h n i in
       (t.0, same ∙ t.1 ∙ ap (λ (l : List Call). l ++ calls_from code (at + n)) (sym e))
 
-  pub walk_call : (kind : Calling) (index : ℕ) → r ≡ here.Call kind index → IndexFits r → from ≤ at → at + n ≤ length code →
-      (calls_from code from ≡ record { kind = kind_of kind; index = index } ∷ calls_from code (at + n))
-      × SplitsFrom code (at + n) × (from < at + n) × (at + n ≤ length code) × (index < 65536)
-  walk_call kind index q b l k =
-      let z = walk_grows in (
-        step.1 ∙ ap (λ (x : CallHere). calls_here x ++ calls_from code (at + n)) q,
-        step.0,
-        omega arith,
-        k,
-        subst IndexFits q b,
-      )
+  pub walk_call : (c : CallHere) → r ≡ Some c → IndexFits r → from ≤ at → 0 < n → at + n ≤ length code →
+      (calls_from code from ≡ record { kind = kind_of c.kind; index = c.index } ∷ calls_from code (at + n))
+      × SplitsFrom code (at + n) × (from < at + n) × (at + n ≤ length code) × (c.index < 65536)
+  walk_call c q b l z k = (
+    step.1 ∙ ap (λ (x : Optional CallHere). calls_here x ++ calls_from code (at + n)) q,
+    step.0,
+    omega arith,
+    k,
+    subst IndexFits q b,
+  )
 
-  pub walk_on : r ≡ here.Other → SplitsFrom code (at + n) × (calls_from code from ≡ calls_from code (at + n))
-  walk_on q = (step.0, step.1 ∙ ap (λ (x : CallHere). calls_here x ++ calls_from code (at + n)) q)
+  pub walk_on : r ≡ None → SplitsFrom code (at + n) × (calls_from code from ≡ calls_from code (at + n))
+  walk_on q = (step.0, step.1 ∙ ap (λ (x : Optional CallHere). calls_here x ++ calls_from code (at + n)) q)

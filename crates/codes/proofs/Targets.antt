@@ -1,7 +1,7 @@
 -- Where an instruction branches, by the form of its opcode; the offsets of a switch, one after the other. Assumes nothing.
 --
 -- f, n == form and size of the opcode at an offset
-use Prim.Native.Nat.{ℕ, zero, suc, ◌+◌, ◌-◌, ◌*◌, ◌<◌, ◌≤◌}
+use Prim.Native.Nat.{ℕ, zero, suc, ◌+◌, ◌*◌, ◌<◌, ◌≤◌}
 use native.Mathlib.Omega.{arith}
 use native.Mathlib.Nat.{mul-suc}
 use native.Mathlib.Decide.{ℕ_discrete}
@@ -17,9 +17,8 @@ use Rattle.rules.specs.Code.{u1_at, s1_at, s2_at, by_opcode, undefined, targets_
 use Rattle.instructions.specs.Table.{switch_of, told, Says}
 use Rattle.codes.specs.Marks.{entry_targets}
 
-pub mul_less : (k n : ℕ) → 0 < n → k * n ≡ k * (n - 1) + k
-mul_less k zero h = absurd (omega arith)
-mul_less k (suc n) h = mul-suc k n ∙ ap (λ (m : ℕ). k * m + k) (omega arith)
+pub mul_less : (k n rest : ℕ) → n ≡ suc rest → k * n ≡ k * rest + k
+mul_less k n rest h = ap (λ (m : ℕ). k * m) h ∙ mul-suc k rest
 
 -- n offsets of a switch, from one at a field on
 module _ (code : Bytes) (at field step : ℕ) where
@@ -28,10 +27,9 @@ module _ (code : Bytes) (at field step : ℕ) where
   each_done zero h = refl
   each_done (suc n) h = absurd (omega arith)
 
-  pub each_more : (n : ℕ) → 0 < n → targets_each n code at field step ≡ (pos at +ℤ s2_at code field) ∷ targets_each (n - 1) code at (field + step) step
+  pub each_more : (n rest : ℕ) → n ≡ suc rest → targets_each n code at field step ≡ (pos at +ℤ s2_at code field) ∷ targets_each rest code at (field + step) step
   unfolding targets_each
-  each_more zero h = absurd (omega arith)
-  each_more (suc n) h = let q : n ≡ suc n - 1 = omega arith in ap (λ (m : ℕ). (pos at +ℤ s2_at code field) ∷ targets_each m code at (field + step) step) q
+  each_more n rest h = ap (λ (m : ℕ). targets_each m code at field step) h
 
 module _ (code : Bytes) (at f n : ℕ) (s : Says (u1_at code at) f n) where
   targets_are : targets_at code at ≡ pick (eqb f 2) ((pos at +ℤ s1_at code (at + 1)) ∷ []) (

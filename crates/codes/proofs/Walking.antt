@@ -12,9 +12,11 @@ use Rattle.rules.specs.Bytes.{Bytes, any, flat, ◌and_then◌}
 use Rattle.rules.specs.Code.{u1_at, instruction_length, split_from, split, targets_at, call_at}
 use Rattle.rules.proofs.Tests.{none_some}
 use Rattle.bits.specs.Bits.{bit_at, with_bit}
-use Rattle.instructions.specs.Table.{Says, nonzero}
-use Rattle.codes.specs.Marks.{Adds, last_of, last_in, empty, Passed, Walk}
-use Rattle.instructions.proofs.Sizes.{nonzero_is, nonzero_none}
+use Rattle.std.specs.Prelude.{Some, None}
+use Rattle.std.specs.Prelude.{Option as Optional}
+use Rattle.fields.specs.Told.{told}
+use Rattle.instructions.specs.Table.{Says}
+use Rattle.codes.specs.Marks.{Adds, last_of, last_in, LastInside, empty, Passed, Walk}
 use Rattle.rules.proofs.Splitting.{behind, split_end, split_none, split_more}
 use Rattle.codes.proofs.Adding.{any_join, adds_nil, adds_join, adds_is}
 use Rattle.codes.proofs.Targets.{no_targets}
@@ -28,7 +30,7 @@ empty_join : {A : Type 0} (xs ys : List A) → empty (xs ++ ys) ≡ (empty xs &&
 empty_join [] ys = refl
 empty_join (x ∷ xs) ys = refl
 
-last_more : (ks : List ℕ) (at : ℕ) → last_of (ks ++ at ∷ []) ≡ at + 1
+last_more : (ks : List ℕ) (at : ℕ) → last_of (ks ++ at ∷ []) ≡ some at
 last_more [] at = refl
 last_more (x ∷ []) at = refl
 last_more (x ∷ y ∷ ys) at = last_more (y ∷ ys) at
@@ -97,18 +99,18 @@ module _ (code : Bytes) (inside calls : Bool) (starts targets : Bytes) (ks : Lis
     passed_branch targets' r a = passed_more at starts' targets' r (inside && r) (calls || eqb f 1) h m a refl called_more
 
 -- what is known where a turn begins: the starts before it are passed
-pub record Walking (code : Bytes) (at last : ℕ) (inside calls : Bool) (starts targets : Bytes) : Type 0 where
+pub record Walking (code : Bytes) (at : ℕ) (last : Optional ℕ) (inside calls : Bool) (starts targets : Bytes) : Type 0 where
   pub before : List ℕ
   pub fuel : ℕ
   pub enough : length code ≤ at + fuel
   pub same : split code ≡ joined before (split_from fuel code at)
   pub passed : Passed code inside calls starts targets before
-  pub last_is : last ≡ last_of before
-  pub bound : last ≤ length code
+  pub last_is : told last ≡ last_of before
+  pub bound : LastInside (length code) last
   pub within : at ≤ length code
 
 module _ (code : Bytes) where
-  pub walking_start : (starts targets : Bytes) → ((k : ℕ) → bit_at starts k ≡ false) → ((k : ℕ) → bit_at targets k ≡ false) → Walking code 0 0 true false
+  pub walking_start : (starts targets : Bytes) → ((k : ℕ) → bit_at starts k ≡ false) → ((k : ℕ) → bit_at targets k ≡ false) → Walking code 0 None true false
       starts targets
   unfolding split
   walking_start starts targets s t = record {
@@ -124,17 +126,17 @@ module _ (code : Bytes) where
       called = refl;
     };
     last_is = refl;
-    bound = omega arith;
+    bound = tt;
     within = omega arith;
   }
 
-  module _ (at last : ℕ) (inside calls : Bool) (starts targets : Bytes) (g : Walking code at last inside calls starts targets) where
-    pub walking_on : (n : ℕ) → at < length code → instruction_length code at ≡ nonzero n → (n ≡ 0 → ⊥) → at + n ≤ length code →
+  module _ (at : ℕ) (last : Optional ℕ) (inside calls : Bool) (starts targets : Bytes) (g : Walking code at last inside calls starts targets) where
+    pub walking_on : (n : ℕ) → at < length code → instruction_length code at ≡ some n → 0 < n → at + n ≤ length code →
         (starts' targets' : Bytes) (inside' calls' : Bool) → Passed code inside' calls' starts' targets' (g.before ++ at ∷ []) →
-        Walking code (at + n) (at + 1) inside' calls' starts' targets'
+        Walking code (at + n) (Some at) inside' calls' starts' targets'
     walking_on n h e z i starts' targets' inside' calls' p = go g.fuel refl
       where
-        go : (f : ℕ) → g.fuel ≡ f → Walking code (at + n) (at + 1) inside' calls' starts' targets'
+        go : (f : ℕ) → g.fuel ≡ f → Walking code (at + n) (Some at) inside' calls' starts' targets'
         go zero q = absurd (omega (arith, g.enough))
         go (suc f) q = record {
           before = g.before ++ at ∷ [];
@@ -142,20 +144,20 @@ module _ (code : Bytes) where
           enough = omega (arith, g.enough);
           same = g.same
               ∙ ap (λ (k : ℕ). joined g.before (split_from k code at)) q
-              ∙ ap (joined g.before) (split_more code at f n (λ y. omega arith) (e ∙ nonzero_is n z))
+              ∙ ap (joined g.before) (split_more code at f n (λ y. omega arith) e)
               ∙ joined_more g.before at (split_from f code (at + n));
           passed = p;
           last_is = sym (last_more g.before at);
-          bound = omega arith;
+          bound = h;
           within = i;
         }
 
     -- no instruction is there whole
-    pub walking_bad : (n : ℕ) → at < length code → instruction_length code at ≡ nonzero n → n ≡ 0 → Walk code 0 inside calls starts targets
-    walking_bad n h e z = record { answered = sym (ap last_in none_is); bound = omega arith; passed = λ ks q. absurd (none_some (sym none_is ∙ q)) }
+    pub walking_bad : at < length code → instruction_length code at ≡ none → Walk code None inside calls starts targets
+    walking_bad h e = record { answered = sym (ap last_in none_is); bound = tt; passed = λ ks q. absurd (none_some (sym none_is ∙ q)) }
       where
         none_is : split code ≡ none
-        none_is = g.same ∙ ap (joined g.before) (split_none code at g.fuel (λ y. omega arith) (e ∙ nonzero_none n z))
+        none_is = g.same ∙ ap (joined g.before) (split_none code at g.fuel (λ y. omega arith) e)
 
     -- the end of the code is reached
     pub walking_done : length code ≤ at → Walk code last inside calls starts targets

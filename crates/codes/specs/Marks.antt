@@ -6,14 +6,17 @@
 -- LandsAt n z r          == r is below n exactly where the integer is an offset below n, and is then that offset
 -- Marks set ks           == the bits of these offsets are set, and no other
 -- Adds n old new r zs    == r says whether these integers are all offsets below n; where they are, new has their bits beside those of old
--- last_of starts          == one more than the last of these offsets, 0 where there is none
+-- last_of starts          == the last of these offsets, if there is one
 -- Walk                   == what the walk over a code leaves
 -- OfStarts n set q       == q of whatever code of n bytes and of whatever offsets in it, if these are the bits of the set
 -- BeginsIs, FitsIs, AllFitIs == the answer to whether an instruction starts at k, the handler at a place fits, all handlers in bytes fit,
 --                           where the set tells the starts
 -- code_number code hs     == the number of the first no of questions 16, 17 and 24 of one code and its handlers; 18 where all are yes and it
 --                           has a call, so that 18 and 19 are to be asked of it; else 0
-use Rattle.std.specs.Prelude.{ℕ, ◌+◌, ◌<◌, ◌≤◌, ◌≡◌, Bool, true, false, ◌||◌, not, List, [], ◌∷◌, ltb, eqb, ℤ, pos, negsuc, length}
+use Rattle.std.specs.Prelude.{ℕ, ◌+◌, ◌<◌, ◌≡◌, Bool, true, false, ◌||◌, not, List, [], ◌∷◌, ltb, eqb, ℤ, pos, negsuc, length}
+use Rattle.std.specs.Prelude.{Some, None}
+use Rattle.std.specs.Prelude.{Option as Optional}
+use Rattle.fields.specs.Told.{told}
 use Rattle.std.proofs.Math.Option.{Option, none, some}
 use Rattle.rules.specs.Bytes.{Bytes, any, all, list_of, flat}
 use Rattle.rules.specs.Code.{Switch, targets_each, targets_at, split, code_splits, code_branches, Handler, handler_fits, code_handlers, call_at, calls_of, switch_entries}
@@ -45,15 +48,20 @@ pub record Adds (n : ℕ) (old : ℕ → Bool) (new : Bytes) (r : Bool) (zs : Li
   pub answer : r ≡ all (in_code n) zs
   pub marked : r ≡ true → (k : ℕ) → bit_at new k ≡ (old k || any (goes_to k) zs)
 
-abbrev pub last_of : List ℕ → ℕ
-last_of [] = 0
-last_of (at ∷ []) = at + 1
+abbrev pub last_of : List ℕ → Option ℕ
+last_of [] = none
+last_of (at ∷ []) = some at
 last_of (at ∷ next ∷ starts) = last_of (next ∷ starts)
 
--- the same of a split, 0 where there is none
-abbrev pub last_in : Option (List ℕ) → ℕ
-last_in none = 0
+-- the same of a split
+abbrev pub last_in : Option (List ℕ) → Option ℕ
+last_in none = none
 last_in (some starts) = last_of starts
+
+-- an offset that is told lies in a code of n bytes
+abbrev pub LastInside : ℕ → Optional ℕ → Type 0
+LastInside n (Some at) = at < n
+LastInside n None = Unit
 
 -- a list without elements
 abbrev pub empty : {A : Type 0} → List A → Bool
@@ -83,9 +91,9 @@ pub record Passed (code : Bytes) (inside calls : Bool) (starts targets : Bytes) 
   pub landed : Adds (length code) (λ k. false) targets inside (flat (targets_at code) ks)
   pub called : not calls ≡ empty (flat (call_at code) ks)
 
-pub record Walk (code : Bytes) (last : ℕ) (inside calls : Bool) (starts targets : Bytes) : Type 0 where
-  pub answered : last ≡ last_in (split code)
-  pub bound : last ≤ length code
+pub record Walk (code : Bytes) (last : Optional ℕ) (inside calls : Bool) (starts targets : Bytes) : Type 0 where
+  pub answered : told last ≡ last_in (split code)
+  pub bound : LastInside (length code) last
   pub passed : (ks : List ℕ) → split code ≡ some ks → Passed code inside calls starts targets ks
 
 -- a code without calls

@@ -59,14 +59,11 @@ fn mark_each(
     ensures { Adds (length code.now) (bit_at targets.old) targets.new result (targets_each n code.now at first step) }
 {
     let mut field = first;
-    let mut left = n;
-    while 0 < left {
-        if mark_branch(code, targets, at, 0x8000, u2_at(code, field)) {
-            field += step;
-            left -= 1;
-        } else {
+    for _ in 0..n {
+        if !mark_branch(code, targets, at, 0x8000, u2_at(code, field)) {
             return false;
         }
+        field += step;
     }
     true
 }
@@ -77,7 +74,9 @@ fn mark_switch(code: &[u8], targets: &mut [u8], at: usize, form: usize, head: us
     requires lt_form { (3 < form) × Says (u1_at code.now at) form head × Whole code.now at }
     ensures { Adds (length code.now) (bit_at targets.old) targets.new result (entry_targets (switch_of form) code.now at) }
 {
-    let n = entries_of(code, at, form);
+    let Some(n) = entries_of(code, at, form) else {
+        return true;
+    };
     if form < 6 {
         return mark_each(code, targets, at, at + head, 2, n);
     }

@@ -45,12 +45,10 @@ pub fn all_fit(n: usize, starts: &[u8], handlers: &[u8]) -> bool
     requires { n ≤ 8 * length starts.now }
     ensures { AllFitIs n starts.now handlers.now result }
 {
-    let mut at = 0;
-    while at + 6 <= handlers.len() {
-        if !fits(n, starts, handlers, at) {
+    for k in 0..handlers.len() / 6 {
+        if !fits(n, starts, handlers, 6 * k) {
             return false;
         }
-        at += 6;
     }
     true
 }

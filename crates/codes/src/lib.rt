@@ -10,6 +10,7 @@ ghost use Rattle.bits.specs.Bits.{bit_at};
 ghost use Rattle.rules.specs.Code.{call_at};
 ghost use Rattle.places.specs.Parts.{handlers_in};
 ghost use Rattle.instructions.specs.Table.{TableIs, Whole};
+ghost use Rattle.refusals.specs.Order.{code_told, Before};
 ghost use Rattle.codes.specs.Marks.{Walk, code_number};
 ghost use Rattle.codes.specs.Calls.{SplitsFrom, calls_here, IndexFits, Follows};
 
@@ -17,6 +18,7 @@ use branches::mark_targets;
 use fields::u2_at;
 use handlers::all_fit;
 use instructions::{entry_at, instruction_length, may_end};
+use refusals::refusal::Refusal;
 
 // An offset in a code, counted from that code's first byte: never a place in a file.
 #[derive(Clone, Copy)]
@@ -31,29 +33,26 @@ pub enum Calling {
     Interface,
 }
 
-// What the instruction at an offset is: a call with the index of its reference, or another one.
+// A call, with the index of its reference.
 #[derive(Clone, Copy)]
-pub enum CallHere {
-    Call(Calling, usize),
-    Other,
+pub struct CallHere {
+    pub kind: Calling,
+    pub index: usize,
 }
 
-// The first call from an offset on, with the index of its reference and the offset behind it; or none is left.
+// A call, with the index of its reference and the offset behind it.
 #[derive(Clone, Copy)]
-pub enum NextCall {
-    Call {
-        kind: Calling,
-        index: usize,
-        next: CodeOffset,
-    },
-    Nothing,
+pub struct NextCall {
+    pub kind: Calling,
+    pub index: usize,
+    pub next: CodeOffset,
 }
 
-// What the walk over a code finds: one more than the offset of its last instruction, 0 where it does not split or is empty; whether
-// every branch stays inside; whether there is a call.
+// What the walk over a code finds: the offset of its last instruction, none where it does not split or is empty; whether every branch
+// stays inside; whether there is a call.
 #[derive(Clone, Copy)]
 pub struct Walked {
-    pub last: usize,
+    pub last: Option<usize>,
     pub inside: bool,
     pub calls: bool,
 }
@@ -65,21 +64,21 @@ fn walk(table: &[u8; 256], code: &[u8], starts: &mut [u8], targets: &mut [u8]) -
     ensures { Walk code.now result.last result.inside result.calls starts.new targets.new }
 {
     let mut at = 0;
-    let mut last = 0;
+    let mut last = None;
     let mut inside = true;
     let mut calls = false;
+    // Kept: a step of the walk is as long as the instruction is.
     while at < code.len() {
         let entry = entry_at(table, code[at]);
-        let n = instruction_length(code, at, entry);
-        if n == 0 {
+        let Some(n) = instruction_length(code, at, entry) else {
             return Walked {
-                last: 0,
+                last: None,
                 inside,
                 calls,
             };
-        }
+        };
         bits::set(starts, at);
-        last = at + 1;
+        last = Some(at);
         calls = calls | (entry / 16 == 1);
         if entry < 32 {
             at += n;
@@ -102,93 +101,90 @@ fn check_marked(
     handlers: &[u8],
     starts: &mut [u8],
     targets: &mut [u8],
-) -> u8
+) -> Result<bool, Refusal>
     requires { TableIs table.now × (length code.now ≤ 8 * length starts.old) × (length starts.old ≡ length targets.old) }
-    ensures { result ≡ code_number code.now (handlers_in handlers.now) }
+    ensures { (code_told result ≡ code_number code.now (handlers_in handlers.now)) × Before 18 result }
 {
     bits::clear(starts);
     bits::clear(targets);
     let found = walk(table, code, starts, targets);
-    if found.last == 0 {
-        return 16;
-    }
-    if !may_end(code[found.last - 1]) {
-        return 16;
+    let Some(last) = found.last else {
+        return Err(Refusal::CodeSplit);
+    };
+    if !may_end(code[last]) {
+        return Err(Refusal::CodeSplit);
     }
     if !found.inside {
-        return 17;
+        return Err(Refusal::BranchTarget);
     }
     if !bits::is_within(targets, starts) {
-        return 17;
+        return Err(Refusal::BranchTarget);
     }
     if !all_fit(code.len(), starts, handlers) {
-        return 24;
+        return Err(Refusal::Handler);
     }
-    if found.calls {
-        return 18;
-    }
-    0
+    Ok(found.calls)
 }
 
-// Questions 16, 17 and 24 of a code and its handlers: the number of the first no; 18 where all are yes and it has a call, of which 18 and
-// 19 are to be asked; else 0. The two sets are lent, and whatever they hold before is of no account: as many bits of them as the code has
-// bytes are used.
+// Questions 16, 17 and 24 of a code and its handlers: the first no; where all are yes, whether it has a call, of which 18 and 19 are to be
+// asked. The two sets are lent, and whatever they hold before is of no account: as many bits of them as the code has bytes are used.
 pub fn check_code(
     table: &[u8; 256],
     code: &[u8],
     handlers: &[u8],
     starts: &mut [u8],
     targets: &mut [u8],
-) -> u8
+) -> Result<bool, Refusal>
     requires { TableIs table.now × (length code.now ≤ 8 * length starts.old) × (length code.now ≤ 8 * length targets.old) }
-    ensures { result ≡ code_number code.now (handlers_in handlers.now) }
+    ensures { (code_told result ≡ code_number code.now (handlers_in handlers.now)) × Before 18 result }
 {
     let n = (code.len() + 7) / 8;
     check_marked(table, code, handlers, &mut starts[..n], &mut targets[..n])
 }
 
-// The call at an offset where an instruction is whole.
-pub fn call_at(code: &[u8], offset: CodeOffset) -> CallHere
+// The call at an offset where an instruction is whole, if it is one.
+pub fn call_at(code: &[u8], offset: CodeOffset) -> Option<CallHere>
     requires { (offset.0 < length code.now) × Whole code.now offset.0 }
     ensures { (calls_here result ≡ call_at code.now offset.0) × IndexFits result }
 {
     let at = offset.0;
-    let opcode = code[at];
-    if opcode < 0x8B {
-        return CallHere::Other;
+    match code[at] {
+        0x8B => Some(CallHere {
+            kind: Calling::Virtual,
+            index: u2_at(code, at + 1),
+        }),
+        0x8C => Some(CallHere {
+            kind: Calling::Special,
+            index: u2_at(code, at + 1),
+        }),
+        0x8D => Some(CallHere {
+            kind: Calling::Static,
+            index: u2_at(code, at + 1),
+        }),
+        0x8E => Some(CallHere {
+            kind: Calling::Interface,
+            index: u2_at(code, at + 2),
+        }),
+        _ => None,
     }
-    if 0x8E < opcode {
-        return CallHere::Other;
-    }
-    if opcode == 0x8B {
-        return CallHere::Call(Calling::Virtual, u2_at(code, at + 1));
-    }
-    if opcode == 0x8C {
-        return CallHere::Call(Calling::Special, u2_at(code, at + 1));
-    }
-    if opcode == 0x8D {
-        return CallHere::Call(Calling::Static, u2_at(code, at + 1));
-    }
-    CallHere::Call(Calling::Interface, u2_at(code, at + 2))
 }
 
-// The first call from an offset on, of a code that splits from there.
-pub fn next_call(table: &[u8; 256], code: &[u8], from: CodeOffset) -> NextCall
+// The first call from an offset on, of a code that splits from there; none where none is left.
+pub fn next_call(table: &[u8; 256], code: &[u8], from: CodeOffset) -> Option<NextCall>
     requires { TableIs table.now × SplitsFrom code.now from.0 }
     ensures { Follows code.now from.0 result }
 {
     let mut at = from.0;
     while at < code.len() {
-        let next = at + instruction_length(code, at, entry_at(table, code[at]));
-        let here = call_at(code, CodeOffset(at));
-        if let CallHere::Call(kind, index) = here {
-            return NextCall::Call {
-                kind,
-                index,
-                next: CodeOffset(next),
-            };
+        let n = instruction_length(code, at, entry_at(table, code[at]))?;
+        if let Some(call) = call_at(code, CodeOffset(at)) {
+            return Some(NextCall {
+                kind: call.kind,
+                index: call.index,
+                next: CodeOffset(at + n),
+            });
         }
-        at = next;
+        at += n;
     }
-    NextCall::Nothing
+    None
 }

@@ -13,10 +13,9 @@ pub fn without_int(table: &[u8; 256], code: &[u8]) -> bool
 {
     let mut at = 0;
     while at < code.len() {
-        let n = instruction_length(code, at, entry_at(table, code[at]));
-        if n == 0 {
+        let Some(n) = instruction_length(code, at, entry_at(table, code[at])) else {
             return false;
-        }
+        };
         if is_barred(code, at) {
             return false;
         }

@@ -1,10 +1,10 @@
 -- All that the caller's policy lists, looked for in the list of what is called where no bit tells it. Assumes nothing.
-use Prim.Native.Nat.{ℕ, ◌+◌, ◌-◌, ◌≤◌, ◌<◌}
+use Prim.Native.Nat.{ℕ, ◌+◌, ◌≤◌, ◌<◌}
 use native.Mathlib.Omega.{arith}
 use mathlib.Core.Path.{◌≡◌, refl, sym, ◌∙◌, ap, subst}
 use mathlib.Core.Bool.{Bool, true, false}
 use mathlib.Core.List.{List, [], ◌∷◌, ◌++◌, map}
-use lib.ListN.{length, take, drop, get_or}
+use lib.ListN.{length, drop, get_or}
 use Rattle.rules.specs.Bytes.{Bytes, Aid, all, u1, aid, counted}
 use Rattle.rules.specs.Package.{most_domains, Item, Policy, only}
 use Rattle.rules.specs.Classes.{item_means, meant, admits, admits_all_of}
@@ -15,7 +15,7 @@ use Rattle.policies.specs.Rows.{has_bit, with_bit, Known, Tells, NumberKept, own
 use Rattle.policies.specs.declared.TwoLists.{TwoLists}
 use Rattle.policies.proofs.Slots.{aid_own, aid_domain, slot_below, slot_most}
 use Rattle.policies.proofs.Numbers.{domain_in, domains_length}
-use Rattle.policies.proofs.Indexes.{byte_fails, byte_passes, byte_all}
+use Rattle.policies.proofs.Indexes.{all_fails, all_passes, all_end}
 use Rattle.policies.proofs.Rules.{only_list}
 use Rattle.policies.proofs.Compared.{reads_slotted, all_by_slot}
 use Rattle.coverage.specs.Covers.{TellsOf, WantedKept, Both, BitsSure, AllKept}
@@ -35,13 +35,13 @@ module _ (f : Bytes) (d : Aid) (g : Bytes) (e : Aid) (l : TwoLists) (p : Listing
   abbrev WhereLoading : (Policy → List Aid → Type 0) → Type 0
   WhereLoading s = OfPolicy g l.other p.called λ q. OfDomains f l.own λ ds. admits (meant e q) d ≡ true → s q ds
 
-  -- the loop over the indexes of the caller's policy: `left` are still to be read at c
-  abbrev pub AllLoop : List ℕ → List ℕ → ℕ → ℕ → ℕ → Type 0
-  AllLoop x y bits left c = Both f d g e l x y (BitsSure f d g e l p.called p.bits → BitsSure f d g e l p.called bits
-      × WhereLoading λ q ds. all (index_allowed q ds) (indexes_at f p.caller) ≡ all (index_allowed q ds) (take left (drop c f)))
+  -- the loop over the indexes of the caller's policy: those from number c on are still to be asked
+  abbrev pub AllLoop : List ℕ → List ℕ → ℕ → ℕ → Type 0
+  AllLoop x y bits c = Both f d g e l x y (BitsSure f d g e l p.called p.bits → BitsSure f d g e l p.called bits
+      × WhereLoading λ q ds. all (index_allowed q ds) (indexes_at f p.caller) ≡ all (index_allowed q ds) (drop c (indexes_at f p.caller)))
 
-  pub all_start : (x : List ℕ) (n : ℕ) → n ≡ get_or f p.caller 0 → AllLoop x x p.bits n (p.caller + 1)
-  all_start x n h = record { known = λ w t o k. k; holds = λ w t o k s. (s, λ gs j rg q c rq ds i rd a. rw h) }
+  pub all_start : (x : List ℕ) → AllLoop x x p.bits 0
+  all_start x = record { known = λ w t o k. k; holds = λ w t o k s. (s, λ gs j rg q c rq ds i rd a. refl) }
 
   -- what is told of all indexes is told of the caller's policy
   all_answer_lem : (b : Bool) → (get_or g p.called 0 ≡ 255 → ⊥) → (get_or f p.caller 0 ≡ 255 → ⊥) →
@@ -61,22 +61,22 @@ module _ (f : Bytes) (d : Aid) (g : Bytes) (e : Aid) (l : TwoLists) (p : Listing
       alls : (xs ys : List Item) → only xs ≡ q → only ys ≡ o → admits_all_of (meant e q) (meant d o) ≡ all (admits (meant e q)) (map (item_means d) ys)
       alls xs ys y z = rw (← y, ← z)
 
-  module _ (x y : List ℕ) (bits left c : ℕ) (s : AllLoop x y bits left c) where
+  module _ (x y : List ℕ) (bits c : ℕ) (s : AllLoop x y bits c) where
     -- the slot k of the index at hand
-    module _ (k : ℕ) (here : k ≡ slot_of (get_or f c 0)) (a : HasSlot f l.own k) (h : 0 < left) (b : c < length f) where
+    module _ (k : ℕ) (here : k ≡ slot_of (get_or (indexes_at f p.caller) c 0)) (a : HasSlot f l.own k) (h : c < length (indexes_at f p.caller)) where
       -- FE: the loading domain
-      pub all_own : own_slot ≤ k → AllLoop x y bits (left - 1) (c + 1)
+      pub all_own : own_slot ≤ k → AllLoop x y bits (c + 1)
       all_own z = record {
         known = s.known;
         holds = λ w t o r u.
             let i' = s.holds w t o r u in (
               i'.0,
               λ gs j rg q v rq ds i rd a'.
-                  i'.1 gs j rg q v rq ds i rd a' ∙ byte_passes f (index_allowed q ds) left c h b (ap (admits (meant e q)) (loading ds i rd) ∙ a'),
+                  i'.1 gs j rg q v rq ds i rd a' ∙ all_passes (indexes_at f p.caller) (index_allowed q ds) c h (ap (admits (meant e q)) (loading ds i rd) ∙ a'),
             );
       }
         where
-          loading : OfDomains f l.own λ ds. slot_aid ds d (slot_of (get_or f c 0)) ≡ d
+          loading : OfDomains f l.own λ ds. slot_aid ds d (slot_of (get_or (indexes_at f p.caller) c 0)) ≡ d
           loading ds i rd = rw (← here) (aid_own ds d k (omega (arith, slot_most ds k (has_slot a ds i rd))))
 
       -- a domain: its number, and what is told of it
@@ -110,19 +110,19 @@ module _ (f : Bytes) (d : Aid) (g : Bytes) (e : Aid) (l : TwoLists) (p : Listing
 
         -- and so the index
         index : (w : ℕ → ℕ) → Tells w f d g e l → Tells w f d f d (own_lists l.own) → Known w x → BitsSure f d g e l p.called bits →
-            OfPolicy g l.other p.called λ v. OfDomains f l.own λ ds. index_allowed v ds (get_or f c 0) ≡ r
+            OfPolicy g l.other p.called λ v. OfDomains f l.own λ ds. index_allowed v ds (get_or (indexes_at f p.caller) c 0) ≡ r
         index w t o z m gs j rg v u rv ds i rd =
             rw (← here) (ap (admits (meant e v)) (domain ds i rd) ∙ sym (allowed w t o z m gs j rg v u rv ds i rd))
 
-        pub all_fails : r ≡ false → (get_or g p.called 0 ≡ 255 → ⊥) → (get_or f p.caller 0 ≡ 255 → ⊥) → AllKept f d g e l p x y₂ false
-        all_fails z nc nr = record {
+        pub all_not : r ≡ false → (get_or g p.called 0 ≡ 255 → ⊥) → (get_or f p.caller 0 ≡ 255 → ⊥) → AllKept f d g e l p x y₂ false
+        all_not z nc nr = record {
           known = known;
           holds = λ w t o m u. all_answer_lem false nc nr λ gs j rg v i rv ds n rd a'.
               let i' = s.holds w t o m u in
-              i'.1 gs j rg v i rv ds n rd a' ∙ byte_fails f (index_allowed v ds) left c h b (index w t o m i'.0 gs j rg v i rv ds n rd ∙ z);
+              i'.1 gs j rg v i rv ds n rd a' ∙ all_fails (indexes_at f p.caller) (index_allowed v ds) c h (index w t o m i'.0 gs j rg v i rv ds n rd ∙ z);
         }
 
-        pub all_more : r ≡ true → AllLoop x y₂ (with_bit bits n) (left - 1) (c + 1)
+        pub all_more : r ≡ true → AllLoop x y₂ (with_bit bits n) (c + 1)
         all_more z = record {
           known = known;
           holds = λ w t o m u.
@@ -133,14 +133,14 @@ module _ (f : Bytes) (d : Aid) (g : Bytes) (e : Aid) (l : TwoLists) (p : Listing
                     (number w t o m ds n' rd) yes' y' mem
                     (i'.0 gs j rg v i rv ds n' rd y' mem),
                 λ gs j rg v i rv ds n' rd a'.
-                    i'.1 gs j rg v i rv ds n' rd a' ∙ byte_passes f (index_allowed v ds) left c h b (index w t o m i'.0 gs j rg v i rv ds n' rd ∙ z),
+                    i'.1 gs j rg v i rv ds n' rd a' ∙ all_passes (indexes_at f p.caller) (index_allowed v ds) c h (index w t o m i'.0 gs j rg v i rv ds n' rd ∙ z),
               );
         }
 
-    pub all_done : left ≤ 0 → (get_or g p.called 0 ≡ 255 → ⊥) → (get_or f p.caller 0 ≡ 255 → ⊥) → AllKept f d g e l p x y true
+    pub all_done : length (indexes_at f p.caller) ≤ c → (get_or g p.called 0 ≡ 255 → ⊥) → (get_or f p.caller 0 ≡ 255 → ⊥) → AllKept f d g e l p x y true
     all_done h nc nr = record {
       known = s.known;
       holds =
           λ w t o m u. all_answer_lem true nc nr λ gs j rg v i rv ds n rd a'.
-          (s.holds w t o m u).1 gs j rg v i rv ds n rd a' ∙ byte_all f (index_allowed v ds) left c h;
+          (s.holds w t o m u).1 gs j rg v i rv ds n rd a' ∙ all_end (indexes_at f p.caller) (index_allowed v ds) c h;
     }

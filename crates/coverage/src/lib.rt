@@ -8,9 +8,9 @@ ghost use Rattle.policies.specs.Rows.{row_length, HasPlaces, ListOver};
 ghost use Rattle.coverage.specs.Covers.{KnownBits, ListedKept, WantedKept, LoadingKept, AllKept, CoversKept};
 
 use fields::wide;
-use files::{Spot, aid_bytes, nth_aid};
+use files::{aid_bytes, nth_aid};
 use policies::rows::{has_bit, number_at, with_bit};
-use policies::{RightsPlace, TwoLists, listed_slot, slot};
+use policies::{RightsPlace, TwoLists, indexes_of, listed_slot, slot};
 
 // A caller's policy, the policy of what it calls, and the number of the loading domain.
 #[derive(Clone, Copy)]
@@ -42,13 +42,9 @@ fn known_mask(g: &[u8], l: TwoLists, at: usize, row: &[u8]) -> u64
     requires has_places { HasPlaces row.now l }
     ensures { KnownBits g.now l at row.now result }
 {
-    let mut left = wide(g[at]);
-    let mut c = at + 1;
     let mut m: u64 = 0;
-    while 0 < left {
-        m = with_bit(m, wide(row[l.base + slot(wide(g[c]))]));
-        c += 1;
-        left -= 1;
+    for i in indexes_of(g, at) {
+        m = with_bit(m, wide(row[l.base + slot(wide(*i))]));
     }
     m
 }
@@ -72,12 +68,13 @@ fn lists_kept(
         domains: l.other,
         policy: at,
     };
-    let k = listed_slot(g, other, p, x);
-    if k < 33 {
-        row[l.base + k] = n as u8;
-        return true;
+    match listed_slot(g, other, p, x) {
+        Some(k) => {
+            row[l.base + k] = n as u8;
+            true
+        }
+        None => false,
     }
-    false
 }
 
 // The same of a domain of the own list, told by the mask m where its bit is set.
@@ -98,8 +95,8 @@ fn lists_wanted(
         return true;
     }
     match nth_aid(f, l.own, x.index) {
-        Spot::At(a) => lists_kept(g, other, l, x.policy, aid_bytes(f, a), x.number, row),
-        Spot::Nothing => false,
+        Some(a) => lists_kept(g, other, l, x.policy, aid_bytes(f, a), x.number, row),
+        None => false,
     }
 }
 
@@ -138,17 +135,14 @@ fn lists_all<'a>(
     requires has_places { HasPlaces map.old l × (row_length ≤ length map.old) }
     ensures { AllKept f.now domain.now g.now other.now l p map.old map.new result }
 {
-    let caller = p.caller;
     let own = TwoLists {
         own: l.own,
         other: l.own,
         base: 0,
     };
-    let mut left = wide(f[caller]);
-    let mut c = caller + 1;
     let mut bits = p.bits;
-    while 0 < left {
-        let i = slot(wide(f[c]));
+    for k in indexes_of(f, p.caller) {
+        let i = slot(wide(*k));
         if i < 32 {
             let n = number_at(f, domain, f, domain, own, i, map);
             let x = Wanted {
@@ -160,11 +154,6 @@ fn lists_all<'a>(
                 return false;
             }
             bits = with_bit(bits, n);
-            c += 1;
-            left -= 1;
-        } else {
-            c += 1;
-            left -= 1;
         }
     }
     true
@@ -187,21 +176,19 @@ pub fn covers<'a>(
     requires number_is { NumberIs f.now l.own domain.now domain.now p.loading }
     ensures { CoversKept f.now domain.now g.now other.now l p map.old map.new result }
 {
-    let called = p.called;
-    let caller = p.caller;
-    if wide(g[called]) == 255 {
+    if wide(g[p.called]) == 255 {
         return true;
     }
-    if wide(f[caller]) == 255 {
+    if wide(f[p.caller]) == 255 {
         return false;
     }
-    let m = known_mask(g, l, called, &*map);
+    let m = known_mask(g, l, p.called, &*map);
     if !lists_loading(g, other, domain, l, p, m, map) {
         return false;
     }
     let x = Listing {
-        caller: caller,
-        called: called,
+        caller: p.caller,
+        called: p.called,
         bits: with_bit(m, p.loading),
     };
     lists_all(f, domain, g, other, l, x, map)

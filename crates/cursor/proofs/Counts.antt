@@ -1,5 +1,5 @@
 -- Counted lists at places: the start, a turn and the end of a loop over any reader. Assumes nothing.
-use Prim.Native.Nat.{ℕ, zero, suc, ◌-◌, ◌≤◌, ◌<◌}
+use Prim.Native.Nat.{ℕ, zero, suc, ◌≤◌, ◌<◌}
 use native.Mathlib.Omega.{arith}
 use mathlib.Core.Path.{◌≡◌, refl, sym, ◌∙◌, ap, subst}
 use mathlib.Core.Bool.{Bool, true, false}
@@ -15,6 +15,10 @@ use Rattle.cursor.proofs.Steps.{Leads, said, stop_none, stopped, value_of, then_
 
 -- a loop over a list that `whole` reads at place i: `left` values are still to be read at place c
 module _ {A : Type 0} (r : Reader A) {s : Bytes} where
+  -- the start: all of them are left
+  pub loop_start : (n left : ℕ) {c : ℕ} → left ≡ n → Leads (many n r) (many left r) s c c
+  loop_start n left {c} e o p = subst (λ (m : ℕ). Stops (many m r) s c o) e p
+
   -- no more values
   pub none_left : (left c : ℕ) → left ≤ 0 → c ≤ length s → Stops (many left r) s c (some c)
   none_left zero c h k = stops refl k
@@ -25,19 +29,18 @@ module _ {A : Type 0} (r : Reader A) {s : Bytes} where
   next_none zero c h p = absurd (omega arith)
   next_none (suc n) c h p = then_none (λ x. many n r >>= λ xs. ret (x ∷ xs)) p
 
-  -- the next one reads: what is left decides
-  pub next_leads : (left c d : ℕ) → 0 < left → Stops r s c (some d) → Leads (many left r) (many (left - 1) r) s c d
-  next_leads zero c d h p o q = absurd (omega arith)
-  next_leads (suc n) c d h p o q =
+  -- the next one reads: the rest decides
+  pub next_leads : (left rest c d : ℕ) → left ≡ suc rest → Stops r s c (some d) → Leads (many left r) (many rest r) s c d
+  next_leads left rest c d e p o q =
       let x = value_of p in
-      let e : suc n - 1 ≡ n = omega arith in
-      let q' : Stops (many n r) s d o = subst (λ (m : ℕ). Stops (many m r) s d o) e q in
-      then_leads (λ y. many n r >>= λ ys. ret (y ∷ ys)) x.1 o (made_leads (many n r) (λ ys. x.0 ∷ ys) o q')
+      let all : Stops (many (suc rest) r) s c o =
+      then_leads (λ y. many rest r >>= λ ys. ret (y ∷ ys)) x.1 o (made_leads (many rest r) (λ ys. x.0 ∷ ys) o q) in
+      subst (λ (m : ℕ). Stops (many m r) s c o) (sym e) all
 
   module _ {B : Type 0} {whole : Reader B} {i c : ℕ} (left : ℕ) (leads : Leads whole (many left r) s i c) where
     -- a turn
-    pub loop_next : {d : ℕ} → 0 < left → Stops r s c (some d) → Leads whole (many (left - 1) r) s i d
-    loop_next {d} h p o q = leads o (next_leads left c d h p o q)
+    pub loop_next : {d : ℕ} (rest : ℕ) → left ≡ suc rest → Stops r s c (some d) → Leads whole (many rest r) s i d
+    loop_next {d} rest e p o q = leads o (next_leads left rest c d e p o q)
 
     -- a turn that fails
     pub loop_none : 0 < left → Stops r s c none → Stops whole s i none

@@ -1,49 +1,16 @@
 -- Readers one after the other, at places: what is told of the parts is told of the whole. Assumes nothing.
 use Prim.Native.Nat.{ℕ, ◌≤◌}
-use mathlib.Core.Path.{◌≡◌, refl, subst}
+use mathlib.Core.Path.{◌≡◌, refl}
 use mathlib.Core.Bool.{Bool, true, false}
 use mathlib.Core.Option.{Option, none, some}
-use lib.ListN.{length, take, drop}
-use Rattle.rules.specs.Bytes.{Bytes, Aid, Reader, ◌>>=◌, ret, when}
+use lib.ListN.{length, drop}
+use Rattle.rules.specs.Bytes.{Bytes, Reader, ◌>>=◌, ret, when}
 use Rattle.rules.proofs.Tests.{of_true}
-use Rattle.cursor.specs.Says.{Says, says, says_none, Stops, stops, stops_none, itself, field_said, aid_said, skip_said}
-use Rattle.cursor.specs.declared.Cursor.{Cursor}
-use Rattle.cursor.specs.declared.FilePlace.{FilePlace}
-use Rattle.cursor.specs.declared.Field.{Field}
-use Rattle.cursor.specs.declared.Field.TheVariants as field
-use Rattle.cursor.specs.declared.AidField.{AidField}
-use Rattle.cursor.specs.declared.AidField.TheVariants as aidField
-use Rattle.cursor.specs.declared.Skip.{Skip}
-use Rattle.cursor.specs.declared.Skip.TheVariants as skip
+use Rattle.cursor.specs.Says.{Says, says, says_none, Stops, stops, stops_none, itself}
 
 -- whatever r' says at place j, r says at place i
 abbrev pub Leads : {A B : Type 0} → Reader A → Reader B → Bytes → ℕ → ℕ → Type 0
 Leads r r' s i j = (o : Option ℕ) → Stops r' s j o → Stops r s i o
-
--- an answer of the code that is known: a field or none
-module _ {A : Type 0} {f : A → ℕ} {r : Reader A} {s : Bytes} {i : ℕ} {x : Field} where
-  pub field_is : {n : ℕ} {c : Cursor} → x ≡ field.Is n c → Says f r s i (field_said x) → Says f r s i (some (n, c.at.0))
-  field_is e h = subst (λ (y : Field). Says f r s i (field_said y)) e h
-
-  pub field_bad : x ≡ field.Bad → Says f r s i (field_said x) → Says f r s i none
-  field_bad e h = subst (λ (y : Field). Says f r s i (field_said y)) e h
-
--- an AID or none
-module _ {r : Reader Aid} {s : Bytes} {i : ℕ} {x : AidField} where
-  pub aid_is : {p : FilePlace} {n : ℕ} {c : Cursor} → x ≡ aidField.Is p n c → Says itself r s i (aid_said s x) → Says itself r s i
-      (some (take n (drop p.0 s), c.at.0))
-  aid_is e h = subst (λ (y : AidField). Says itself r s i (aid_said s y)) e h
-
-  pub aid_bad : x ≡ aidField.Bad → Says itself r s i (aid_said s x) → Says itself r s i none
-  aid_bad e h = subst (λ (y : AidField). Says itself r s i (aid_said s y)) e h
-
--- a cursor or none
-module _ {A : Type 0} {r : Reader A} {s : Bytes} {i : ℕ} {x : Skip} where
-  pub skip_is : {c : Cursor} → x ≡ skip.To c → Stops r s i (skip_said x) → Stops r s i (some c.at.0)
-  skip_is e h = subst (λ (y : Skip). Stops r s i (skip_said y)) e h
-
-  pub skip_bad : x ≡ skip.Bad → Stops r s i (skip_said x) → Stops r s i none
-  skip_bad e h = subst (λ (y : Skip). Stops r s i (skip_said y)) e h
 
 -- what is told with a value
 module _ {A B : Type 0} {f : A → B} {r : Reader A} {s : Bytes} {i : ℕ} where

@@ -1,9 +1,9 @@
 -- Values of one width: read exactly where that many bytes are left, one or a list of them. Assumes nothing.
-use Prim.Native.Nat.{ℕ, zero, suc, ◌+◌, ◌-◌, ◌*◌, ◌≤◌, ◌<◌}
+use Prim.Native.Nat.{ℕ, zero, suc, ◌+◌, ◌*◌, ◌≤◌, ◌<◌}
 use native.Mathlib.Omega.{arith}
 use native.Mathlib.Decide.{dec_le}
 use native.Mathlib.Nat.{mul-zero, mul-suc}
-use mathlib.Core.Path.{◌≡◌}
+use mathlib.Core.Path.{◌≡◌, refl}
 use mathlib.Core.Option.{none, some}
 use lib.ListN.{length}
 use Rattle.rules.specs.Bytes.{Bytes, Reader, ◌>>=◌, ret, u1, u2, many}
@@ -52,17 +52,13 @@ module _ {A : Type 0} {r : Reader A} {s : Bytes} {w : ℕ} (wide : Wide r s w) w
   wide_reads (suc n) i h =
       let e : w * suc n ≡ w * n + w = mul-suc w n in
       let f : i + w * suc n ≡ i + w + w * n = omega arith in
-      let g : n ≡ suc n - 1 = omega arith in
-      let rest : Stops (many n r) s (i + w) (some (i + w + w * n)) = wide_reads n (i + w) (omega arith) in
-      rw f (next_leads r (suc n) i (i + w) (omega arith) (wide.reads i (omega arith)) (some (i + w + w * n)) (rw (← g) rest))
+      rw f (next_leads r (suc n) n i (i + w) refl (wide.reads i (omega arith)) (some (i + w + w * n)) (wide_reads n (i + w) (omega arith)))
 
   pub wide_ends : (n i : ℕ) → i ≤ length s → length s < i + w * n → Stops (many n r) s i none
   wide_ends zero i k h = absurd (omega (arith, mul-zero w))
   wide_ends (suc n) i k h = elim (dec_le (i + w) (length s)) [
     | yes m ↦
         let e : w * suc n ≡ w * n + w = mul-suc w n in
-        let g : n ≡ suc n - 1 = omega arith in
-        let rest : Stops (many n r) s (i + w) none = wide_ends n (i + w) m (omega arith) in
-        next_leads r (suc n) i (i + w) (omega arith) (wide.reads i m) none (rw (← g) rest)
+        next_leads r (suc n) n i (i + w) refl (wide.reads i m) none (wide_ends n (i + w) m (omega arith))
     | no m ↦ next_none r (suc n) i (omega arith) (wide.ends i (omega arith))
   ]

@@ -4,15 +4,12 @@
 --                        place told is where r stops
 -- Stops r s i answer  == the same where only the place is told
 -- field_said, ..       == what an answer of the code tells
-use Rattle.std.specs.Prelude.{ℕ, ◌≤◌, ◌≡◌, length, take, drop}
+use Rattle.std.specs.Prelude.{ℕ, ◌≤◌, ◌≡◌, length, take, drop, Some, None}
+use Rattle.std.specs.Prelude.{Option as Optional}
 use Rattle.std.proofs.Math.Option.{Option, none, some}
 use Rattle.rules.specs.Bytes.{Bytes, Aid, Reader}
-use Rattle.cursor.specs.declared.Field.{Field}
-use Rattle.cursor.specs.declared.Field.TheVariants as field
-use Rattle.cursor.specs.declared.AidField.{AidField}
-use Rattle.cursor.specs.declared.AidField.TheVariants as aidField
-use Rattle.cursor.specs.declared.Skip.{Skip}
-use Rattle.cursor.specs.declared.Skip.TheVariants as skip
+use Rattle.cursor.specs.declared.AidPlace.{AidPlace}
+use Rattle.cursor.specs.declared.Cursor.{Cursor}
 
 -- the value itself is told
 abbrev pub itself : {A : Type 0} → A → A
@@ -27,16 +24,16 @@ pub data Stops {A : Type 0} (r : Reader A) (s : Bytes) (i : ℕ) : Option ℕ �
   stops_none : r (drop i s) ≡ none → Stops r s i none
 
 -- a number or a count, and the place behind it
-abbrev pub field_said : Field → Option (ℕ × ℕ)
-field_said (field.Is n c) = some (n, c.at.0)
-field_said field.Bad = none
+abbrev pub field_said : Optional (ℕ × Cursor) → Option (ℕ × ℕ)
+field_said (Some r) = some (r.0, r.1.at.0)
+field_said None = none
 
 -- the bytes of an AID of s, and the place behind it
-abbrev pub aid_said : Bytes → AidField → Option (Aid × ℕ)
-aid_said s (aidField.Is p n c) = some (take n (drop p.0 s), c.at.0)
-aid_said s aidField.Bad = none
+abbrev pub aid_said : Bytes → Optional (AidPlace × Cursor) → Option (Aid × ℕ)
+aid_said s (Some r) = some (take r.0.len (drop r.0.start.0 s), r.1.at.0)
+aid_said s None = none
 
 -- the place behind what was read over
-abbrev pub skip_said : Skip → Option ℕ
-skip_said (skip.To c) = some c.at.0
-skip_said skip.Bad = none
+abbrev pub skip_said : Optional Cursor → Option ℕ
+skip_said (Some c) = some c.at.0
+skip_said None = none

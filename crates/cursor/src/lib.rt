@@ -36,24 +36,13 @@ pub struct Aid {
     pub len: usize,
 }
 
-// What the constructor answers. Where `ok` is false the AID has no bytes.
-#[derive(Clone, Copy)]
-pub struct AidMade {
-    pub ok: bool,
-    pub aid: Aid,
-}
-
 // The bytes of `s`, at most 16, with zeros behind them.
 fn with_zeros(s: &[u8]) -> [u8; 16]
     requires { length s.now ≤ 16 }
     ensures { result ≡ padded s.now }
 {
     let mut bytes = [0u8; 16];
-    let mut i = 0;
-    while i < s.len() {
-        bytes[i] = s[i];
-        i += 1;
-    }
+    bytes[..s.len()].copy_from_slice(s);
     bytes
 }
 
@@ -64,37 +53,24 @@ impl Aid {
     pub const MAX: usize = 16;
 
     // The AID with the bytes of `s`, if there are MIN to MAX.
-    pub fn from_bytes(s: &[u8]) -> AidMade
+    pub fn from_bytes(s: &[u8]) -> Option<Aid>
         ensures { Made s.now result }
     {
-        if s.len() < Aid::MIN {
-            return AidMade {
-                ok: false,
-                aid: Aid {
-                    bytes: [0u8; 16],
-                    len: 0,
-                },
-            };
+        let len = s.len();
+        if len < Aid::MIN {
+            return None;
         }
-        if Aid::MAX < s.len() {
-            return AidMade {
-                ok: false,
-                aid: Aid {
-                    bytes: [0u8; 16],
-                    len: 0,
-                },
-            };
+        if Aid::MAX < len {
+            return None;
         }
-        AidMade {
-            ok: true,
-            aid: Aid {
-                bytes: with_zeros(s),
-                len: s.len(),
-            },
-        }
+        Some(Aid {
+            bytes: with_zeros(s),
+            len,
+        })
     }
 
     // Have both the same length and the same bytes?
+    // Kept: the fields are public, and `==` would compare what stands behind the bytes too.
     pub fn same(self, other: Aid) -> bool
         requires { (self.len ≤ 16) × (other.len ≤ 16) }
         ensures { result ≡ same (bytes_of self) (bytes_of other) }
@@ -117,25 +93,11 @@ pub struct Cursor {
     pub at: FilePlace,
 }
 
-// A number that was read, or the count of a list that was, and the cursor behind it.
+// Where the bytes of an AID start in a file, and how many they are.
 #[derive(Clone, Copy)]
-pub enum Field {
-    Is(usize, Cursor),
-    Bad,
-}
-
-// An AID that was read: where its bytes start, its length, and the cursor behind it.
-#[derive(Clone, Copy)]
-pub enum AidField {
-    Is(FilePlace, usize, Cursor),
-    Bad,
-}
-
-// The cursor behind what was read over.
-#[derive(Clone, Copy)]
-pub enum Skip {
-    To(Cursor),
-    Bad,
+pub struct AidPlace {
+    pub start: FilePlace,
+    pub len: usize,
 }
 
 impl Cursor {
@@ -148,105 +110,85 @@ impl Cursor {
         }
     }
 
-    // One byte.
-    pub fn u1(self, s: &[u8]) -> Field
+    // One byte, and the cursor behind it.
+    pub fn u1(self, s: &[u8]) -> Option<(usize, Cursor)>
         ensures { Says itself u1 s.now self.at.0 (field_said result) }
     {
         let at = self.at.0;
         if at < s.len() {
-            Field::Is(
-                fields::wide(s[at]),
-                Cursor {
-                    at: FilePlace(at + 1),
-                },
-            )
+            Some((usize::from(s[at]), Cursor::new(at + 1)))
         } else {
-            Field::Bad
+            None
         }
     }
 
-    // Two bytes, the high one first.
-    pub fn u2(self, s: &[u8]) -> Field
+    // Two bytes, the high one first, and the cursor behind them.
+    pub fn u2(self, s: &[u8]) -> Option<(usize, Cursor)>
         ensures { Says itself u2 s.now self.at.0 (field_said result) }
     {
         let at = self.at.0;
         let len = s.len();
         if len < 2 {
-            return Field::Bad;
+            return None;
         }
         if len - 2 < at {
-            return Field::Bad;
+            return None;
         }
-        Field::Is(
-            fields::u2_at(s, at),
-            Cursor {
-                at: FilePlace(at + 2),
-            },
-        )
+        Some((fields::u2_at(s, at), Cursor::new(at + 2)))
     }
 
     // So many bytes, read over.
-    pub fn skip(self, s: &[u8], n: usize) -> Skip
+    pub fn skip(self, s: &[u8], n: usize) -> Option<Cursor>
         requires { self.at.0 ≤ length s.now }
         ensures { Stops (span n) s.now self.at.0 (skip_said result) }
     {
         let at = self.at.0;
         if s.len() - at < n {
-            return Skip::Bad;
+            return None;
         }
-        Skip::To(Cursor {
-            at: FilePlace(at + n),
-        })
+        Some(Cursor::new(at + n))
     }
 
-    // An AID with its length.
-    pub fn aid(self, s: &[u8]) -> AidField
+    // An AID with its length, and the cursor behind it.
+    pub fn aid(self, s: &[u8]) -> Option<(AidPlace, Cursor)>
         ensures { Says itself aid s.now self.at.0 (aid_said s.now result) }
     {
         let at = self.at.0;
         if s.len() <= at {
-            return AidField::Bad;
+            return None;
         }
-        let n = fields::wide(s[at]);
+        let len = usize::from(s[at]);
         let start = at + 1;
-        if n < Aid::MIN {
-            return AidField::Bad;
+        if len < Aid::MIN {
+            return None;
         }
-        if Aid::MAX < n {
-            return AidField::Bad;
+        if Aid::MAX < len {
+            return None;
         }
-        if s.len() - start < n {
-            return AidField::Bad;
+        if s.len() - start < len {
+            return None;
         }
-        AidField::Is(
-            FilePlace(start),
-            n,
-            Cursor {
-                at: FilePlace(start + n),
-            },
-        )
+        let place = AidPlace {
+            start: FilePlace(start),
+            len,
+        };
+        Some((place, Cursor::new(start + len)))
     }
 
     // A count of at most `most` and that many AIDs: the count, and the cursor behind the list.
-    pub fn aids(self, s: &[u8], most: usize) -> Field
+    pub fn aids(self, s: &[u8], most: usize) -> Option<(usize, Cursor)>
         ensures { Says length (counted most u1 aid) s.now self.at.0 (field_said result) }
     {
-        let Field::Is(count, first) = self.u1(s) else {
-            return Field::Bad;
-        };
+        let (count, first) = self.u1(s)?;
         if most < count {
-            return Field::Bad;
+            return None;
         }
         let mut c = first;
-        let mut left = count;
-        while 0 < left {
-            let AidField::Is(_, _, next) = c.aid(s) else {
-                return Field::Bad;
-            };
+        for _ in 0..count {
+            let (_, next) = c.aid(s)?;
             c = next;
-            left -= 1;
         }
-        Field::Is(count, c)
+        Some((count, c))
     }
 }
 
@@ -254,6 +196,5 @@ impl Cursor {
 pub fn length_ok(aid: &[u8]) -> bool
     ensures { result ≡ aid_length (length aid.now) }
 {
-    let made = Aid::from_bytes(aid);
-    made.ok
+    Aid::from_bytes(aid).is_some()
 }

@@ -1,4 +1,5 @@
 -- The depth of a parent, as it is told by the own depths or by the table. Assumes nothing.
+use Rattle.std.specs.Prelude.{None}
 use Prim.Native.Nat.{ℕ, zero, suc, ◌+◌, ◌/◌, ◌<◌}
 use native.Mathlib.Omega.{arith}
 use native.Mathlib.Decide.{dec_le}
@@ -17,7 +18,6 @@ use Rattle.rules.specs.Questions.{own}
 use Rattle.rules.proofs.Tests.{none_some}
 use Rattle.places.proofs.Track.{placed_none}
 use Rattle.files.specs.Say.{ClassPlaced}
-use Rattle.files.specs.declared.Spot.TheVariants.{Nothing}
 use Rattle.store.specs.Entries.{part}
 use Rattle.store.proofs.Parts.{part_length}
 use Rattle.homes.specs.Homes.{own_home, file_of, Stored, HomeIs}
@@ -71,7 +71,7 @@ module _ (f s : Bytes) (end : ℕ) (t : List ℕ) (u : ImportPlaces f s end t) w
 
   -- a class that is there is not missing
   pub parent_never : (p c : ℕ) (h : Home) → h ≡ home_of s end t p → (b : Bytes) → b ≡ file_of f s h → ClassThere f s end (home_of s end t p) c → ClassPlaced b c
-      Nothing → ⊥
+      None → ⊥
   parent_never p c h e b eb d q =
       let r = ap (read_file (store_limits s)) (eb ∙ ap (file_of f s) e) ∙ home_reads f s end d.0 d.1 d.4.parents.imported.setting
       (home_of s end t p) d.2 d.4.home in

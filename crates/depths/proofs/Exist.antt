@@ -1,4 +1,5 @@
 -- Question 14's first part: a parent exists, an own one with a smaller number. Assumes nothing.
+use Rattle.std.specs.Prelude.{Some, None}
 use Prim.Native.Nat.{ℕ, zero, suc, ◌+◌, ◌*◌, ◌≤◌, ◌<◌}
 use native.Mathlib.Omega.{arith}
 use mathlib.Core.Path.{◌≡◌, refl, sym, ◌∙◌, ap, ap₂}
@@ -18,7 +19,6 @@ use Rattle.places.proofs.Inverse.{reads_counted, reads_u1}
 use Rattle.places.proofs.Track.{placed_at, placed_none, many_length, counted_inside}
 use Rattle.files.specs.Say.{Readable, ImportsAt}
 use Rattle.files.specs.Say as files
-use Rattle.files.specs.declared.Spot.TheVariants.{At, Nothing}
 use Rattle.files.proofs.Walks.{imports_read}
 use Rattle.homes.specs.Homes.{Imports, HomeIs, ClassPlaced}
 use Rattle.homes.specs.Found.{ImportPlaces}
@@ -82,11 +82,11 @@ module _ (f s : Bytes) (end : ℕ) where
           w ∙ ap₂ (λ (u v : Bool). u && (not v || ltb c n)) (q es self j y.0 y.1 y.2) (sym z) ∙ sym
           (exists_some (installed (store_limits s) es) self y.0 n p c y.1)
 
-      pub exists_at : (k : ℕ) → ClassPlaced f s (home_of s end t p) c (At k) → (d r : Bool) → eqb p 0 ≡ d → r ≡ (not d || ltb c n) → ExistsIs f s end n
+      pub exists_at : (k : ℕ) → ClassPlaced f s (home_of s end t p) c (Some k) → (d r : Bool) → eqb p 0 ≡ d → r ≡ (not d || ltb c n) → ExistsIs f s end n
           (record { pack = p; class = c }) r
       exists_at k q = exists_as true λ es self j y e h. let z = placed_at (q end es self j y h) in rw z.2
 
-      pub exists_not : ClassPlaced f s (home_of s end t p) c Nothing → ExistsIs f s end n (record { pack = p; class = c }) false
+      pub exists_not : ClassPlaced f s (home_of s end t p) c None → ExistsIs f s end n (record { pack = p; class = c }) false
       exists_not q = exists_as false (λ es self j y e h. rw (placed_none (q end es self j y h))) (eqb p 0) false refl refl
 
   -- the parents of own class n, whose record stands at a place, from parent i on are left
@@ -155,7 +155,7 @@ module _ (f s : Bytes) (end : ℕ) where
         sym (left_bad (λ j k. all (parent_exists (installed (store_limits s) es) self j) k.parents) self.pack.classes n y.0 y.1
         (sym (q es self i y.0 y.1)) (t es self i))
 
-    pub classes_done : files.ClassPlaced f n Nothing → ParentsExist f s end true
+    pub classes_done : files.ClassPlaced f n None → ParentsExist f s end true
     classes_done h es self i =
         let z = placed_none (h (store_limits s) self.pack i.setting.reads) in
         sym (left_none (λ j k. all (parent_exists (installed (store_limits s) es) self j) k.parents) self.pack.classes n z (t es self i))

@@ -21,13 +21,12 @@ use Rattle.rules.proofs.Tests.{none_some}
 use Rattle.rules.proofs.Lists.{at_there, at_below}
 use Rattle.places.proofs.Track.{placed_none}
 use Rattle.files.specs.Say.{ClassPlaced}
-use Rattle.files.specs.declared.Spot.TheVariants.{Nothing}
 use Rattle.homes.specs.Homes.{Parents, own_home}
 use Rattle.homes.specs.Homes as homes
 use Rattle.homes.proofs.Homes.{home_reads}
 use Rattle.named.specs.Named.{ClassFrom}
 use Rattle.depths.specs.Depths.{OfParents, ClassIs, KindsIs, DepthIs, OwnTo, OwnDepths, later_parts, LaterParts}
-use Rattle.depths.specs.declared.Parented.TheVariants.{Yes, No}
+use Rattle.std.specs.Prelude.{Some, None}
 use Rattle.depths.proofs.ByNumber.{drop_at, drop_none, all_from_lem, Left, left_more, left_bad, left_none}
 use Rattle.depths.proofs.Exist.{own_at}
 
@@ -63,7 +62,7 @@ module _ (f s : Bytes) (end : ℕ) where
         left_more (λ j k. parent_kinds (installed (store_limits s) es) self k) self.pack.classes n y.0 y.1.is
         (sym (q es self self y.0 y.1)) (t es self g)
 
-    pub kinds_bad : (ds : List ℕ) → KindsLeft n → KindsIs f s end (own_home end) n false → LaterParts f s end ds No
+    pub kinds_bad : (ds : List ℕ) → KindsLeft n → KindsIs f s end (own_home end) n false → LaterParts f s end ds None
     kinds_bad ds t q es self g =
         let y = own_is es self g in
         let e = all_from_lem (parent_kinds (installed (store_limits s) es) self) 0 self.pack.classes ∙ left_bad
@@ -88,7 +87,7 @@ module _ (f s : Bytes) (end : ℕ) where
             omega (arith, b.1, r, w),
           )
 
-      pub depths_bad : (ds : List ℕ) → most < d → LaterParts f s end ds No
+      pub depths_bad : (ds : List ℕ) → most < d → LaterParts f s end ds None
       depths_bad ds z es self g =
           let y = own_is es self g in
           let e = left_bad (λ j k. depth_within (store_limits s) (installed (store_limits s) es) self j) self.pack.classes n y.0 y.1.is
@@ -110,7 +109,7 @@ module _ (f s : Bytes) (end : ℕ) where
           go true e = rw (eqb-true m n e, get_or-set_same ds n d 0 (omega (arith, h, o.size))) q
           go false e = let ne = eqb-false m n e in rw (get_or-set_other ds n m d 0 ne) (o.told m (omega (arith, k, ne)))
 
-  module _ (n : ℕ) (over : ClassPlaced f n Nothing) where
+  module _ (n : ℕ) (over : ClassPlaced f n None) where
     pub own_all : (ds : List ℕ) → OwnTo f s end n ds → OwnDepths f s end ds
     own_all ds o m es self x k c =
         let r = home_reads f s end es self c.parents.imported.setting (own_home end) x c.home in
@@ -123,7 +122,7 @@ module _ (f s : Bytes) (end : ℕ) where
           | no l ↦ omega arith
         ]
 
-    pub later_done : (figure : ℕ) (ds : List ℕ) → KindsLeft n → DepthsLeft n figure → OwnTo f s end n ds → LaterParts f s end ds (Yes figure)
+    pub later_done : (figure : ℕ) (ds : List ℕ) → KindsLeft n → DepthsLeft n figure → OwnTo f s end n ds → LaterParts f s end ds (Some figure)
     later_done figure ds t u o = (both, own_all ds o)
       where
         both : OfParents f s end λ es self. (later_parts s es self ≡ true) ×

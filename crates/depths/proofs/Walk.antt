@@ -1,4 +1,5 @@
 -- The depth of a class from those of its parents, each told up to one more than the limit. Assumes nothing.
+use Rattle.std.specs.Prelude.{Some, None}
 use Prim.Native.Nat.{ℕ, zero, suc, ◌+◌, ◌≤◌, ◌<◌, max}
 use native.Mathlib.Omega.{arith}
 use native.Mathlib.Decide.{dec_le}
@@ -111,18 +112,11 @@ module _ (f s : Bytes) (end n : ℕ) where
       (λ (l : List ClassNumber). greatest (depth_of s es) (parents_named (installed (store_limits s) es) x l)) e in
       omega (arith, t es self x k c, w)
 
-  -- 0 where the kinds are wrong, else the depth
-  pub own_bad : (m v : ℕ) → Kind0Is f s end (own_home end) n v → Kind0Count f s end (own_home end) n m → v < m → OwnIs f s end n 0
-  own_bad m v p q h = record {
-    bad = λ e. subst (KindsIs f s end (own_home end) n) (lt-leb m v h) (kinds_is f s end n m v p q);
-    right = λ z. absurd (omega arith);
-    depth = λ z. absurd (omega arith);
-  }
+  -- none where the kinds are wrong, else the depth
+  pub own_bad : (m v : ℕ) → Kind0Is f s end (own_home end) n v → Kind0Count f s end (own_home end) n m → v < m → OwnIs f s end n None
+  own_bad m v p q h = subst (KindsIs f s end (own_home end) n) (lt-leb m v h) (kinds_is f s end n m v p q)
 
   pub own_good : (m v : ℕ) → Kind0Is f s end (own_home end) n v → Kind0Count f s end (own_home end) n m → m ≤ v →
-      (most d r : ℕ) → most ≡ (store_limits s).depth → DeepestIs f s end (own_home end) n d → r ≡ suc (capped most d) → OwnIs f s end n r
-  own_good m v p q h most d r e w z = record {
-    bad = λ y. absurd (omega (arith, y, z));
-    right = λ y. subst (KindsIs f s end (own_home end) n) (le-leb m v h) (kinds_is f s end n m v p q);
-    depth = λ y. depth_is most d r e w z;
-  }
+      (most d r : ℕ) → most ≡ (store_limits s).depth → DeepestIs f s end (own_home end) n d → r ≡ suc (capped most d) → OwnIs f s end n (Some r)
+  own_good m v p q h most d r e w z =
+      (subst (KindsIs f s end (own_home end) n) (le-leb m v h) (kinds_is f s end n m v p q), depth_is most d r e w z)

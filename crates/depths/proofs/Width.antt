@@ -19,7 +19,7 @@ use Rattle.homes.specs.Homes.{Parents, own_home}
 use Rattle.homes.specs.Homes as homes
 use Rattle.named.specs.Named.{Judged, Stands, ClassFrom}
 use Rattle.depths.specs.Depths.{ClassIs, OwnDepths, DepthsFit, ParentedIs, depth_of, width_for, depth_width, depths_length}
-use Rattle.depths.specs.declared.Parented.TheVariants.{Yes}
+use Rattle.std.specs.Prelude.{Some}
 use Rattle.depths.proofs.Exist.{judged_reads, own_at}
 use Rattle.depths.proofs.Parts.{parented_parents}
 use Rattle.depths.proofs.Written.{stands_from}
@@ -56,7 +56,7 @@ field_room s w {p} {n} e h r =
     omega (arith, z, m, r)
 
 -- the depths of an accepted file's classes are within the limit
-pub depths_fit : (f s : Bytes) (end depth : ℕ) (ds : List ℕ) → Judged f s end → ParentedIs f s end (Yes depth) → OwnDepths f s end ds →
+pub depths_fit : (f s : Bytes) (end depth : ℕ) (ds : List ℕ) → Judged f s end → ParentedIs f s end (Some depth) → OwnDepths f s end ds →
     length ds ≡ most_classes → DepthsFit (depth_width s) f ds
 depths_fit f s end depth ds t p o e = record { size = e; fit = fit }
   where

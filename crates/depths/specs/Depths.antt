@@ -8,7 +8,7 @@
 -- ClassThere, OfClass           == what a function over a class requires, and how it ensures
 -- Kind0Is, Kind0Count, KindsIs  == question 14's second part
 -- ParentAt, ParentIs            == parent i of a class is the class with number m at home g
--- OwnIs f s end n r             == r is 0 where own class n has not the right kinds of parents, else its depth
+-- OwnIs f s end n r             == r is the depth of own class n, if it has the right kinds of parents
 -- capped most d                 == a number, or the limit where it is more
 -- depth_of s es c                == the depth of a class, told up to one more than the limit
 -- DepthIs, DeepestIs            == the depth of a class; the greatest of its parents'
@@ -20,7 +20,8 @@
 -- kept_field, DepthsFit          == what a write does to the fields; the depths that a file may have
 -- FileKept w g from depths t    == the table has the depths of the classes of the file g that have a parent; FileKeptTo == below class n
 -- ParentedIs                    == question 14 and the depth figure; LaterParts == its second and third part
-use Rattle.std.specs.Prelude.{ℕ, suc, ◌+◌, ◌-◌, ◌*◌, ◌/◌, ◌^◌, ◌≤◌, ◌<◌, ◌≡◌, Bool, true, false, ◌&&◌, List, [], T, leb, eqb, length, get_or}
+use Rattle.std.specs.Prelude.{ℕ, suc, ◌+◌, ◌-◌, ◌*◌, ◌/◌, ◌^◌, ◌≤◌, ◌<◌, ◌≡◌, Bool, true, false, ◌&&◌, List, [], T, leb, eqb, length, get_or, Some, None}
+use Rattle.std.specs.Prelude.{Option as Optional}
 use Rattle.std.proofs.Math.Option.{some}
 use Rattle.rules.specs.Bytes.{Bytes, pick, all, all_from, at, count}
 use Rattle.rules.specs.Package.{Limits, most_classes, ClassNumber, Class, Package, read_file}
@@ -33,8 +34,6 @@ use Rattle.store.specs.Entries.{part, Entries}
 use Rattle.homes.specs.Homes.{Imports, Parents, own_home, Stored, HomeIs}
 use Rattle.homes.specs.declared.Home.{Home}
 use Rattle.named.specs.Named.{OfJudged, Stands}
-use Rattle.depths.specs.declared.Parented.{Parented}
-use Rattle.depths.specs.declared.Parented.TheVariants.{Yes, No}
 
 -- each parent exists
 abbrev pub ParentsThere : Bytes → Bytes → ℕ → Type 0
@@ -150,11 +149,10 @@ pub record OwnTo (f s : Bytes) (end n : ℕ) (depths : List ℕ) : Type 0 where
   pub size : length depths ≡ most_classes
   pub told : (m : ℕ) → m < n → DepthIs f s end (own_home end) m (get_or depths m 0)
 
--- own class n: 0 where its parents are not of the right kinds, else its depth
-pub record OwnIs (f s : Bytes) (end n r : ℕ) : Type 0 where
-  pub bad : r ≡ 0 → KindsIs f s end (own_home end) n false
-  pub right : 0 < r → KindsIs f s end (own_home end) n true
-  pub depth : 0 < r → DepthIs f s end (own_home end) n r
+-- own class n: its depth, if its parents are of the right kinds
+abbrev pub OwnIs : Bytes → Bytes → ℕ → ℕ → Optional ℕ → Type 0
+OwnIs f s end n None = KindsIs f s end (own_home end) n false
+OwnIs f s end n (Some d) = KindsIs f s end (own_home end) n true × DepthIs f s end (own_home end) n d
 
 -- of all own classes
 abbrev pub OwnDepths : Bytes → Bytes → ℕ → List ℕ → Type 0
@@ -166,21 +164,21 @@ later_parts s es self =
     all (parent_kinds (installed (store_limits s) es) self) self.pack.classes
     && all_from (λ i k. depth_within (store_limits s) (installed (store_limits s) es) self i) 0 self.pack.classes
 
-abbrev pub LaterParts : Bytes → Bytes → ℕ → List ℕ → Parented → Type 0
-LaterParts f s end depths No = OfParents f s end λ es self. later_parts s es self ≡ false
-LaterParts f s end depths (Yes d) = (OfParents f s end λ es self. (later_parts s es self ≡ true) ×
+abbrev pub LaterParts : Bytes → Bytes → ℕ → List ℕ → Optional ℕ → Type 0
+LaterParts f s end depths None = OfParents f s end λ es self. later_parts s es self ≡ false
+LaterParts f s end depths (Some d) = (OfParents f s end λ es self. (later_parts s es self ≡ true) ×
     (d ≡ deepest_from (store_limits s) (installed (store_limits s) es) self 0 self.pack.classes)) × OwnDepths f s end depths
 
 -- 14, and the depth figure
-abbrev pub ParentedIs : Bytes → Bytes → ℕ → Parented → Type 0
-ParentedIs f s end No = OfJudged f s end λ es self. q14_parents (store_limits s) (installed (store_limits s) es) self ≡ false
-ParentedIs f s end (Yes d) = OfJudged f s end λ es self. (q14_parents (store_limits s) (installed (store_limits s) es) self ≡ true) ×
+abbrev pub ParentedIs : Bytes → Bytes → ℕ → Optional ℕ → Type 0
+ParentedIs f s end None = OfJudged f s end λ es self. q14_parents (store_limits s) (installed (store_limits s) es) self ≡ false
+ParentedIs f s end (Some d) = OfJudged f s end λ es self. (q14_parents (store_limits s) (installed (store_limits s) es) self ≡ true) ×
     (d ≡ deepest_from (store_limits s) (installed (store_limits s) es) self 0 self.pack.classes)
 
 -- with a yes, the depths of all own classes
-abbrev pub OwnTold : Bytes → Bytes → ℕ → List ℕ → Parented → Type 0
-OwnTold f s end depths No = Unit {0}
-OwnTold f s end depths (Yes d) = OwnDepths f s end depths
+abbrev pub OwnTold : Bytes → Bytes → ℕ → List ℕ → Optional ℕ → Type 0
+OwnTold f s end depths None = Unit {0}
+OwnTold f s end depths (Some d) = OwnDepths f s end depths
 
 -- field j after the depth of a class was written, where it has parents
 abbrev pub kept_field : ℕ → List ℕ → ℕ → ℕ → ℕ → ℕ → ℕ

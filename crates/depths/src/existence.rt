@@ -5,7 +5,6 @@ ghost use Rattle.depths.specs.Depths.{ImportCount, ExistsIs, AllExist, ParentsEx
 
 use super::parents::{import_count, parent_at, parent_count};
 use super::{Bounds, Own};
-use files::Spot;
 use homes::Places;
 
 // Does a parent of an own class, told by package and class number, exist, an own one with a smaller number?
@@ -27,13 +26,13 @@ fn parent_exists<'a>(
         return false;
     }
     match named::class_in(f, s, o.end, places, rows, p, c) {
-        Spot::At(_) => {
+        Some(_) => {
             if p != 0 {
                 return true;
             }
             c < o.number
         }
-        Spot::Nothing => false,
+        None => false,
     }
 }
 
@@ -52,13 +51,11 @@ fn class_parents_exist<'a>(
     ensures rows_true { RowsTrue f.now s.now o.end places.now rows.new }
 {
     let k = parent_count(f, o.place);
-    let mut i = 0;
-    while i < k {
+    for i in 0..k {
         let x = parent_at(f, o.place, i);
         if !parent_exists(f, s, places, rows, o, x.pack, x.class) {
             return false;
         }
-        i += 1;
     }
     true
 }
@@ -78,29 +75,18 @@ pub fn parents_exist<'a>(
 {
     let imports = import_count(f);
     let mut n = 0;
-    loop {
-        match named::stands_at(f, rows, 0, n) {
-            Spot::At(place) => {
-                if !class_parents_exist(
-                    f,
-                    s,
-                    places,
-                    rows,
-                    Own {
-                        end: b.end,
-                        most: b.most,
-                        imports: imports,
-                        number: n,
-                        place: place,
-                    },
-                ) {
-                    return false;
-                }
-                n += 1;
-            }
-            Spot::Nothing => {
-                return true;
-            }
+    while let Some(place) = named::stands_at(f, rows, 0, n) {
+        let own = Own {
+            end: b.end,
+            most: b.most,
+            imports: imports,
+            number: n,
+            place: place,
+        };
+        if !class_parents_exist(f, s, places, rows, own) {
+            return false;
         }
+        n += 1;
     }
+    true
 }

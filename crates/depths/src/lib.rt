@@ -15,16 +15,8 @@ ghost use Rattle.depths.specs.Depths.{ParentsThere, ImportCount, capped, DepthsK
 
 use existence::parents_exist;
 use fields::wide;
-use files::Spot;
 use homes::Places;
-use parents::{flag, import_count, larger, own_parents};
-
-// The answer to question 14: no, or yes with the depth of the deepest class, 0 where there is none.
-#[derive(Clone, Copy)]
-pub enum Parented {
-    No,
-    Yes(usize),
-}
+use parents::{flag, import_count, own_parents};
 
 // Where the earlier entries end, and the depth limit.
 #[derive(Clone, Copy)]
@@ -54,7 +46,7 @@ fn one_more(d: usize, most: usize) -> usize
     most + 1
 }
 
-// The depth of an own class, 0 where its parents are not of the right kinds.
+// The depth of an own class, if its parents are of the right kinds.
 fn own_depth<'a>(
     f: &'a [u8],
     s: &'a [u8],
@@ -63,24 +55,25 @@ fn own_depth<'a>(
     t: &[u8],
     depths: &[u8],
     o: Own,
-) -> usize
+) -> Option<usize>
     requires parents_there { ParentsThere f.now s.now o.end × ImportPlaces f.now s.now o.end places.now }
     requires import_count { ImportCount f.now o.imports × ClassFrom f.now o.number o.place }
     requires rows_true { RowsTrue f.now s.now o.end places.now rows.old }
     requires depths_kept { DepthsKept s.now o.end t.now × (length s.now ≤ 65535) × OwnTo f.now s.now o.end o.number depths.now }
     requires most_value { o.most ≡ (store_limits s.now).depth }
-    ensures own_is { OwnIs f.now s.now o.end o.number result × (result ≤ o.most + 1) }
+    ensures own_is { OwnIs f.now s.now o.end o.number result }
     ensures rows_true_2 { RowsTrue f.now s.now o.end places.now rows.new }
 {
     let a = o.place;
     let w = own_parents(f, s, places, rows, t, depths, o);
     if flag(wide(f[a])) < w.kind0 {
-        return 0;
+        return None;
     }
-    one_more(w.depth, o.most)
+    Some(one_more(w.depth, o.most))
 }
 
-// 14, second and third part: have interfaces only interface parents, classes at most one kind-0 parent, is each depth at most the limit?
+// 14, second and third part: have interfaces only interface parents, classes at most one kind-0 parent, is each depth at most the limit? With
+// a yes the depth of the deepest class, 0 where there is none.
 fn depths_ok<'a>(
     f: &'a [u8],
     s: &'a [u8],
@@ -89,7 +82,7 @@ fn depths_ok<'a>(
     t: &[u8],
     depths: &mut [u8],
     b: Bounds,
-) -> Parented
+) -> Option<usize>
     requires parents_there { ParentsThere f.now s.now b.end × ImportPlaces f.now s.now b.end places.now }
     requires rows_true { RowsTrue f.now s.now b.end places.now rows.old }
     requires depths_kept { DepthsKept s.now b.end t.now × (length s.now ≤ 65535) }
@@ -100,43 +93,27 @@ fn depths_ok<'a>(
     let imports = import_count(f);
     let mut n = 0;
     let mut figure = 0;
-    loop {
-        match named::stands_at(f, rows, 0, n) {
-            Spot::At(place) => {
-                let d = own_depth(
-                    f,
-                    s,
-                    places,
-                    rows,
-                    t,
-                    depths,
-                    Own {
-                        end: b.end,
-                        most: b.most,
-                        imports: imports,
-                        number: n,
-                        place: place,
-                    },
-                );
-                if d == 0 {
-                    return Parented::No;
-                }
-                if b.most < d {
-                    return Parented::No;
-                }
-                depths[n] = d as u8;
-                figure = larger(d, figure);
-                n += 1;
-            }
-            Spot::Nothing => {
-                return Parented::Yes(figure);
-            }
+    while let Some(place) = named::stands_at(f, rows, 0, n) {
+        let own = Own {
+            end: b.end,
+            most: b.most,
+            imports: imports,
+            number: n,
+            place: place,
+        };
+        let d = own_depth(f, s, places, rows, t, depths, own)?;
+        if b.most < d {
+            return None;
         }
+        depths[n] = d as u8;
+        figure = d.max(figure);
+        n += 1;
     }
+    Some(figure)
 }
 
-// 14. Does each parent exist, have interfaces and classes parents of the right kinds, is each depth at most the limit? With a yes, the
-// depths of the own classes.
+// 14. Does each parent exist, have interfaces and classes parents of the right kinds, is each depth at most the limit? With a yes
+// the depth of the deepest class, 0 where there is none, and the depths of the own classes.
 pub fn parents_ok<'a>(
     f: &'a [u8],
     s: &'a [u8],
@@ -145,7 +122,7 @@ pub fn parents_ok<'a>(
     t: &[u8],
     depths: &mut [u8],
     b: Bounds,
-) -> Parented
+) -> Option<usize>
     requires judged { Judged f.now s.now b.end × ImportPlaces f.now s.now b.end places.now }
     requires rows_true { RowsTrue f.now s.now b.end places.now rows.old }
     requires depths_kept { DepthsKept s.now b.end t.now × (length s.now ≤ 65535) }
@@ -155,7 +132,7 @@ pub fn parents_ok<'a>(
     ensures rows_true_2 { RowsTrue f.now s.now b.end places.now rows.new }
 {
     if !parents_exist(f, s, places, rows, b) {
-        return Parented::No;
+        return None;
     }
     depths_ok(f, s, places, rows, t, depths, b)
 }

@@ -1,5 +1,5 @@
 // The parents of an own class as its record lists them, and what is told of them: how many are of kind 0, and the greatest depth.
-ghost use Rattle.std.specs.Prelude.{◌≡◌, max, ◌+◌, ◌*◌, ◌≤◌, ◌<◌, length, get_or};
+ghost use Rattle.std.specs.Prelude.{◌≡◌, ◌+◌, ◌*◌, ◌≤◌, ◌<◌, length, get_or};
 ghost use Rattle.rules.specs.Store.{store_limits};
 ghost use Rattle.files.specs.Say.{Readable};
 ghost use Rattle.homes.specs.Homes.{own_home};
@@ -9,7 +9,6 @@ ghost use Rattle.depths.specs.Depths.{ParentsThere, ImportCount, ClassThere, Kin
 
 use super::{Own, table};
 use fields::wide;
-use files::Spot;
 use homes::Places;
 
 // A class as it is listed: where the earlier entries end, the bits of a depth in the table, its package number and its class number.
@@ -63,6 +62,7 @@ pub fn parent_at(f: &[u8], place: usize, i: usize) -> Parent
 }
 
 // 1 where a class's first byte says kind 0, else 0.
+// Kept: it is added to a count and compared with one; a bool would be made the same number at both places.
 pub fn flag(kind: usize) -> usize
     ensures { ((kind ≡ 1 → result ≡ 0) × ((kind ≡ 1 → ⊥) → result ≡ 1)) × (result ≤ 1) }
 {
@@ -94,19 +94,12 @@ fn parent_told<'a>(
     let h = named::home_at(s, x.end, places, x.pack);
     let g = homes::file_of(f, s, h);
     match named::stands_at(g, rows, 32 * x.pack, x.class) {
-        Spot::At(i) => Told {
+        Some(i) => Told {
             kind0: flag(wide(g[i])),
             depth: table::depth_told(t, x.width, depths, h.from, i, x.class, wide(g[i + 1])),
         },
-        Spot::Nothing => Told { kind0: 0, depth: 0 },
+        None => Told { kind0: 0, depth: 0 },
     }
-}
-
-// The greater of two numbers.
-pub fn larger(a: usize, b: usize) -> usize
-    ensures { result ≡ max a b }
-{
-    if a < b { b } else { a }
 }
 
 // The kind-0 parents of an own class, counted, and the greatest depth of its parents.
@@ -130,10 +123,9 @@ pub fn own_parents<'a>(
 {
     let k = parent_count(f, o.place);
     let width = table::width_of(o.most);
-    let mut i = 0;
     let mut found = 0;
     let mut deepest = 0;
-    while i < k {
+    for i in 0..k {
         let x = parent_at(f, o.place, i);
         let y = Listed {
             end: o.end,
@@ -143,8 +135,7 @@ pub fn own_parents<'a>(
         };
         let w = parent_told(f, s, places, rows, t, depths, y);
         found += w.kind0;
-        deepest = larger(w.depth, deepest);
-        i += 1;
+        deepest = w.depth.max(deepest);
     }
     Told {
         kind0: found,

@@ -57,6 +57,7 @@ pub fn keep_depths(s: &[u8], t: &mut [u8], depths: &[u8], from: usize, to: usize
     let g = &s[from..to];
     let limits = store::openings::limits_of(s);
     let width = width_of(limits.depth);
+    // Kept: the walk ends with the file, of which the classes are the last part; a loop over their number would not see that.
     let mut n = 0;
     let mut i = files::classes_at(g) + 1;
     while i < g.len() {

@@ -9,6 +9,7 @@ use lib.Dec.{leb, leb→le}
 use lib.ListN.{length, get_or, set, length-set}
 use lib.Seq.{get_or-set_same}
 use borrow.Author.Tests.{le-leb, lt-leb}
+use Rattle.std.specs.Prelude.{Some, None}
 use Rattle.rules.specs.Bytes.{Bytes, Aid, any, same, aid_length}
 use Rattle.rules.specs.Store.{DomainKind, Entry, domain, loaded, first_entry, store_limits}
 use Rattle.rules.specs.Questions.{q3_lengths, q4_new, q5_created, keeps_subset}
@@ -63,10 +64,6 @@ range_low n h = rw (lt-leb 5 n h) refl
 pub range_high : (n : ℕ) → 5 ≤ n → leb n 16 ≡ aid_length n
 range_high n h = rw (le-leb 5 n h) refl
 
--- the test of a part's length, in the terms of the code
-pub part_range : (s : Bytes) (i j : ℕ) → j ≤ length s → (b c : Bool) → b ≡ aid_length (j - i) → b ≡ c → aid_length (length (part s i j)) ≡ c
-part_range s i j h b c e f = ap aid_length (part_length s i j h) ∙ sym e ∙ f
-
 -- a domain's entry by its bytes
 module _ (s : Bytes) (at next : ℕ) {k : DomainKind} (a : Aid) (t : EntryAt s at (domain k a) next) where
   by : EntryBy s at (domain k a) next
@@ -112,12 +109,11 @@ module _ (s : Bytes) (at next : ℕ) {k : DomainKind} (a : Aid) (t : EntryAt s a
 
 module _ (s : Bytes) (at : ℕ) (l : List ℕ) (d : DomainsIs s at l) where
   -- looking for an AID
-  pub found_created : (a : Aid) (q : ℕ) → Found s l a q → (pre : List Entry) → Entries s (first_entry s) pre at →
-      (0 < q → q5_created pre a ≡ true) × (q ≡ 0 → q5_created pre a ≡ false)
-  found_created a q w pre r = (
-    λ h. let x = w.there h in created_any pre a ∙ found_any domain_key s at l d.table a (is_domain a) (key_is a) q x.0 x.1 pre r,
-    λ h. created_any pre a ∙ found_none domain_key s at l d.table a (is_domain a) (is_key a) (w.missing h) pre r,
-  )
+  found_created : (a : Aid) (q : ℕ) → Found s l a (Some q) → (pre : List Entry) → Entries s (first_entry s) pre at → q5_created pre a ≡ true
+  found_created a q w pre r = created_any pre a ∙ found_any domain_key s at l d.table a (is_domain a) (key_is a) q w.0 w.1 pre r
+
+  none_created : (a : Aid) → Found s l a None → (pre : List Entry) → Entries s (first_entry s) pre at → q5_created pre a ≡ false
+  none_created a w pre r = created_any pre a ∙ found_none domain_key s at l d.table a (is_domain a) (is_key a) w pre r
 
   behind : (first_entry s) ≤ at
   behind = (entries_to s (first_entry s) d.table.behind.0 at d.table.behind.1).0
@@ -159,9 +155,9 @@ module _ (s : Bytes) (at : ℕ) (l : List ℕ) (d : DomainsIs s at l) where
   short_says k a h pre r = sym (ap (λ (x : Bool). x && q4_new pre a) (one_length a ∙ h))
 
   -- a place that is found lies inside the store
-  pub found_inside : (a : Aid) (q : ℕ) → Found s l a q → (q ≡ 0 → ⊥) → q < length s
-  found_inside a q w g =
-      let x = d.table.only q (w.there (omega (arith, g))).0 in
+  pub found_inside : (a : Aid) (q : ℕ) → Found s l a (Some q) → q < length s
+  found_inside a q w =
+      let x = d.table.only q w.0 in
       omega (arith, x.stood.stands.to, entry_later s q x.one x.next x.stood.stands)
 
   -- 3 and 5 of a package's domain, and 26 where it is of kind 3
@@ -169,24 +165,24 @@ module _ (s : Bytes) (at : ℕ) (l : List ℕ) (d : DomainsIs s at l) where
   short_package a f h pre r =
       sym (ap (λ (x : Bool). x && (q5_created pre a && (not (keeps_subset pre a) || reads_without_int (store_limits s) f))) (one_length a ∙ h))
 
-  module _ (a : Aid) (f : Bytes) (q : ℕ) (h : aid_length (length a) ≡ true) (w : Found s l a q) where
-    pub package_missing : q ≡ 0 → EntrySays s at (loaded a f) false
-    package_missing g pre r = sym (ap₂ (λ (x y : Bool). x && (y && (not (keeps_subset pre a) || reads_without_int (store_limits s) f)))
-        (one_length a ∙ h) ((found_created a q w pre r).1 g))
+  module _ (a : Aid) (f : Bytes) (h : aid_length (length a) ≡ true) where
+    pub package_missing : Found s l a None → EntrySays s at (loaded a f) false
+    package_missing w pre r = sym (ap₂ (λ (x y : Bool). x && (y && (not (keeps_subset pre a) || reads_without_int (store_limits s) f)))
+        (one_length a ∙ h) (none_created a w pre r))
 
-    module _ (g : q ≡ 0 → ⊥) where
+    module _ (q : ℕ) (w : Found s l a (Some q)) where
       -- found: the answer to 26
       package_says : (b c : Bool) → ((pre : List Entry) → Entries s (first_entry s) pre at → keeps_subset pre a ≡ b) →
           (not b || reads_without_int (store_limits s) f) ≡ c → EntrySays s at (loaded a f) c
       package_says b c k e pre r =
           sym (ap₂ (λ (x y : Bool). x && (y && (not (keeps_subset pre a) || reads_without_int (store_limits s) f))) (one_length a ∙ h)
-          ((found_created a q w pre r).0 (omega (arith, g))) ∙ ap (λ (x : Bool). not x || reads_without_int (store_limits s) f) (k pre r) ∙ e)
+          (found_created a q w pre r) ∙ ap (λ (x : Bool). not x || reads_without_int (store_limits s) f) (k pre r) ∙ e)
 
       pub package_full : (get_or s q 0 ≡ 3 → ⊥) → EntrySays s at (loaded a f) true
-      package_full n = package_says false true (λ pre r. found_full s at l d.table a q (w.there (omega (arith, g))) n pre r) refl
+      package_full n = package_says false true (λ pre r. found_full s at l d.table a q w n pre r) refl
 
       pub package_kept : get_or s q 0 ≡ 3 → (c : Bool) → c ≡ reads_without_int (store_limits s) f → EntrySays s at (loaded a f) c
-      package_kept n c e = package_says true c (λ pre r. found_strict s at l d.table a q (w.there (omega (arith, g))) n pre r) (sym e)
+      package_kept n c e = package_says true c (λ pre r. found_strict s at l d.table a q w n pre r) (sym e)
 
 -- the table before the first entry
 pub domains_start : (s : Bytes) (l : List ℕ) → first_entry s ≤ length s → length s ≤ 8 * length l → count l ≡ 0 → DomainsIs s (first_entry s) l

@@ -9,6 +9,7 @@ use Rattle.rules.specs.Limits.{Limits}
 use Rattle.rules.specs.Store.{Entry, domain, loaded, first_entry, store_limits}
 use Rattle.store.specs.Entries.{part, kind_at, EntryAt, Entries, StandFrom, FirstIs}
 use Rattle.store.specs.Answers.{PartAt}
+use Rattle.std.specs.Prelude.{Some, None}
 use Rattle.store.specs.declared.EntryPart.TheVariants as parts
 use Rattle.store.proofs.Stand.{entries_to, entries_more}
 use Rattle.store.proofs.Walk.{first_later}
@@ -65,7 +66,7 @@ module _ (s : Bytes) (end at : ℕ) (g : Passing s end at) where
   passing_from t = let r = g t.0 t.1 in (r.rest, r.behind)
 
   -- at a domain
-  module _ (a j : ℕ) (p : PartAt s at end (parts.Domain a j)) where
+  module _ (a j : ℕ) (p : PartAt s at end (Some (parts.Domain a j))) where
     pub domain_first : StandFrom s (first_entry s) end → EntryAt s at (domain (kind_at s at) (part s a j)) j × (a ≤ j) × (at < j) × (j ≤ end)
     domain_first t =
         let r = g t.0 t.1 in
@@ -82,7 +83,7 @@ module _ (s : Bytes) (end at : ℕ) (g : Passing s end at) where
         sym (passed_bad s end at es r (domain (kind_at s at) (part s a j)) j (p r.rest r.behind).1 (sym (y r.pre r.stand)))
 
   -- at a package
-  module _ (a m j : ℕ) (p : PartAt s at end (parts.Package a m j)) where
+  module _ (a m j : ℕ) (p : PartAt s at end (Some (parts.Package a m j))) where
     pub package_first : StandFrom s (first_entry s) end → EntryAt s at (loaded (part s a m) (part s m j)) j × (a ≤ m) × (m ≤ j) × (at < j) × (j ≤ end)
     package_first t =
         let r = g t.0 t.1 in
@@ -101,5 +102,5 @@ module _ (s : Bytes) (end at : ℕ) (g : Passing s end at) where
         sym (passed_bad s end at es r (loaded (part s a m) (part s m j)) j (p r.rest r.behind).2 (sym (y r.pre r.stand)))
 
   -- at the end
-  pub all_done : PartAt s at end parts.AtEnd → AllSay s end true
+  pub all_done : PartAt s at end None → AllSay s end true
   all_done p es t = let v = g es t in sym (whole s end at es v ∙ ap (domains_accepted (store_limits s) v.pre) (p v.rest v.behind).0)

@@ -2,24 +2,12 @@
 #![tactic(auto)]
 
 ghost use Rattle.std.specs.Prelude.{◌≡◌, true, ◌*◌, ◌≤◌, length};
-ghost use Rattle.rules.specs.Bytes.{aid_length};
 ghost use Rattle.rules.specs.Store.{domain, loaded, first_entry, store_limits};
 ghost use Rattle.store.specs.Entries.{part, kind_at, EntryAt, StandFrom};
 ghost use Rattle.domains.specs.Domains.{reads_without_int, DomainsIs, EntrySays, AllSay};
 
 use file_codes::subset::file_keeps;
-use reader::Read;
 use store::EntryPart;
-
-// 3. Has an AID 5 to 16 bytes?
-fn length_ok(n: usize) -> bool
-    ensures { result ≡ aid_length n }
-{
-    if n < 5 {
-        return false;
-    }
-    n <= 16
-}
 
 // 3 and 4 of the domain whose entry stands from `at` up to `next`, its AID from `from` on. If it is new, it is entered.
 fn domain_ok(s: &[u8], at: usize, from: usize, next: usize, table: &mut [u16]) -> bool
@@ -29,7 +17,7 @@ fn domain_ok(s: &[u8], at: usize, from: usize, next: usize, table: &mut [u16]) -
     ensures entry_says { EntrySays s.now at (domain (kind_at s.now at) (part s.now from next)) result }
     ensures domains_is_2 { result ≡ true → DomainsIs s.now next table.new }
 {
-    if !length_ok(next - from) {
+    if !cursor::length_ok(&s[from..next]) {
         return false;
     }
     sorted::enter(s, table, at)
@@ -40,9 +28,8 @@ fn file_ok(s: &[u8], g: &[u8]) -> bool
     ensures { result ≡ reads_without_int (store_limits s.now) g.now }
 {
     match reader::read_package(g, store::openings::limits_of(s)) {
-        Read::Unmarked => false,
-        Read::Unreadable => false,
-        Read::Package(_) => {
+        Err(_) => false,
+        Ok(_) => {
             let table = instructions::table();
             file_keeps(g, &table)
         }
@@ -56,13 +43,12 @@ fn package_ok(s: &[u8], at: usize, from: usize, file: usize, next: usize, table:
     requires from_le_file { (from ≤ file) × (file ≤ next) × (next ≤ length s.now) }
     ensures { EntrySays s.now at (loaded (part s.now from file) (part s.now file next)) result }
 {
-    if !length_ok(file - from) {
+    if !cursor::length_ok(&s[from..file]) {
         return false;
     }
-    let p = sorted::find(s, table, &s[from..file]);
-    if p == 0 {
+    let Some(p) = sorted::find(s, table, &s[from..file]) else {
         return false;
-    }
+    };
     if s[p] != 3 {
         return true;
     }
@@ -77,23 +63,21 @@ pub fn domains_ok(s: &[u8], end: usize, table: &mut [u16]) -> bool
 {
     table[0] = 0;
     let mut at = store::openings::first_entry(s);
-    loop {
-        match store::entry_at(s, at, end) {
-            EntryPart::Domain(from, next) => {
+    while let Some(part) = store::entry_at(s, at, end) {
+        match part {
+            EntryPart::Domain { from, next } => {
                 if !domain_ok(s, at, from, next, &mut *table) {
                     return false;
                 }
                 at = next;
             }
-            EntryPart::Package(from, file, next) => {
+            EntryPart::Package { from, file, next } => {
                 if !package_ok(s, at, from, file, next, &*table) {
                     return false;
                 }
                 at = next;
             }
-            EntryPart::AtEnd => {
-                return true;
-            }
         }
     }
+    true
 }

@@ -1,3 +1,4 @@
 -- What the functions over fields ensure.
+pub mod Told
 pub mod Words
 pub mod Editions

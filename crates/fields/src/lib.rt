@@ -12,14 +12,14 @@ ghost use Rattle.fields.specs.Words.{eight_at};
 pub fn wide(x: u8) -> usize
     ensures { (result ≡ x) × (result < 256) }
 {
-    x as usize
+    usize::from(x)
 }
 
 // A number of two bytes.
 pub fn long(x: u16) -> usize
     ensures { (result ≡ x) × (result ≤ 65535) }
 {
-    x as usize
+    usize::from(x)
 }
 
 // The u2 at a place.
@@ -67,12 +67,10 @@ fn same_each(a: &[u8], b: &[u8]) -> bool
     requires { length a.now ≡ length b.now }
     ensures { result ≡ same a.now b.now }
 {
-    let mut i = 0;
-    while i < a.len() {
+    for i in 0..a.len() {
         if a[i] != b[i] {
             return false;
         }
-        i += 1;
     }
     true
 }
@@ -93,6 +91,7 @@ fn same_short(a: &[u8], b: &[u8]) -> bool
 }
 
 // The same bytes, eight or more? The last eight may overlap those before.
+// Kept: a loop by eights, since one over the bytes or the pieces of eight misses its speed.
 fn same_long(a: &[u8], b: &[u8]) -> bool
     requires { (length a.now ≡ length b.now) × (8 ≤ length a.now) }
     ensures { result ≡ same a.now b.now }

@@ -1,5 +1,5 @@
 -- The loops over the methods of a class and over the classes of a file, which keep the first no; and the code of one method. Assumes nothing.
-use Prim.Native.Nat.{ℕ, suc, ◌+◌, ◌-◌, ◌*◌, ◌≤◌, ◌<◌}
+use Prim.Native.Nat.{ℕ, suc, ◌+◌, ◌*◌, ◌≤◌, ◌<◌}
 use native.Mathlib.Omega.{arith}
 use mathlib.Core.Path.{◌≡◌, refl, sym, ◌∙◌, ap, subst}
 use mathlib.Core.Bool.{Bool, true, false, ◌&&◌, ◌||◌, not}
@@ -47,9 +47,9 @@ module _ {f : Bytes} (k past left c : ℕ) (t : MethodNumbers f k past left c) w
       numbers_here (method_reader f) (steady_methods f) most_methods (λ w. code_questions) (λ w. in_order) f k past left c t h (l, ds)
       (g.0.methods, g.1, m l ds g.0 g.1 g.2)
 
-  pub methods_on : (n b d : ℕ) → 0 < left → MethodNumberIs f c n → b ≡ first_of past n → AfterMethod f c d → MethodNumbers f k b (left - 1) d
-  methods_on n b d h e q m =
-      numbers_on (method_reader f) (steady_methods f) most_methods (λ w. code_questions) (λ w. in_order) f k past left c t n h
+  pub methods_on : (n rest b d : ℕ) → left ≡ suc rest → MethodNumberIs f c n → b ≡ first_of past n → AfterMethod f c d → MethodNumbers f k b rest d
+  methods_on n rest b d h e q m =
+      numbers_on (method_reader f) (steady_methods f) most_methods (λ w. code_questions) (λ w. in_order) f k past left c t n rest h
       (λ w. e w.0 w.1) b d q (λ w. m w.0 w.1)
 
   pub methods_done : {i : ℕ} → MethodsAt f i k → left ≤ 0 → ClassNumberIs f i past
@@ -91,9 +91,9 @@ module _ {f : Bytes} (k past left c : ℕ) (t : ClassNumbers f k past left c) wh
       numbers_here (class_reader f) (steady_classes f) most_classes (λ w. class_questions) (λ w. in_order) f k past left c t h (l, p.domains)
       (p.classes, length f, classes_read m l p g)
 
-  pub classes_on : (n b d : ℕ) → 0 < left → ClassNumberIs f c n → b ≡ first_of past n → AfterClass f c d → ClassNumbers f k b (left - 1) d
-  classes_on n b d h e q m =
-      numbers_on (class_reader f) (steady_classes f) most_classes (λ w. class_questions) (λ w. in_order) f k past left c t n h
+  pub classes_on : (n rest b d : ℕ) → left ≡ suc rest → ClassNumberIs f c n → b ≡ first_of past n → AfterClass f c d → ClassNumbers f k b rest d
+  classes_on n rest b d h e q m =
+      numbers_on (class_reader f) (steady_classes f) most_classes (λ w. class_questions) (λ w. in_order) f k past left c t n rest h
       (λ w. e w.0 w.1) b d q (λ w. m w.0 w.1)
 
   pub classes_done : ClassesAt f k → left ≤ 0 → FileNumberIs f past

@@ -18,19 +18,18 @@ fn method_keeps(f: &[u8], table: &[u8; 256], at: usize) -> bool
 }
 
 // Of the methods of the class at a place.
+// Kept: as in the walk over codes, two closures for five lines are no plainer.
 fn class_keeps(f: &[u8], table: &[u8; 256], at: usize) -> bool
     requires { ClassThere f.now at × TableIs table.now }
     ensures { ClassKeeps f.now at result }
 {
     let start = files::methods_of(f, at);
-    let mut left = wide(f[start]);
     let mut c = start + 1;
-    while 0 < left {
+    for _ in 0..wide(f[start]) {
         if !method_keeps(f, table, c) {
             return false;
         }
         c = files::after_method(f, c);
-        left -= 1;
     }
     true
 }
@@ -41,14 +40,12 @@ pub fn file_keeps(f: &[u8], table: &[u8; 256]) -> bool
     ensures { FileKeeps f.now result }
 {
     let start = files::classes_at(f);
-    let mut left = wide(f[start]);
     let mut c = start + 1;
-    while 0 < left {
+    for _ in 0..wide(f[start]) {
         if !class_keeps(f, table, c) {
             return false;
         }
         c = files::after_class(f, c);
-        left -= 1;
     }
     true
 }

@@ -1,5 +1,7 @@
 -- The loops over a counted list of AIDs, methods or classes, whatever the limits and domains: start, turn and end. Assumes nothing.
+use Rattle.std.specs.Prelude.{Some, None}
 use Prim.Native.Nat.{ℕ, ◌+◌, ◌-◌, ◌≤◌, ◌<◌}
+use native.Mathlib.Omega.{arith}
 use mathlib.Core.Path.{◌≡◌, refl}
 use mathlib.Core.Bool.{Bool, true, false}
 use mathlib.Core.List.{List}
@@ -12,7 +14,14 @@ use Rattle.places.proofs.Steady.{Steady, steady_aid, steady_method, steady_class
 use Rattle.places.proofs.Track.{track_start, track_ends, track_more, track_done}
 use Rattle.places.proofs.Search.{seek_hit, seek_miss, seek_none, each_hit, each_miss, each_none, nth_hit, nth_miss, nth_none}
 use Rattle.files.specs.Say.{Aids, AfterAids, AidNth, MethodThere, AfterMethod, OfMethod, Methods, AfterMethods, ClassThere, AfterClass, OfClass, Classes, ClassNth}
-use Rattle.files.specs.declared.Spot.TheVariants.{At, Nothing}
+
+-- a turn leaves one less of those from n on
+rest : (end n : ℕ) → n < end → end - (n + 1) ≡ end - n - 1
+rest end n h = omega arith
+
+-- before the first turn all are left
+pub whole : (end : ℕ) → end - 0 ≡ end
+whole end = omega arith
 
 -- AIDs: of the list at i, `left` are still to be read at c, and f of the list is g of these
 abbrev pub AidLoop : {B : Type 0} → (List Aid → B) → (List Aid → B) → Bytes → ℕ → ℕ → ℕ → Type 0
@@ -25,23 +34,25 @@ module _ {B : Type 0} {f g : List Aid → B} {s : Bytes} {i left c : ℕ} (t : A
   pub aids_here : 0 < left → Aids s i → Ends aid s c
   aids_here h e = track_ends aid steady_aid s (counted e.0 u1 aid) i f g left c (t e.0) h e.1
 
-module _ {s : Bytes} {i left c : ℕ} where
-  module _ (t : AidLoop nil nil s i left c) where
-    pub aids_skip : {d : ℕ} → 0 < left → EndsAt aid s c d → AidLoop nil nil s i (left - 1) d
-    aids_skip {d} h e most = track_more aid steady_aid s (counted most u1 aid) i nil nil left c (t most) nil d h e (λ x m p ys. refl)
+module _ {s : Bytes} {i end n c : ℕ} where
+  module _ (t : AidLoop nil nil s i (end - n) c) where
+    pub aids_skip : {d : ℕ} → n < end → EndsAt aid s c d → AidLoop nil nil s i (end - (n + 1)) d
+    aids_skip {d} h e most = rw (rest end n h)
+        (track_more aid steady_aid s (counted most u1 aid) i nil nil (end - n) c (t most) nil d (omega arith) e (λ x m p ys. refl))
 
-    pub aids_done : left ≤ 0 → AfterAids s i c
-    aids_done h most xs j p = (track_done aid steady_aid s (counted most u1 aid) i nil nil left c (t most) h xs j p).0
+    pub aids_done : end ≤ n → AfterAids s i c
+    aids_done h most xs j p = (track_done aid steady_aid s (counted most u1 aid) i nil nil (end - n) c (t most) (omega arith) xs j p).0
 
-  module _ {k n : ℕ} (t : AidLoop (λ xs. at xs k) (λ ys. at ys n) s i left c) where
-    pub aids_hit : 0 < left → n ≡ 0 → AidNth s i k (At c)
-    aids_hit h q most xs j p = nth_hit aid steady_aid s (counted most u1 aid) i left c k n (t most) h q xs j p
+  module _ {k : ℕ} (t : AidLoop (λ xs. at xs k) (λ ys. at ys (k - n)) s i (end - n) c) where
+    pub aids_hit : n < end → n ≡ k → AidNth s i k (Some c)
+    aids_hit h q most xs j p = nth_hit aid steady_aid s (counted most u1 aid) i (end - n) c k (k - n) (t most) (omega arith) (omega arith) xs j p
 
-    pub aids_miss : {d : ℕ} → 0 < left → (n ≡ 0 → ⊥) → EndsAt aid s c d → AidLoop (λ xs. at xs k) (λ ys. at ys (n - 1)) s i (left - 1) d
-    aids_miss {d} h q e most = nth_miss aid steady_aid s (counted most u1 aid) i left c k n (t most) d h q e
+    pub aids_miss : {d : ℕ} → n < end → n < k → EndsAt aid s c d → AidLoop (λ xs. at xs k) (λ ys. at ys (k - (n + 1))) s i (end - (n + 1)) d
+    aids_miss {d} h q e most = rw (rest end n h, rest k n q)
+        (nth_miss aid steady_aid s (counted most u1 aid) i (end - n) c k (k - n) (t most) d (omega arith) (λ z. omega arith) e)
 
-    pub aids_none : left ≤ 0 → AidNth s i k Nothing
-    aids_none h most xs j p = nth_none aid steady_aid s (counted most u1 aid) i left c k n (t most) h xs j p
+    pub aids_none : end ≤ n → AidNth s i k None
+    aids_none h most xs j p = nth_none aid steady_aid s (counted most u1 aid) i (end - n) c k (k - n) (t most) (omega arith) xs j p
 
 -- methods of a file: the readers of one and of a counted list
 abbrev method_in : Limits → Bytes → List Aid → Reader Method
@@ -104,6 +115,15 @@ module _ {s : Bytes} {i left c : ℕ} where
     pub methods_none : left ≤ 0 → OfMethods s i λ l ds ms. all p ms ≡ true
     methods_none h l ds ms j e = each_none (method_in l s ds) (steady_method_in l s ds) s (methods_in l s ds) i left c p (t l ds) h ms j e
 
+-- the same counted up from n
+module _ {s : Bytes} {i c : ℕ} where
+  pub methods_past : {end n d : ℕ} → MethodLoop nil nil s i (end - n) c → n < end → AfterMethod s c d → MethodLoop nil nil s i (end - (n + 1)) d
+  methods_past {end} {n} t h e = rw (rest end n h) (methods_skip t (omega arith) e)
+
+  pub find_past : {end n d : ℕ} (p : Method → Bool) → MethodLoop (find p) (find p) s i (end - n) c → n < end → MethodTests s c p false →
+      AfterMethod s c d → MethodLoop (find p) (find p) s i (end - (n + 1)) d
+  find_past {end} {n} p t h q e = rw (rest end n h) (find_miss p t (omega arith) q e)
+
 -- classes
 abbrev class_in : Limits → Bytes → List Aid → Reader Class
 class_in l s ds = class (format_of l s) ds
@@ -135,17 +155,20 @@ module _ {B : Type 0} {f g : List Class → B} {s : Bytes} {i left c : ℕ} (t :
       let ds = e.1 in
       (l, ds, track_ends (class_in l s ds) (steady_class_in l s ds) s (classes_in l s ds) i f g left c (t l ds) h e.2)
 
+module _ {s : Bytes} {i end n c : ℕ} where
+  module _ {k : ℕ} (t : ClassLoop (λ xs. at xs k) (λ ys. at ys (k - n)) s i (end - n) c) where
+    pub classes_hit : n < end → n ≡ k → ClassNth s i k (Some c)
+    classes_hit h q l ds xs j p = nth_hit (class_in l s ds) (steady_class_in l s ds) s (classes_in l s ds) i (end - n) c k (k - n) (t l ds) (omega arith)
+        (omega arith) xs j p
+
+    pub classes_miss : {d : ℕ} → n < end → n < k → AfterClass s c d → ClassLoop (λ xs. at xs k) (λ ys. at ys (k - (n + 1))) s i (end - (n + 1)) d
+    classes_miss {d} h q e l ds = rw (rest end n h, rest k n q)
+        (nth_miss (class_in l s ds) (steady_class_in l s ds) s (classes_in l s ds) i (end - n) c k (k - n) (t l ds) d (omega arith) (λ z. omega arith) (e l ds))
+
+    pub classes_none : end ≤ n → ClassNth s i k None
+    classes_none h l ds xs j p = nth_none (class_in l s ds) (steady_class_in l s ds) s (classes_in l s ds) i (end - n) c k (k - n) (t l ds) (omega arith) xs j p
+
 module _ {s : Bytes} {i left c : ℕ} where
-  module _ {k n : ℕ} (t : ClassLoop (λ xs. at xs k) (λ ys. at ys n) s i left c) where
-    pub classes_hit : 0 < left → n ≡ 0 → ClassNth s i k (At c)
-    classes_hit h q l ds xs j p = nth_hit (class_in l s ds) (steady_class_in l s ds) s (classes_in l s ds) i left c k n (t l ds) h q xs j p
-
-    pub classes_miss : {d : ℕ} → 0 < left → (n ≡ 0 → ⊥) → AfterClass s c d → ClassLoop (λ xs. at xs k) (λ ys. at ys (n - 1)) s i (left - 1) d
-    classes_miss {d} h q e l ds = nth_miss (class_in l s ds) (steady_class_in l s ds) s (classes_in l s ds) i left c k n (t l ds) d h q (e l ds)
-
-    pub classes_none : left ≤ 0 → ClassNth s i k Nothing
-    classes_none h l ds xs j p = nth_none (class_in l s ds) (steady_class_in l s ds) s (classes_in l s ds) i left c k n (t l ds) h xs j p
-
   module _ (p : Class → Bool) (t : ClassLoop (all p) (all p) s i left c) where
     pub every_hit : 0 < left → ClassTests s c p false → OfClasses s i λ l ds cs. all p cs ≡ false
     every_hit h q l ds cs j e = each_hit (class_in l s ds) (steady_class_in l s ds) s (classes_in l s ds) i left c p (t l ds) h (q l ds) cs j e

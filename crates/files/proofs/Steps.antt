@@ -1,14 +1,13 @@
 -- The steps over one package file: what each function's arithmetic says of whatever stands at a place. Assumes nothing.
+use Rattle.std.specs.Prelude.{None}
 use Prim.Native.Nat.{ℕ, zero, suc, ◌+◌, ◌-◌, ◌*◌, ◌/◌, ◌%◌, ◌≤◌, ◌<◌}
 use native.Mathlib.Omega.{arith}
-use mathlib.Core.Path.{◌≡◌, refl, sym, ◌∙◌, ap}
-use mathlib.Core.Bool.{Bool, true, false, not}
+use mathlib.Core.Path.{◌≡◌, refl, sym, ap}
 use mathlib.Core.List.{List, [], ◌∷◌}
 use mathlib.Core.Option.{none, some}
 use mathlib.Core.Logic.{inl, inr}
 use lib.Dec.{eqb}
 use lib.ListN.{length, take, drop, get_or}
-use borrow.Author.Tests.{eq-eqb, ne_eqb}
 use Rattle.rules.specs.Bytes.{Bytes, Aid, at, u1, u2, many, aid, counted}
 use Rattle.rules.specs.Code.{u2_at}
 use Rattle.rules.specs.Package.{Limits, format_of, most_references, most_methods, most_classes, ClassNumber, Reference, Item, Policy, class_number, reference, item, policy, method, class}
@@ -17,8 +16,7 @@ use Rattle.places.proofs.Inverse.{reads_counted, reads_u1, reads_u2}
 use Rattle.places.proofs.Steady.{steady_u1, steady_u2, steady_number, steady_reference, steady_item}
 use Rattle.places.proofs.Parts.{moved, aid_part, number_part, reference_part, item_part, policy_part, method_part, class_part}
 use Rattle.places.proofs.Track.{many_wide, many_nth, many_length, placed_at, counted_inside}
-use Rattle.files.specs.Say.{Aids, References, AfterReferences, ReferenceNth, PolicyThere, AfterPolicy, MethodThere, PolicyAt, NameIs, VisibleIs, ImplementedIs, StaticIs, InstanceIs, Methods, AfterMethods, ClassThere, AfterClass, ParentsAt, MethodsAt, InterfaceIs, Classes}
-use Rattle.files.specs.declared.Referenced.TheVariants.{Nothing}
+use Rattle.files.specs.Say.{Aids, References, AfterReferences, ReferenceNth, PolicyThere, AfterPolicy, MethodThere, PolicyAt, NameIs, VisibleIs, ImplementedIs, StaticIs, Methods, AfterMethods, ClassThere, AfterClass, ParentsAt, MethodsAt, InterfaceIs, Classes}
 
 -- AIDs
 module _ {s : Bytes} {i : ℕ} where
@@ -65,7 +63,7 @@ module _ {s : Bytes} {i : ℕ} where
   references_next xs j p = (references_to s i xs j p).1
 
   module _ {k : ℕ} where
-    pub reference_none : u2_at s i ≤ k → ReferenceNth s i k Nothing
+    pub reference_none : u2_at s i ≤ k → ReferenceNth s i k None
     reference_none h xs j p =
         let c = reads_counted most_references u2 reference steady_u2 s i xs j p in
         let u = reads_u2 s i c.number c.place c.count in
@@ -131,15 +129,7 @@ module _ {s : Bytes} {i : ℕ} where
 
     pub method_static : StaticIs s i (eqb (n / 32 % 2) 1)
     method_static l ds m j p = rw h (method_part (format_of l s) ds s i m j p).static
-
-  -- a non-static method of a name
-  pub instance_other : {n r : ℕ} → NameIs s i r → (r ≡ n → ⊥) → InstanceIs s i n false
-  instance_other {n} h q l ds m j p = let e = h l ds m j p in let f : eqb m.name n ≡ false = ne_eqb m.name n (λ k. q (e ∙ k)) in rw f
-
-  pub instance_this : {n r : ℕ} {b : Bool} → NameIs s i r → r ≡ n → StaticIs s i b → InstanceIs s i n (not b)
-  instance_this {n} {r} {b} h q g l ds m j p =
-      let t : eqb m.name n ≡ true = eq-eqb m.name n (sym (h l ds m j p) ∙ q) in
-      let f : b ≡ m.static = g l ds m j p in rw (t, f)
+    -- a non-static method of a name
 
 -- classes
 parents_to : (l : Limits) (s : Bytes) (i : ℕ) (xs : List ClassNumber) (j : ℕ) → Reads (counted l.parents u1 class_number) s i xs j → (i < length s) ×

@@ -1,4 +1,6 @@
 -- A file's lists follow one another: where each stands, and what the others may use of that. Assumes nothing.
+use Rattle.std.specs.Prelude.{ℕ}
+use Rattle.std.specs.Prelude.{Option as Optional}
 use Prim.Native.Nat.{ℕ}
 use mathlib.Core.Path.{◌≡◌, refl, sym}
 use mathlib.Core.Option.{some}
@@ -8,7 +10,6 @@ use Rattle.rules.specs.Package.{Limits, format_of, most_domains, most_imports, m
 use Rattle.places.specs.Reads.{Reads, Ends, EndsAt}
 use Rattle.places.proofs.Parts.{moved, file_parts}
 use Rattle.files.specs.Say.{Aids, AfterAids, AidBytes, References, AfterReferences, Classes, ClassNth, Readable, OwnAid, DomainsAt, ImportsAt, ReferencesAt, ClassesAt, ClassPlaced}
-use Rattle.files.specs.declared.Spot.{Spot}
 
 pub file_aid : {f : Bytes} → Readable f → Ends aid f 7
 file_aid {f} r = let t = file_parts r.0 f r.1 r.2 in (r.1.aid, t.domains_at, t.named)
@@ -58,5 +59,5 @@ module _ {f : Bytes} {i : ℕ} where
   pub file_classes : {n : ℕ} → ReferencesAt f i → AfterReferences f i n → ClassesAt f n
   file_classes h a l p e = let x = h l p e in (x.0, sym (a p.references x.0.classes_at (moved x.0.references x.1 refl refl)))
 
-  pub file_class : {k : ℕ} (r : Spot) → ClassesAt f i → ClassNth f i k r → ClassPlaced f k r
+  pub file_class : {k : ℕ} (r : Optional ℕ) → ClassesAt f i → ClassNth f i k r → ClassPlaced f k r
   file_class r h n l p e = n l p.domains p.classes (length f) (classes_read h l p e)

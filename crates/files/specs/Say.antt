@@ -9,26 +9,21 @@
 -- DeclaredPlaced, .. s i n r == the method of name n of the class at i stands at r, if there is one
 -- Readable f                == the file reads; DomainsAt, .. f e == that list of its package stands at e
 use Rattle.std.specs.Prelude.{ℕ, ◌≡◌, List, Bool, ◌&&◌, not, eqb}
+use Rattle.std.specs.Prelude.{Some, None}
+use Rattle.std.specs.Prelude.{Option as Optional}
+use Rattle.files.specs.declared.Reference.{Reference as Naming}
 use Rattle.std.proofs.Math.Option.{Option, none, some}
-use Rattle.rules.specs.Bytes.{Bytes, Aid, same, at, u1, u2, aid, counted}
+use Rattle.rules.specs.Bytes.{Bytes, Aid, same, find, at, u1, u2, aid, counted}
 use Rattle.rules.specs.Package.{Limits, format_of, most_references, most_classes, most_methods, Reference, Method, Class, Package, class_number, reference, policy, method, class, read_file}
 use Rattle.rules.specs.Classes.{declared, declared_instance}
+use Rattle.fields.specs.Told.{told}
 use Rattle.places.specs.Reads.{Reads, Ends, EndsAt, Placed}
 use Rattle.places.specs.Parts.{FilePart}
-use Rattle.files.specs.declared.Spot.{Spot}
-use Rattle.files.specs.declared.Spot.TheVariants.{At, Nothing}
-use Rattle.files.specs.declared.Referenced.{Referenced}
-use Rattle.files.specs.declared.Referenced.TheVariants as referenced'
-
--- the place told, if one is told
-abbrev pub spot : Spot → Option ℕ
-spot (At i) = some i
-spot Nothing = none
 
 -- the reference told, if one is told
-abbrev pub referenced : Referenced → Option Reference
-referenced (referenced'.To p c n) = some (record { class = record { pack = p; class = c }; name = n })
-referenced referenced'.Nothing = none
+abbrev pub referenced : Optional Naming → Option Reference
+referenced (Some x) = some (record { class = record { pack = x.pack; class = x.class }; name = x.name })
+referenced None = none
 
 -- counted lists of AIDs
 abbrev pub Aids : Bytes → ℕ → Type 0
@@ -37,8 +32,8 @@ Aids s i = (most : ℕ) × Ends (counted most u1 aid) s i
 abbrev pub AfterAids : Bytes → ℕ → ℕ → Type 0
 AfterAids s i e = (most : ℕ) → EndsAt (counted most u1 aid) s i e
 
-abbrev pub AidNth : Bytes → ℕ → ℕ → Spot → Type 0
-AidNth s i k r = (most : ℕ) (ds : List Aid) (j : ℕ) → Reads (counted most u1 aid) s i ds j → Placed aid s (at ds k) (spot r)
+abbrev pub AidNth : Bytes → ℕ → ℕ → Optional ℕ → Type 0
+AidNth s i k r = (most : ℕ) (ds : List Aid) (j : ℕ) → Reads (counted most u1 aid) s i ds j → Placed aid s (at ds k) (told r)
 
 -- the bytes of the AID at a place
 abbrev pub AidBytes : Bytes → ℕ → Bytes → Type 0
@@ -55,7 +50,7 @@ References s i = Ends (counted most_references u2 reference) s i
 abbrev pub AfterReferences : Bytes → ℕ → ℕ → Type 0
 AfterReferences s i e = EndsAt (counted most_references u2 reference) s i e
 
-abbrev pub ReferenceNth : Bytes → ℕ → ℕ → Referenced → Type 0
+abbrev pub ReferenceNth : Bytes → ℕ → ℕ → Optional Naming → Type 0
 ReferenceNth s i k r = (xs : List Reference) (j : ℕ) → Reads (counted most_references u2 reference) s i xs j → referenced r ≡ at xs k
 
 -- policies
@@ -91,6 +86,9 @@ ImplementedIs s i r = OfMethod s i λ l ds m. r ≡ m.implemented
 abbrev pub StaticIs : Bytes → ℕ → Bool → Type 0
 StaticIs s i r = OfMethod s i λ l ds m. r ≡ m.static
 
+abbrev pub NamedIs : Bytes → ℕ → ℕ → Bool → Type 0
+NamedIs s i n r = OfMethod s i λ l ds m. r ≡ eqb m.name n
+
 abbrev pub InstanceIs : Bytes → ℕ → ℕ → Bool → Type 0
 InstanceIs s i n r = OfMethod s i λ l ds m. r ≡ (eqb m.name n && not m.static)
 
@@ -123,18 +121,26 @@ MethodsAt s i e = OfClass s i λ l ds k j. Reads (counted most_methods u1 (metho
 abbrev pub InterfaceIs : Bytes → ℕ → Bool → Type 0
 InterfaceIs s i r = OfClass s i λ l ds k j. r ≡ k.interface
 
-abbrev pub DeclaredPlaced : Bytes → ℕ → ℕ → Spot → Type 0
-DeclaredPlaced s i n r = OfClass s i λ l ds k j. Placed (method (format_of l s) ds) s (declared k n) (spot r)
+abbrev pub DeclaredPlaced : Bytes → ℕ → ℕ → Optional ℕ → Type 0
+DeclaredPlaced s i n r = OfClass s i λ l ds k j. Placed (method (format_of l s) ds) s (declared k n) (told r)
 
-abbrev pub InstancePlaced : Bytes → ℕ → ℕ → Spot → Type 0
-InstancePlaced s i n r = OfClass s i λ l ds k j. Placed (method (format_of l s) ds) s (declared_instance k n) (spot r)
+abbrev pub InstancePlaced : Bytes → ℕ → ℕ → Optional ℕ → Type 0
+InstancePlaced s i n r = OfClass s i λ l ds k j. Placed (method (format_of l s) ds) s (declared_instance k n) (told r)
+
+-- what q answers of a method at a place is what p answers of it
+abbrev pub TestIs : (ℕ → Bool → Type 0) → Bytes → (Method → Bool) → Type 0
+TestIs q s p = (c : ℕ) (b : Bool) → q c b → OfMethod s c λ l ds m. b ≡ p m
+
+-- the first method of the class that p passes stands at r, if there is one
+abbrev pub FirstPlaced : Bytes → ℕ → (Method → Bool) → Optional ℕ → Type 0
+FirstPlaced s i p r = OfClass s i λ l ds k j. Placed (method (format_of l s) ds) s (find p k.methods) (told r)
 
 abbrev pub Classes : Bytes → ℕ → Type 0
 Classes s i = (l : Limits) × (ds : List Aid) × Ends (counted most_classes u1 (class (format_of l s) ds)) s i
 
-abbrev pub ClassNth : Bytes → ℕ → ℕ → Spot → Type 0
+abbrev pub ClassNth : Bytes → ℕ → ℕ → Optional ℕ → Type 0
 ClassNth s i k r = (l : Limits) (ds : List Aid) (cs : List Class) (j : ℕ) → Reads (counted most_classes u1 (class (format_of l s) ds)) s i cs j →
-    Placed (class (format_of l s) ds) s (at cs k) (spot r)
+    Placed (class (format_of l s) ds) s (at cs k) (told r)
 
 -- a file
 abbrev pub Readable : Bytes → Type 0
@@ -161,5 +167,5 @@ abbrev pub ClassesAt : Bytes → ℕ → Type 0
 ClassesAt f e = OfFile f λ l p t. t.classes_at ≡ e
 
 -- the record of its class k
-abbrev pub ClassPlaced : Bytes → ℕ → Spot → Type 0
-ClassPlaced f k r = (l : Limits) (p : Package) → read_file l f ≡ some p → Placed (class (format_of l f) p.domains) f (at p.classes k) (spot r)
+abbrev pub ClassPlaced : Bytes → ℕ → Optional ℕ → Type 0
+ClassPlaced f k r = (l : Limits) (p : Package) → read_file l f ≡ some p → Placed (class (format_of l f) p.domains) f (at p.classes k) (told r)

@@ -1,25 +1,20 @@
 // One package file, walked by places. Each function takes the file as a slice and a place in it.
 #![tactic(auto)]
 
-ghost use Rattle.std.specs.Prelude.{◌≡◌};
+ghost use Rattle.std.specs.Prelude.{◌≡◌, ℕ, Bool};
+ghost use Rattle.rules.specs.Package.{Method};
 ghost use Rattle.rules.specs.Bytes.{aid};
 ghost use Rattle.places.specs.Reads.{Ends, EndsAt};
-ghost use Rattle.files.specs.Say.{Aids, AfterAids, AidNth, AidBytes, AidIs, References, AfterReferences, ReferenceNth, PolicyThere, AfterPolicy, MethodThere, AfterMethod, PolicyAt, NameIs, VisibleIs, ImplementedIs, StaticIs, InstanceIs, CodeIs, Methods, AfterMethods, ClassThere, AfterClass, ParentsAt, MethodsAt, InterfaceIs, DeclaredPlaced, InstancePlaced, Classes, ClassNth, Readable, OwnAid, DomainsAt, ImportsAt, ReferencesAt, ClassesAt, ClassPlaced};
+ghost use Rattle.files.specs.Say.{Aids, AfterAids, AidNth, AidBytes, AidIs, References, AfterReferences, ReferenceNth, PolicyThere, AfterPolicy, MethodThere, AfterMethod, PolicyAt, NameIs, VisibleIs, ImplementedIs, StaticIs, NamedIs, InstanceIs, TestIs, FirstPlaced, CodeIs, Methods, AfterMethods, ClassThere, AfterClass, ParentsAt, MethodsAt, InterfaceIs, DeclaredPlaced, InstancePlaced, Classes, ClassNth, Readable, OwnAid, DomainsAt, ImportsAt, ReferencesAt, ClassesAt, ClassPlaced};
 
 use fields::{same_bytes, says_second, u2_at, wide};
 
-// A place, or none.
+// A reference: the number of its package, that of its class, and its name.
 #[derive(Clone, Copy)]
-pub enum Spot {
-    At(usize),
-    Nothing,
-}
-
-// A reference's package number, class number and name, or none.
-#[derive(Clone, Copy)]
-pub enum Referenced {
-    To(usize, usize, usize),
-    Nothing,
+pub struct Reference {
+    pub pack: usize,
+    pub class: usize,
+    pub name: usize,
 }
 
 // Where the AID at a place ends.
@@ -35,32 +30,28 @@ pub fn after_aids(s: &[u8], at: usize) -> usize
     requires { Aids s.now at }
     ensures { AfterAids s.now at result }
 {
-    let mut left = wide(s[at]);
     let mut c = at + 1;
-    while 0 < left {
+    for _ in 0..wide(s[at]) {
         c = after_aid(s, c);
-        left -= 1;
     }
     c
 }
 
 // The AID with a number in the counted list at a place.
-pub fn nth_aid(s: &[u8], at: usize, k: usize) -> Spot
+// Kept: beside `nth_class`, and `after_aids` beside `after_methods`, since one walk over a closure would have to say in its clauses what
+// a reader of any type reads at each place, which is no plainer than a loop of four lines.
+pub fn nth_aid(s: &[u8], at: usize, k: usize) -> Option<usize>
     requires { Aids s.now at }
     ensures { AidNth s.now at k result }
 {
-    let mut left = wide(s[at]);
     let mut c = at + 1;
-    let mut j = k;
-    while 0 < left {
-        if j == 0 {
-            return Spot::At(c);
+    for i in 0..wide(s[at]) {
+        if i == k {
+            return Some(c);
         }
         c = after_aid(s, c);
-        left -= 1;
-        j -= 1;
     }
-    Spot::Nothing
+    None
 }
 
 // The AID at a place, as a part of the file.
@@ -89,15 +80,19 @@ pub fn after_references(s: &[u8], at: usize) -> usize
 }
 
 // The reference with a number in the counted list at a place.
-pub fn reference_at(s: &[u8], at: usize, k: usize) -> Referenced
+pub fn reference_at(s: &[u8], at: usize, k: usize) -> Option<Reference>
     requires { References s.now at }
     ensures { ReferenceNth s.now at k result }
 {
     if u2_at(s, at) <= k {
-        return Referenced::Nothing;
+        return None;
     }
     let c = at + 2 + 4 * k;
-    Referenced::To(wide(s[c]), wide(s[c + 1]), u2_at(s, c + 2))
+    Some(Reference {
+        pack: wide(s[c]),
+        class: wide(s[c + 1]),
+        name: u2_at(s, c + 2),
+    })
 }
 
 // Where the policy at a place ends.
@@ -169,15 +164,20 @@ pub fn is_static(s: &[u8], at: usize) -> bool
     wide(s[at]) / 32 % 2 == 1
 }
 
+// Is it one of that name?
+fn is_named(s: &[u8], at: usize, name: usize) -> bool
+    requires { MethodThere s.now at }
+    ensures { NamedIs s.now at name result }
+{
+    name_of(s, at) == name
+}
+
 // Is it a non-static one of that name?
 fn is_instance(s: &[u8], at: usize, name: usize) -> bool
     requires { MethodThere s.now at }
     ensures { InstanceIs s.now at name result }
 {
-    if name_of(s, at) != name {
-        return false;
-    }
-    !is_static(s, at)
+    is_named(s, at, name) && !is_static(s, at)
 }
 
 // The code of the method at a place, as a part of the file; empty where it is not implemented.
@@ -199,11 +199,9 @@ pub fn after_methods(s: &[u8], at: usize) -> usize
     requires { Methods s.now at }
     ensures { AfterMethods s.now at result }
 {
-    let mut left = wide(s[at]);
     let mut c = at + 1;
-    while 0 < left {
+    for _ in 0..wide(s[at]) {
         c = after_method(s, c);
-        left -= 1;
     }
     c
 }
@@ -240,59 +238,52 @@ pub fn after_class(s: &[u8], at: usize) -> usize
     after_methods(s, methods_of(s, at))
 }
 
+// The first method of the class at a place that passes a test.
+fn first_method<F: Fn(usize) -> bool>(s: &[u8], at: usize, passes: F) -> Option<usize>
+    requires class_there { ClassThere s.now at }
+    requires askable { (c : ℕ) → MethodThere s.now c → F.pre passes c }
+    ensures { (p : Method → Bool) → TestIs (F.post passes) s.now p → FirstPlaced s.now at p result }
+{
+    let start = methods_of(s, at);
+    let mut c = start + 1;
+    for _ in 0..wide(s[start]) {
+        if passes(c) {
+            return Some(c);
+        }
+        c = after_method(s, c);
+    }
+    None
+}
+
 // The method of a name that the class at a place declares.
-pub fn find_method(s: &[u8], at: usize, name: usize) -> Spot
+pub fn find_method(s: &[u8], at: usize, name: usize) -> Option<usize>
     requires { ClassThere s.now at }
     ensures { DeclaredPlaced s.now at name result }
 {
-    let start = methods_of(s, at);
-    let mut left = wide(s[start]);
-    let mut c = start + 1;
-    while 0 < left {
-        if name_of(s, c) == name {
-            return Spot::At(c);
-        }
-        c = after_method(s, c);
-        left -= 1;
-    }
-    Spot::Nothing
+    first_method(s, at, |c| is_named(s, c, name))
 }
 
 // The non-static one.
-pub fn find_instance(s: &[u8], at: usize, name: usize) -> Spot
+pub fn find_instance(s: &[u8], at: usize, name: usize) -> Option<usize>
     requires { ClassThere s.now at }
     ensures { InstancePlaced s.now at name result }
 {
-    let start = methods_of(s, at);
-    let mut left = wide(s[start]);
-    let mut c = start + 1;
-    while 0 < left {
-        if is_instance(s, c, name) {
-            return Spot::At(c);
-        }
-        c = after_method(s, c);
-        left -= 1;
-    }
-    Spot::Nothing
+    first_method(s, at, |c| is_instance(s, c, name))
 }
 
 // The class with a number in the counted list at a place.
-pub fn nth_class(s: &[u8], at: usize, k: usize) -> Spot
+pub fn nth_class(s: &[u8], at: usize, k: usize) -> Option<usize>
     requires { Classes s.now at }
     ensures { ClassNth s.now at k result }
 {
-    let mut left = wide(s[at]);
     let mut c = at + 1;
-    let mut j = k;
-    while 0 < left {
-        if j == 0 {
-            return Spot::At(c);
+    for i in 0..wide(s[at]) {
+        if i == k {
+            return Some(c);
         }
         c = after_class(s, c);
-        left -= 1;
-        j -= 1;
     }
-    Spot::Nothing
+    None
 }
 
 // The AID of a file's package, as a part of it.
@@ -336,7 +327,7 @@ pub fn classes_at(f: &[u8]) -> usize
 }
 
 // The record of its class k.
-pub fn class_place(f: &[u8], k: usize) -> Spot
+pub fn class_place(f: &[u8], k: usize) -> Option<usize>
     requires { Readable f.now }
     ensures { ClassPlaced f.now k result }
 {

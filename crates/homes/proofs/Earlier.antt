@@ -1,4 +1,7 @@
 -- A package that is found by its AID among all entries stands among the earlier ones, where it is installed there. Assumes nothing.
+use Rattle.std.specs.Prelude.{Some, None}
+use Rattle.std.specs.Prelude.{Option as Optional}
+use Rattle.homes.specs.declared.Home.{Home}
 use Prim.Native.Nat.{ℕ, ◌+◌, ◌≤◌}
 use native.Mathlib.Omega.{arith}
 use mathlib.Core.Path.{◌≡◌, refl, sym, ◌∙◌, ap}
@@ -17,8 +20,6 @@ use Rattle.store.specs.Entries.{Entries, place_of}
 use Rattle.store.proofs.Stand.{Split, entries_split}
 use Rattle.store.proofs.Asked.{by_aid_none}
 use Rattle.homes.specs.Homes.{HomeSays}
-use Rattle.homes.specs.declared.HomeFound.{HomeFound}
-use Rattle.homes.specs.declared.HomeFound.TheVariants.{At, Nothing}
 
 -- the first entry that a test finds, where it finds one in front
 place_front : (q : Entry → Bool) (i : ℕ) (es fs : List Entry) → any q es ≡ true → place_of q i (es ++ fs) ≡ place_of q i es
@@ -54,8 +55,8 @@ module _ (s : Bytes) (end before : ℕ) (a : Aid) (es pre : List Entry) (stand :
       ∙ ap (λ (is : List Installed). by_aid is a) (sym (flat_append (installed_by (store_limits s)) pre rest.rest) ∙ ap (installed (store_limits s))
       (sym rest.are))
 
-  pub earlier : (r : HomeFound) → HomeSays s es a r → HomeSays s pre a r
-  earlier (At v) p = record {
+  pub earlier : (r : Optional Home) → HomeSays s es a r → HomeSays s pre a r
+  earlier (Some v) p = record {
     place = sym (place_front (is_package (store_limits s) a) (first_entry s) pre rest.rest package_here) ∙ ap
         (place_of (is_package (store_limits s) a) (first_entry s)) (sym rest.are) ∙ p.place;
     home = p.home;
@@ -66,4 +67,4 @@ module _ (s : Bytes) (end before : ℕ) (a : Aid) (es pre : List Entry) (stand :
     from = p.from;
     to = p.to;
   }
-  earlier Nothing e = same_package_lem ∙ e
+  earlier None e = same_package_lem ∙ e

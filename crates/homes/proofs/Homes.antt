@@ -1,4 +1,5 @@
 -- What a home says of the file there: it reads, it was accepted over the entries before it, its imports are found there. Assumes nothing.
+use Rattle.std.specs.Prelude.{Some}
 use Prim.Native.Nat.{ℕ, ◌+◌, ◌<◌, ◌≤◌}
 use native.Mathlib.Omega.{arith}
 use mathlib.Core.Path.{◌≡◌, sym, ◌∙◌, ap, subst}
@@ -24,7 +25,6 @@ use Rattle.store.proofs.Stand.{entry_one, entries_to, entries_next}
 use Rattle.store.proofs.Walk.{found_at}
 use Rattle.homes.specs.Homes.{Setting, Imports, Parents, file_of, Stored, HomeIs, own, stored, FoundIs}
 use Rattle.homes.specs.declared.Home.{Home}
-use Rattle.homes.specs.declared.HomeFound.TheVariants.{At}
 
 -- the file of each accepted entry reads
 pub all_read : (v : Opening) (n : ℕ) (pre es : List Entry) → T (accepted_all v n pre es) → AllRead (opening_limits v) es
@@ -116,7 +116,7 @@ module _ (f s : Bytes) (end : ℕ) (es : List Entry) (self : Installed) where
 
   -- an import of the package at a home, found among the entries before it
   pub import_found : (h : Home) (x : Installed) (b : Before h x) (a : Aid) → Memᴰ a x.pack.imports → (i j k : ℕ) → PackageAt s b.pre a i j k →
-      FoundIs f s end es self h (by_aid (installed (store_limits s) es) a) (At (record { from = j; to = k; before = i }))
+      FoundIs f s end es self h (by_aid (installed (store_limits s) es) a) (Some (record { from = j; to = k; before = i }))
   unfolding q13_imports
   import_found h x b a m i j k p =
       let r = found_at (is_package (store_limits s) a) s (first_entry s) b.pre h.before i k b.stand p.place in

@@ -1,5 +1,6 @@
 -- The places of a file's imports: at each a package's entry stands, and the home there is that of the package that the number stands for.
 -- Assumes nothing.
+use Rattle.std.specs.Prelude.{Some, None}
 use Prim.Native.Nat.{ℕ, zero, suc, ◌-◌, ◌<◌, ◌≤◌}
 use native.Mathlib.Omega.{arith}
 use native.Mathlib.Decide.{dec_le}
@@ -18,7 +19,6 @@ use Rattle.store.proofs.Stand.{entries_to}
 use Rattle.homes.specs.Homes.{Imports, own_home, home_of, PackageFrom, Stored, HomeIs, own, stored, FoundIs, NumberedIs}
 use Rattle.homes.specs.Found.{home_at, placed_home, home_numbered, ImportPlaces, PlacesStand}
 use Rattle.homes.specs.declared.Home.{Home}
-use Rattle.homes.specs.declared.HomeFound.TheVariants.{At, Nothing}
 
 -- a home whose entry stands before the place where the entries end is a stored one
 pub stored_of : (f s : Bytes) (end : ℕ) (es : List Entry) (self : Installed) (h : Home) (x : Installed) → HomeIs f s end es self h x → h.before < end →
@@ -67,7 +67,7 @@ module _ (f s : Bytes) (end : ℕ) (t : List ℕ) (p : ImportPlaces f s end t) (
   placed_found k = go (eqb (get_or t k 0) 0) refl
     where
       go : (b : Bool) → eqb (get_or t k 0) 0 ≡ b →
-          FoundIs f s end es self (own_home end) (package_numbered (installed (store_limits s) es) self (suc k)) (pick b Nothing (At (home_at s t k)))
+          FoundIs f s end es self (own_home end) (package_numbered (installed (store_limits s) es) self (suc k)) (pick b None (Some (home_at s t k)))
       go false e = p.found es self i k (place_import k (eqb-false (get_or t k 0) 0 e))
       go true e = elim (dec_le (length self.pack.imports) k) [
         | yes l ↦ rw (at_past self.pack.imports k l)
@@ -86,20 +86,20 @@ numbered_placed f s end t w (suc k) = λ end' es self i x h.
 
 -- what the table tells of a number that is not 0
 module _ (s : Bytes) (end : ℕ) (t : List ℕ) where
-  pub placed_own : (p : ℕ) (h : Home) → p ≡ 0 → h ≡ own_home end → At h ≡ home_numbered s end t p
+  pub placed_own : (p : ℕ) (h : Home) → p ≡ 0 → h ≡ own_home end → Some h ≡ home_numbered s end t p
   placed_own p h z e = rw (z, e)
 
-  pub placed_past : (p : ℕ) → length t < p → Nothing ≡ home_numbered s end t p
+  pub placed_past : (p : ℕ) → length t < p → None ≡ home_numbered s end t p
   placed_past zero l = absurd (omega arith)
   placed_past (suc k) l = rw (get_or-eq_default t 0 {n = k} (omega arith))
 
-  pub placed_none : (p : ℕ) → (p ≡ 0 → ⊥) → get_or t (p - 1) 0 ≡ 0 → Nothing ≡ home_numbered s end t p
+  pub placed_none : (p : ℕ) → (p ≡ 0 → ⊥) → get_or t (p - 1) 0 ≡ 0 → None ≡ home_numbered s end t p
   placed_none zero n e = absurd (n refl)
   placed_none (suc k) n e = let z : suc k - 1 ≡ k = omega arith in rw (eq-eqb (get_or t k 0) 0 (rw z at e))
 
-  pub placed_at : (p : ℕ) (h : Home) → (p ≡ 0 → ⊥) → (get_or t (p - 1) 0 ≡ 0 → ⊥) → h ≡ home_of s (get_or t (p - 1) 0) → At h ≡ home_numbered s end t p
+  pub placed_at : (p : ℕ) (h : Home) → (p ≡ 0 → ⊥) → (get_or t (p - 1) 0 ≡ 0 → ⊥) → h ≡ home_of s (get_or t (p - 1) 0) → Some h ≡ home_numbered s end t p
   placed_at zero h n m e = absurd (n refl)
   placed_at (suc k) h n m e =
       let z : suc k - 1 ≡ k = omega arith in
       let m' : get_or t k 0 ≡ 0 → ⊥ = rw z at m in
-      rw (ne_eqb (get_or t k 0) 0 m') (ap At (rw z at e))
+      rw (ne_eqb (get_or t k 0) 0 m') (ap Some (rw z at e))

@@ -8,6 +8,8 @@
 --                         one that its number stands for, and 0 behind these
 -- PlacesStand s t      == at each place that the table has a package's entry stands
 use Rattle.std.specs.Prelude.{ℕ, zero, suc, ◌<◌, ◌≤◌, ◌≡◌, List, eqb, length, get_or}
+use Rattle.std.specs.Prelude.{Some, None}
+use Rattle.std.specs.Prelude.{Option as Optional}
 use Rattle.std.proofs.Math.Option.{some}
 use Rattle.rules.specs.Bytes.{Bytes, Aid, pick, at}
 use Rattle.rules.specs.Store.{Entry, store_limits, store_opening}
@@ -17,8 +19,6 @@ use Rattle.store.specs.Entries.{FilesStand}
 use Rattle.index.specs.Index.{IndexIs}
 use Rattle.homes.specs.Homes.{Imports, own_home, home_of, PackageFrom, FoundIs}
 use Rattle.homes.specs.declared.Home.{Home}
-use Rattle.homes.specs.declared.HomeFound.{HomeFound}
-use Rattle.homes.specs.declared.HomeFound.TheVariants.{At, Nothing}
 
 -- an index of the entries that end at a place, whose files read
 pub record Indexed (s : Bytes) (end : ℕ) (index : List ℕ) : Type 0 where
@@ -33,12 +33,12 @@ abbrev pub home_at : Bytes → List ℕ → ℕ → Home
 home_at s t k = home_of s (get_or t k 0)
 
 -- that home, if there is a place
-abbrev pub placed_home : Bytes → List ℕ → ℕ → HomeFound
-placed_home s t k = pick (eqb (get_or t k 0) 0) Nothing (At (home_at s t k))
+abbrev pub placed_home : Bytes → List ℕ → ℕ → Optional Home
+placed_home s t k = pick (eqb (get_or t k 0) 0) None (Some (home_at s t k))
 
 -- the home of the package that a number stands for in the file being judged
-abbrev pub home_numbered : Bytes → ℕ → List ℕ → ℕ → HomeFound
-home_numbered s end t zero = At (own_home end)
+abbrev pub home_numbered : Bytes → ℕ → List ℕ → ℕ → Optional Home
+home_numbered s end t zero = Some (own_home end)
 home_numbered s end t (suc k) = placed_home s t k
 
 pub record ImportPlaces (f s : Bytes) (end : ℕ) (t : List ℕ) : Type 0 where
@@ -46,7 +46,7 @@ pub record ImportPlaces (f s : Bytes) (end : ℕ) (t : List ℕ) : Type 0 where
   pub places : (es : List Entry) (self : Installed) → Imports f s end es self → (k : ℕ) (a : Aid) → at self.pack.imports k ≡ some a →
       package_place (store_opening s) es a ≡ some (get_or t k 0)
   pub found : (es : List Entry) (self : Installed) → Imports f s end es self → (k : ℕ) → k < length self.pack.imports →
-      FoundIs f s end es self (own_home end) (package_numbered (installed (store_limits s) es) self (suc k)) (At (home_at s t k))
+      FoundIs f s end es self (own_home end) (package_numbered (installed (store_limits s) es) self (suc k)) (Some (home_at s t k))
   pub past : (es : List Entry) (self : Installed) → Imports f s end es self → (k : ℕ) → length self.pack.imports ≤ k → get_or t k 0 ≡ 0
 
 -- where the table has a place a package's entry stands

@@ -14,6 +14,9 @@
 -- NumberedIs f s h k r  == r is the home of the package that number k stands for in the file at h
 -- ClassPlaced, RecordIs == the record of a class, by its place and as a part of its file
 use Rattle.std.specs.Prelude.{ℕ, zero, suc, ◌+◌, ◌<◌, ◌≤◌, ◌≡◌, List, [], ◌∷◌, ◌++◌, T, eqb, take, drop, get_or}
+use Rattle.std.specs.Prelude.{Some, None}
+use Rattle.std.specs.Prelude.{Option as Optional}
+use Rattle.fields.specs.Told.{told}
 use Rattle.std.proofs.Math.Option.{Option, none, some}
 use Rattle.rules.specs.Bytes.{Bytes, Aid, pick, all, all_from, at, aid}
 use Rattle.rules.specs.Package.{Limits, Format, format_of, Package, class, read_file}
@@ -24,12 +27,7 @@ use Rattle.rules.specs.Operations.{accepted_all}
 use Rattle.store.specs.Entries.{part, EntryAt, Entries, AllRead, PackageAt}
 use Rattle.index.specs.Index.{file_from, entry_to}
 use Rattle.places.specs.Reads.{Ends, Placed}
-use Rattle.files.specs.Say.{spot}
-use Rattle.files.specs.declared.Spot.{Spot}
-use Rattle.files.specs.declared.Spot.TheVariants as At'
 use Rattle.homes.specs.declared.Home.{Home}
-use Rattle.homes.specs.declared.HomeFound.{HomeFound}
-use Rattle.homes.specs.declared.HomeFound.TheVariants.{At, Nothing}
 
 -- the file being judged, over sound entries that end at a place
 pub record Setting (f s : Bytes) (end : ℕ) (es : List Entry) (self : Installed) : Type 0 where
@@ -49,9 +47,9 @@ pub record Parents (f s : Bytes) (end : ℕ) (es : List Entry) (self : Installed
   pub exist : T (all_from (λ i k. all (parent_exists (installed (store_limits s) es) self i) k.parents) 0 self.pack.classes)
 
 -- the bytes of a file from a place on
-abbrev pub record_from : Bytes → Spot → Bytes
-record_from g (At'.At i) = drop i g
-record_from g At'.Nothing = []
+abbrev pub record_from : Bytes → Optional ℕ → Bytes
+record_from g (Some i) = drop i g
+record_from g None = []
 
 -- the home of the file being judged
 abbrev pub own_home : ℕ → Home
@@ -109,34 +107,34 @@ abbrev pub OfHome : Bytes → Bytes → Home → ((end : ℕ) (es : List Entry) 
 OfHome f s h q = (end : ℕ) (es : List Entry) (self : Installed) → Imports f s end es self → (x : Installed) → HomeIs f s end es self h x → q end es self x
 
 -- the package told, if one is told, lies at its home, whose entry stands before that of home h
-abbrev pub FoundIs : Bytes → Bytes → ℕ → List Entry → Installed → Home → Option Installed → HomeFound → Type 0
-FoundIs f s end es self h o (At g) = (y : Installed) × (o ≡ some y) × HomeIs f s end es self g y × (g.before < h.before)
-FoundIs f s end es self h o Nothing = o ≡ none
+abbrev pub FoundIs : Bytes → Bytes → ℕ → List Entry → Installed → Home → Option Installed → Optional Home → Type 0
+FoundIs f s end es self h o (Some g) = (y : Installed) × (o ≡ some y) × HomeIs f s end es self g y × (g.before < h.before)
+FoundIs f s end es self h o None = o ≡ none
 
 -- the package of an AID among the entries that end at a place lies at the home told, if one is told
-abbrev pub HomeSays : Bytes → List Entry → Aid → HomeFound → Type 0
-HomeSays s es a (At h) = PackageAt s es a h.before h.from h.to
-HomeSays s es a Nothing = by_aid (installed (store_limits s) es) a ≡ none
+abbrev pub HomeSays : Bytes → List Entry → Aid → Optional Home → Type 0
+HomeSays s es a (Some h) = PackageAt s es a h.before h.from h.to
+HomeSays s es a None = by_aid (installed (store_limits s) es) a ≡ none
 
-abbrev pub ByAid : Bytes → ℕ → Aid → HomeFound → Type 0
+abbrev pub ByAid : Bytes → ℕ → Aid → Optional Home → Type 0
 ByAid s end a r = (es : List Entry) → Entries s (first_entry s) es end → AllRead (store_limits s) es → HomeSays s es a r
 
 -- the package that a package number stands for in the file at home h: 0 the same home, else an earlier one
-abbrev pub NumberedIs : Bytes → Bytes → Home → ℕ → HomeFound → Type 0
-NumberedIs f s h zero r = r ≡ At h
+abbrev pub NumberedIs : Bytes → Bytes → Home → ℕ → Optional Home → Type 0
+NumberedIs f s h zero r = r ≡ Some h
 NumberedIs f s h (suc k) r = OfHome f s h λ end es self x. FoundIs f s end es self h (package_numbered (installed (store_limits s) es) x (suc k)) r
 
 -- the place of import k of a file
-abbrev pub ImportPlaced : Bytes → ℕ → Spot → Type 0
-ImportPlaced g k r = (l : Limits) (p : Package) → read_file l g ≡ some p → Placed aid g (at p.imports k) (spot r)
+abbrev pub ImportPlaced : Bytes → ℕ → Optional ℕ → Type 0
+ImportPlaced g k r = (l : Limits) (p : Package) → read_file l g ≡ some p → Placed aid g (at p.imports k) (told r)
 
 -- the place of the record of class n in the file at home h
-abbrev pub ClassPlaced : Bytes → Bytes → Home → ℕ → Spot → Type 0
+abbrev pub ClassPlaced : Bytes → Bytes → Home → ℕ → Optional ℕ → Type 0
 ClassPlaced f s h n r = OfHome f s h λ end es self x. Placed (class (format_at s (file_of f s h)) x.pack.domains) (file_of f s h)
-    (at x.pack.classes n) (spot r)
+    (at x.pack.classes n) (told r)
 
 -- the record of class n, as a part of the file at home h; no bytes where it has no such class
 abbrev pub RecordIs : Bytes → Bytes → Home → ℕ → Bytes → Type 0
-RecordIs f s h n r = OfHome f s h λ end es self x. (c : Spot) × Placed (class (format_at s (file_of f s h)) x.pack.domains) (file_of f s h)
+RecordIs f s h n r = OfHome f s h λ end es self x. (c : Optional ℕ) × Placed (class (format_at s (file_of f s h)) x.pack.domains) (file_of f s h)
     (at x.pack.classes n)
-    (spot c) × (r ≡ record_from (file_of f s h) c)
+    (told c) × (r ≡ record_from (file_of f s h) c)

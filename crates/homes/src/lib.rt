@@ -9,22 +9,14 @@ ghost use Rattle.homes.specs.Found.{places_length, Indexed, home_numbered, Place
 ghost use Rattle.homes.specs.Homes.{own_home, home_of, PackageFrom, file_of, aid_at, domain_place, HomeThere, ByAid, ImportPlaced, NumberedIs};
 
 use fields::long;
-use files::Spot;
-use store::FileSpot;
 
 // The bounds of a file in the store, and the place where the entries before it end; 0 and 0 for the file being judged.
-#[derive(Clone, Copy)]
+// Kept: 0 for the file being judged, since tables keep a home as three numbers, and the recursive walks hold it by value in a bounded stack.
+#[derive(Clone, Copy, PartialEq, Eq)]
 pub struct Home {
     pub from: usize,
     pub to: usize,
     pub before: usize,
-}
-
-// A package's home, or that there is none.
-#[derive(Clone, Copy)]
-pub enum HomeFound {
-    At(Home),
-    Nothing,
 }
 
 // A file that is judged: where the entries before it end, and where in the store the AID of the domain that it is loaded into stands.
@@ -35,6 +27,7 @@ pub struct Loaded {
 }
 
 // The places of the entries of a file's imports, 0 behind the last one.
+// Kept: 0 for none, since an option of a u16 takes twice the memory, which is fixed.
 pub type Places = [u16; 15];
 
 // The home of the file being judged, behind the entries that end at a place.
@@ -89,7 +82,7 @@ pub fn domain_of<'a>(s: &'a [u8], h: Home, d: usize) -> &'a [u8]
 }
 
 // The place of the AID of import k of a file, counted from 0.
-fn import_place(g: &[u8], k: usize) -> Spot
+fn import_place(g: &[u8], k: usize) -> Option<usize>
     requires { Readable g.now }
     ensures { ImportPlaced g.now k result }
 {
@@ -97,18 +90,16 @@ fn import_place(g: &[u8], k: usize) -> Spot
 }
 
 // The home of the package of an AID among the entries that end at a place, by an index of these.
-pub fn by_aid(s: &[u8], end: usize, index: &[u16], aid: &[u8]) -> HomeFound
+pub fn by_aid(s: &[u8], end: usize, index: &[u16], aid: &[u8]) -> Option<Home>
     requires { Indexed s.now end index.now }
     ensures { ByAid s.now end aid.now result }
 {
-    match index::package_by(s, end, index, aid) {
-        FileSpot::File(at, from, to) => HomeFound::At(Home {
-            from: from,
-            to: to,
-            before: at,
-        }),
-        FileSpot::Missing => HomeFound::Nothing,
-    }
+    let b = index::package_by(s, end, index, aid)?;
+    Some(Home {
+        from: b.from,
+        to: b.to,
+        before: b.at,
+    })
 }
 
 // The home of the package that a package number stands for in the file at a home: 0 the same, k the k-th import's.
@@ -119,36 +110,34 @@ pub fn numbered<'a>(
     index: &[u16],
     h: Home,
     k: usize,
-) -> HomeFound
+) -> Option<Home>
     requires home_there { HomeThere f.now s.now h }
     requires indexed { Indexed s.now end index.now × (h.before ≤ end) }
     ensures { NumberedIs f.now s.now h k result }
 {
     if k == 0 {
-        return HomeFound::At(h);
+        return Some(h);
     }
     let g = file_of(f, s, h);
-    match import_place(g, k - 1) {
-        Spot::At(i) => by_aid(s, end, index, files::aid_bytes(g, i)),
-        Spot::Nothing => HomeFound::Nothing,
-    }
+    let i = import_place(g, k - 1)?;
+    by_aid(s, end, index, files::aid_bytes(g, i))
 }
 
 // The home of the package that a package number stands for in the file being judged, by the places of its imports: 0 its own, k that of its k-th
 // import, nothing where it has no such import.
-pub fn placed(s: &[u8], end: usize, places: &Places, p: usize) -> HomeFound
+pub fn placed(s: &[u8], end: usize, places: &Places, p: usize) -> Option<Home>
     requires { (length places.now ≡ places_length) × PlacesStand s.now places.now }
     ensures { result ≡ home_numbered s.now end places.now p }
 {
     if p == 0 {
-        return HomeFound::At(own_home(end));
+        return Some(own_home(end));
     }
     if 15 < p {
-        return HomeFound::Nothing;
+        return None;
     }
     let place = long(places[p - 1]);
     if place == 0 {
-        return HomeFound::Nothing;
+        return None;
     }
-    HomeFound::At(home_at(s, place))
+    Some(home_at(s, place))
 }

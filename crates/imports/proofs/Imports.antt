@@ -1,5 +1,8 @@
 -- Questions 12 and 13: the package's own AID and its imports, looked for among the entries, and the table of the imports' homes.
 -- Assumes nothing.
+use Rattle.std.specs.Prelude.{not, Some, None}
+use Rattle.std.specs.Prelude.{Option as Optional}
+use Rattle.homes.specs.declared.Home.{Home}
 use Prim.Native.Nat.{ℕ, zero, suc, ◌≤◌, ◌<◌}
 use native.Mathlib.Omega.{arith}
 use mathlib.Core.Path.{◌≡◌, refl, sym, ◌∙◌, ap, subst}
@@ -16,17 +19,14 @@ use Rattle.places.proofs.Steady.{steady_u1, steady_aid}
 use Rattle.places.proofs.Inverse.{reads_u1, reads_counted}
 use Rattle.places.proofs.Track.{placed_at, placed_none, many_length, counted_inside}
 use Rattle.files.specs.Say.{Readable, OwnAid, ImportsAt, Aids, AidNth, AidBytes}
-use Rattle.files.specs.declared.Spot.TheVariants as spots
 use Rattle.files.proofs.Walks.{imports_read}
 use Rattle.store.specs.Entries.{FilesStand}
-use Rattle.store.specs.Answers.{FileSays, FileAt}
-use Rattle.store.specs.declared.FileSpot.{FileSpot}
-use Rattle.store.specs.declared.FileSpot.TheVariants.{File, Missing}
+use Rattle.store.specs.Answers.{FileAt}
+use Rattle.std.specs.Option as optional
+use Rattle.store.specs.declared.FileBounds.{FileBounds}
 use Rattle.index.specs.Index.{IndexIs}
 use Rattle.homes.specs.Found.{Indexed}
 use Rattle.homes.specs.Homes.{HomeSays, ByAid}
-use Rattle.homes.specs.declared.HomeFound.{HomeFound}
-use Rattle.homes.specs.declared.HomeFound.TheVariants.{Nothing}
 use Rattle.homes.proofs.Homes.{all_read}
 use Rattle.imports.specs.Say.{SettingThere, OfSetting, NewIs, ImportHomeIs}
 
@@ -55,20 +55,19 @@ module _ (f s : Bytes) (end : ℕ) where
   indexed index t i = record { files = setting_stands t; is = i }
 
   -- 12
-  module _ (a : Aid) (o : OwnAid f a) (r : FileSpot) (q : FileAt s end a r) where
-    pub new_no : (i j k : ℕ) → r ≡ File i j k → NewIs f s end false
+  module _ (a : Aid) (o : OwnAid f a) where
+    pub new_is : (r : Optional FileBounds) → FileAt s end a r → (b : Bool) → optional.is_some r ≡ not b → NewIs f s end b
     unfolding q12_new
-    new_no i j k e es self g =
+    new_is (Some x) q false e es self g =
         let z = o (store_limits s) self.pack g.reads in
-        let p = subst (λ (x : FileSpot). FileSays s es a x) e (q es g.stand (all_read (store_opening s) g.size [] es g.sound)) in
+        let p = q es g.stand (all_read (store_opening s) g.size [] es g.sound) in
         rw (← z, p.is)
-
-    pub new_yes : r ≡ Missing → NewIs f s end true
-    unfolding q12_new
-    new_yes e es self g =
+    new_is None q true e es self g =
         let z = o (store_limits s) self.pack g.reads in
-        let p = subst (λ (x : FileSpot). FileSays s es a x) e (q es g.stand (all_read (store_opening s) g.size [] es g.sound)) in
+        let p = q es g.stand (all_read (store_opening s) g.size [] es g.sound) in
         rw (← z, p.1)
+    new_is (Some x) q true e es self g = let z : ◌≡◌ {A = ℕ} 0 1 = cc in absurd (omega arith)
+    new_is None q false e es self g = let z : ◌≡◌ {A = ℕ} 0 1 = cc in absurd (omega arith)
 
   -- 13: the list of imports
   module _ (i : ℕ) (h : ImportsAt f i) (t : SettingThere f s end) where
@@ -95,12 +94,12 @@ module _ (f s : Bytes) (end : ℕ) where
 
   -- import k
   module _ (i k : ℕ) (h : ImportsAt f i) where
-    pub import_ends : (c : ℕ) → AidNth f i k (spots.At c) → SettingThere f s end → Ends aid f c
+    pub import_ends : (c : ℕ) → AidNth f i k (Some c) → SettingThere f s end → Ends aid f c
     import_ends c n t =
         let x = imports_read h (store_limits s) t.1.pack t.2.reads in
         let y = placed_at (n _ t.1.pack.imports x.0 x.1) in (y.0, y.1, y.3)
 
-    pub import_is : (c : ℕ) (b : Aid) → AidNth f i k (spots.At c) → AidBytes f c b → (r : HomeFound) → ByAid s end b r → ImportHomeIs f s end k r
+    pub import_is : (c : ℕ) (b : Aid) → AidNth f i k (Some c) → AidBytes f c b → (r : Optional Home) → ByAid s end b r → ImportHomeIs f s end k r
     import_is c b n q r w es self g a e =
         let x = imports_read h (store_limits s) self.pack g.reads in
         let y = placed_at (n _ self.pack.imports x.0 x.1) in
@@ -109,7 +108,7 @@ module _ (f s : Bytes) (end : ℕ) where
         let u : y.0 ≡ a = cc in
         subst (λ (d : Aid). HomeSays s es d r) (z ∙ u) (w es g.stand (all_read (store_opening s) g.size [] es g.sound))
 
-    pub import_never : AidNth f i k spots.Nothing → ImportHomeIs f s end k Nothing
+    pub import_never : AidNth f i k None → ImportHomeIs f s end k None
     import_never n es self g a e =
         let x = imports_read h (store_limits s) self.pack g.reads in
         let y = placed_none (n _ self.pack.imports x.0 x.1) in

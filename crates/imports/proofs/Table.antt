@@ -1,4 +1,5 @@
 -- The table of the imports' places while it is filled, and what it says in the end. Assumes nothing.
+use Rattle.std.specs.Prelude.{Some, None}
 use Prim.Native.Nat.{ℕ, suc, ◌+◌, ◌≤◌, ◌<◌}
 use native.Mathlib.Omega.{arith}
 use mathlib.Core.Path.{◌≡◌, sym, ◌∙◌, ap, subst, subst⁻¹}
@@ -23,7 +24,6 @@ use Rattle.store.specs.Entries.{place_of}
 use Rattle.homes.specs.Homes.{Setting, Imports, own_home, home_of, FoundIs, HomeSays}
 use Rattle.homes.specs.Found.{places_length, home_at, ImportPlaces}
 use Rattle.homes.specs.declared.Home.{Home}
-use Rattle.homes.specs.declared.HomeFound.TheVariants.{At, Nothing}
 use Rattle.homes.proofs.Homes.{all_read, Before, import_found}
 use Rattle.homes.proofs.Places.{entry_home}
 use Rattle.imports.specs.Say.{SettingThere, OfSetting, ImportsIs, ImportHomeIs}
@@ -43,17 +43,17 @@ module _ (f s : Bytes) (end : ℕ) where
   -- the places of the first k imports stand in the table, and 0 behind them
   pub record Filled (k : ℕ) (t : List ℕ) : Type 0 where
     pub size : length t ≡ places_length
-    pub homes : OfSetting f s end λ es self. (i : ℕ) → i < k → (a : Aid) → at self.pack.imports i ≡ some a → HomeSays s es a (At (home_at s t i))
+    pub homes : OfSetting f s end λ es self. (i : ℕ) → i < k → (a : Aid) → at self.pack.imports i ≡ some a → HomeSays s es a (Some (home_at s t i))
     pub past : (i : ℕ) → k ≤ i → get_or t i 0 ≡ 0
 
   pub filled_start : (t : List ℕ) → length t ≡ places_length → ((i : ℕ) → get_or t i 0 ≡ 0) → Filled 0 t
   filled_start t e z = record { size = e; homes = λ es self g i b. absurd (omega arith); past = λ i l. z i }
 
   -- the home of an import is that of its place, which fits two bytes
-  home_placed : {es : List Entry} {a : Aid} (h : Home) → HomeSays s es a (At h) → h ≡ home_of s h.before
+  home_placed : {es : List Entry} {a : Aid} (h : Home) → HomeSays s es a (Some h) → h ≡ home_of s h.before
   home_placed h p = entry_home s h.before h.from h.to p.home.domain p.stands p.from
 
-  pub place_small : (k i : ℕ) (h : Home) → SettingThere f s end → ImportsAt f i → k < get_or f i 0 → ImportHomeIs f s end k (At h) → length s ≤ 65535 →
+  pub place_small : (k i : ℕ) (h : Home) → SettingThere f s end → ImportsAt f i → k < get_or f i 0 → ImportHomeIs f s end k (Some h) → length s ≤ 65535 →
       h.before ≤ 65535
   place_small k i h t a b p small =
       let n = imports_count f s end i a t.0 t.1 t.2 in
@@ -61,7 +61,7 @@ module _ (f s : Bytes) (end : ℕ) where
       let m = p t.0 t.1 t.2 x.0 x.1 in
       omega (arith, m.inside, m.from, m.to)
 
-  pub filled_more : (k : ℕ) (t : List ℕ) (h : Home) → Filled k t → k < places_length → ImportHomeIs f s end k (At h) → Filled (k + 1) (set t k h.before)
+  pub filled_more : (k : ℕ) (t : List ℕ) (h : Home) → Filled k t → k < places_length → ImportHomeIs f s end k (Some h) → Filled (k + 1) (set t k h.before)
   filled_more k t h q b p = record {
     size = length-set t k h.before ∙ q.size;
     homes = λ es self g i c a n. home es self g i c a n (same_or_not i k);
@@ -69,16 +69,16 @@ module _ (f s : Bytes) (end : ℕ) where
   }
     where
       home : (es : List Entry) (self : Installed) → Setting f s end es self → (i : ℕ) → i < k + 1 → (a : Aid) → at self.pack.imports i ≡ some a →
-          (i ≡ k) ⊎ (i ≡ k → ⊥) → HomeSays s es a (At (home_at s (set t k h.before) i))
+          (i ≡ k) ⊎ (i ≡ k → ⊥) → HomeSays s es a (Some (home_at s (set t k h.before) i))
       home es self g i c a n (inl d) =
           let here = p es self g a (rw (← d) n) in
           let place : get_or (set t k h.before) i 0 ≡ h.before = rw d (get_or-set_same t k h.before 0 (omega (arith, q.size))) in
-          subst (λ (v : Home). HomeSays s es a (At v)) (home_placed h here ∙ ap (home_of s) (sym place)) here
+          subst (λ (v : Home). HomeSays s es a (Some v)) (home_placed h here ∙ ap (home_of s) (sym place)) here
       home es self g i c a n (inr d) =
-          subst⁻¹ (λ (v : ℕ). HomeSays s es a (At (home_of s v))) (get_or-set_other t k i h.before 0 d) (q.homes es self g i (omega (arith, d)) a n)
+          subst⁻¹ (λ (v : ℕ). HomeSays s es a (Some (home_of s v))) (get_or-set_other t k i h.before 0 d) (q.homes es self g i (omega (arith, d)) a n)
 
   -- one is missing
-  pub missing : (k i : ℕ) → ImportsAt f i → k < get_or f i 0 → ImportHomeIs f s end k Nothing → ImportsIs f s end false
+  pub missing : (k i : ℕ) → ImportsAt f i → k < get_or f i 0 → ImportHomeIs f s end k None → ImportsIs f s end false
   unfolding q13_imports
   missing k i h b p es self g =
       let n = imports_count f s end i h es self g in
@@ -117,7 +117,7 @@ module _ (f s : Bytes) (end : ℕ) where
         counted es self g j a e = omega (arith, b, imports_count f s end i h es self g.setting, at_below self.pack.imports j a e)
 
         found : (es : List Entry) (self : Installed) → Imports f s end es self → (j : ℕ) → j < length self.pack.imports →
-            FoundIs f s end es self (own_home end) (package_numbered (installed (store_limits s) es) self (suc j)) (At (home_at s t j))
+            FoundIs f s end es self (own_home end) (package_numbered (installed (store_limits s) es) self (suc j)) (Some (home_at s t j))
         found es self g j c =
             let x = at_there self.pack.imports j c in
             let m = at_mem self.pack.imports j x.0 x.1 in
@@ -134,5 +134,5 @@ module _ (f s : Bytes) (end : ℕ) where
             let v = home_at s t j in
             let p = q.homes es self g.setting j (omega (arith, b, imports_count f s end i h es self g.setting)) x.0 x.1 in
             let o : package_numbered (installed (store_limits s) es) self (suc j) ≡ by_aid (installed (store_limits s) es) x.0 = rw x.1 in
-            subst⁻¹ (λ (y : Option Installed). FoundIs f s end es self (own_home end) y (At v)) o
+            subst⁻¹ (λ (y : Option Installed). FoundIs f s end es self (own_home end) y (Some v)) o
             (import_found f s end es self (own_home end) self d x.0 m v.before v.from v.to p)

@@ -5,6 +5,8 @@
 -- ImportThere f s end i   == the file's list of imports stands at place i
 -- ImportHomeIs f s end k r == r is the home of the package installed under the AID of import k
 use Rattle.std.specs.Prelude.{ℕ, ◌≡◌, Bool, List}
+use Rattle.std.specs.Prelude.{Option as Optional}
+use Rattle.homes.specs.declared.Home.{Home}
 use Rattle.std.proofs.Math.Option.{some}
 use Rattle.rules.specs.Bytes.{Bytes, Aid, at}
 use Rattle.rules.specs.Store.{Entry, store_limits}
@@ -12,7 +14,6 @@ use Rattle.rules.specs.Classes.{Installed, installed}
 use Rattle.rules.specs.Questions.{q12_new, q13_imports}
 use Rattle.files.specs.Say.{ImportsAt}
 use Rattle.homes.specs.Homes.{Setting, HomeSays}
-use Rattle.homes.specs.declared.HomeFound.{HomeFound}
 
 -- the file is being judged over the entries that end there
 abbrev pub SettingThere : Bytes → Bytes → ℕ → Type 0
@@ -34,5 +35,5 @@ abbrev pub ImportThere : Bytes → Bytes → ℕ → ℕ → Type 0
 ImportThere f s end i = SettingThere f s end × ImportsAt f i
 
 -- the home of the package of import k
-abbrev pub ImportHomeIs : Bytes → Bytes → ℕ → ℕ → HomeFound → Type 0
+abbrev pub ImportHomeIs : Bytes → Bytes → ℕ → ℕ → Optional Home → Type 0
 ImportHomeIs f s end k r = OfSetting f s end λ es self. (a : Aid) → at self.pack.imports k ≡ some a → HomeSays s es a r

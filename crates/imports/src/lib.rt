@@ -7,9 +7,7 @@ ghost use Rattle.homes.specs.Found.{places_length, ImportPlaces};
 ghost use Rattle.imports.specs.Say.{SettingThere, NewIs, ImportsIs, ImportThere, ImportHomeIs};
 
 use fields::wide;
-use files::Spot;
-use homes::{HomeFound, Places};
-use store::FileSpot;
+use homes::{Home, Places};
 
 // 12. Is the package AID not installed?
 pub fn package_new(f: &[u8], s: &[u8], end: usize, index: &[u16]) -> bool
@@ -17,22 +15,17 @@ pub fn package_new(f: &[u8], s: &[u8], end: usize, index: &[u16]) -> bool
     requires index_is { IndexIs s.now end index.now }
     ensures { NewIs f.now s.now end result }
 {
-    match index::package_by(s, end, index, files::own_aid(f)) {
-        FileSpot::File(_, _, _) => false,
-        FileSpot::Missing => true,
-    }
+    index::package_by(s, end, index, files::own_aid(f)).is_none()
 }
 
 // The home of the package installed under the AID of import k, counted from 0, of the list of imports at a place.
-fn import_home(f: &[u8], s: &[u8], end: usize, index: &[u16], at: usize, k: usize) -> HomeFound
+fn import_home(f: &[u8], s: &[u8], end: usize, index: &[u16], at: usize, k: usize) -> Option<Home>
     requires import_there { ImportThere f.now s.now end at }
     requires index_is { IndexIs s.now end index.now }
     ensures { ImportHomeIs f.now s.now end k result }
 {
-    match files::nth_aid(f, at, k) {
-        Spot::At(c) => homes::by_aid(s, end, index, files::aid_bytes(f, c)),
-        Spot::Nothing => HomeFound::Nothing,
-    }
+    let c = files::nth_aid(f, at, k)?;
+    homes::by_aid(s, end, index, files::aid_bytes(f, c))
 }
 
 // 13. Is each import installed? The places of their entries go into the table, which has none before.
@@ -44,18 +37,11 @@ pub fn imports_there(f: &[u8], s: &[u8], end: usize, index: &[u16], places: &mut
     ensures import_places { ImportPlaces f.now s.now end places.new }
 {
     let at = files::imports_at(f);
-    let count = wide(f[at]);
-    let mut k = 0;
-    while k < count {
-        match import_home(f, s, end, index, at, k) {
-            HomeFound::At(h) => {
-                places[k] = h.before as u16;
-                k += 1;
-            }
-            HomeFound::Nothing => {
-                return false;
-            }
-        }
+    for k in 0..wide(f[at]) {
+        let Some(h) = import_home(f, s, end, index, at, k) else {
+            return false;
+        };
+        places[k] = h.before as u16;
     }
     true
 }

@@ -9,14 +9,10 @@ use mathlib.Core.Logic.{inl, inr}
 use lib.Dec.{eqb}
 use lib.ListN.{length, get_or, length-append, get_or-append}
 use borrow.Author.Tests.{eqb-true, lt-ltb, le-ltb}
-use Rattle.rules.specs.Bytes.{Bytes, Aid, pick, any, all, same, u1, aid, counted}
+use Rattle.rules.specs.Bytes.{Bytes, Aid, pick, any, all, same}
 use Rattle.rules.specs.Package.{most_domains, own_index, only}
 use Rattle.rules.specs.Classes.{item_means, meant, admits}
 use Rattle.rules.proofs.Tests.{is_true, of_true, same_eq, same_refl}
-use Rattle.places.specs.Reads.{Reads}
-use Rattle.places.proofs.Inverse.{reads_counted, reads_u1}
-use Rattle.places.proofs.Steady.{steady_u1, steady_aid}
-use Rattle.places.proofs.Track.{many_length}
 use Rattle.policies.specs.Say.{own_slot, slot_of, slot_aid, IsSlot, indexes_at, AdmitsAllOf}
 use Rattle.policies.specs.Numbers.{OfDomains}
 use Rattle.policies.specs.Rows.{has_bit}
@@ -30,7 +26,7 @@ use Rattle.inclusion.specs.declared.Masked.{Masked}
 use Rattle.inclusion.specs.Rows.{WithinKept, row_number, RowTrue}
 use Rattle.inclusion.specs.Order.{slot_as, IndexBits, BitsIs, OwnBit, PrefixIs}
 use Rattle.inclusion.proofs.Pairs.{tells_other}
-use Rattle.inclusion.proofs.Begins.{prefix_nth}
+use Rattle.inclusion.proofs.Begins.{domains_count, prefix_nth}
 
 -- the number of a domain's slot, of FE, and of an index
 as_domain : (own k : ℕ) → k < own_slot → slot_as own k ≡ k
@@ -44,13 +40,6 @@ as_index own i = elim (ℕ_discrete i own_index) [
   | yes z ↦ as_own own i (omega arith) ∙ sym (as_own own (slot_of i) (omega (arith, slot_own i z)))
   | no z ↦ ap (slot_as own) (sym (slot_domain i z))
 ]
-
--- as many domains as the list's count
-domains_count : {s : Bytes} {u : ℕ} (ds : List Aid) (j : ℕ) → Reads (counted most_domains u1 aid) s u ds j → length ds ≡ get_or s u 0
-domains_count {s} {u} ds j p =
-    let c = reads_counted most_domains u1 aid steady_u1 s u ds j p in
-    let n = reads_u1 s u c.number c.place c.count in
-    omega (arith, n.byte, many_length aid steady_aid c.number s c.place ds j c.list)
 
 -- the own domain stands behind the domains
 last_own : (ds : List Aid) (d : Aid) → get_or (ds ++ d ∷ []) (length ds) [] ≡ d

@@ -1,20 +1,36 @@
 -- The loop over two lists of domains that begin alike. Assumes nothing.
 use Prim.Native.Nat.{ℕ, zero, suc, ◌+◌, ◌-◌, ◌≤◌, ◌<◌}
 use native.Mathlib.Omega.{arith}
-use mathlib.Core.Path.{◌≡◌, sym, ◌∙◌, ap₂}
-use mathlib.Core.Bool.{Bool, true, false, ◌&&◌}
+use mathlib.Core.Path.{◌≡◌, refl, sym, ◌∙◌, ap₂}
+use mathlib.Core.Bool.{Bool, true, false, ◌&&◌, and-false}
 use mathlib.Core.List.{List, [], ◌∷◌}
 use lib.ListN.{length, get_or}
 use Rattle.rules.specs.Bytes.{Bytes, Aid, same, u1, aid, many, counted}
 use Rattle.rules.specs.Package.{most_domains}
 use Rattle.rules.proofs.Tests.{and_l, and_r, is_true, of_true, same_eq}
 use Rattle.places.specs.Reads.{Reads, Ends, EndsAt}
-use Rattle.places.proofs.Inverse.{reads_left, reads_done}
-use Rattle.places.proofs.Steady.{steady_aid}
-use Rattle.places.proofs.Track.{track_start}
+use Rattle.places.proofs.Inverse.{reads_left, reads_done, reads_counted, reads_u1}
+use Rattle.places.proofs.Steady.{steady_u1, steady_aid}
+use Rattle.places.proofs.Track.{track_start, many_length}
 use Rattle.files.specs.Say.{AidBytes, AidIs}
 use Rattle.policies.specs.Numbers.{DomainsThere}
 use Rattle.inclusion.specs.Order.{prefix, PrefixIs}
+
+-- as many domains as the list's count
+pub domains_count : {s : Bytes} {u : ℕ} (ds : List Aid) (j : ℕ) → Reads (counted most_domains u1 aid) s u ds j → length ds ≡ get_or s u 0
+domains_count {s} {u} ds j p =
+    let c = reads_counted most_domains u1 aid steady_u1 s u ds j p in
+    let n = reads_u1 s u c.number c.place c.count in
+    omega (arith, n.byte, many_length aid steady_aid c.number s c.place ds j c.list)
+
+-- a list that is longer is no beginning
+prefix_longer : (gs ds : List Aid) → length ds < length gs → prefix gs ds ≡ false
+prefix_longer [] ds h = absurd (omega arith)
+prefix_longer (g ∷ gs) [] h = refl
+prefix_longer (g ∷ gs) (d ∷ ds) h = rw (prefix_longer gs ds (omega arith)) (and-false (same g d))
+
+pub order_longer : {a : Bytes} {u : ℕ} {b : Bytes} {v : ℕ} → get_or a u 0 < get_or b v 0 → PrefixIs a u b v false
+order_longer h ds j rd gs k rg = sym (prefix_longer gs ds (omega (arith, h, domains_count ds j rd, domains_count gs k rg)))
 
 -- one AID of both
 prefix_step : {ys zs ys' zs' : List Aid} {y z : Aid} {s : Bool} → y ∷ ys' ≡ ys → z ∷ zs' ≡ zs → same z y ≡ s → prefix zs ys ≡ (s && prefix zs' ys')
@@ -41,13 +57,6 @@ module _ {a : Bytes} {u : ℕ} {b : Bytes} {v more c left e : ℕ} (t : OrderLoo
       sym (x.4 ∙ rw z.0)
 
   module _ (h : 0 < left) where
-    pub order_short : more ≤ 0 → PrefixIs a u b v false
-    order_short i ds j rd gs k rg =
-        let x = t.rest ds j rd gs k rg in
-        let y = reads_done aid more a c x.0 j i x.2 in
-        let z = reads_left aid steady_aid left b e x.1 k h x.3 in
-        sym (x.4 ∙ rw (y.0, ← z.are))
-
     module _ (i : 0 < more) where
       -- the AIDs at hand
       pub order_here : DomainsThere a u → DomainsThere b v → Ends aid a c × Ends aid b e

@@ -1,31 +1,21 @@
 -- The row of two files: numbers of the slots of the one among the domains of the other. Assumes nothing.
-use Prim.Native.Nat.{ℕ, ◌+◌, ◌<◌}
+use Prim.Native.Nat.{ℕ, ◌+◌}
 use native.Mathlib.Omega.{arith}
-use native.Mathlib.Decide.{ℕ_discrete}
 use mathlib.Core.Path.{◌≡◌, ◌∙◌}
 use mathlib.Core.Bool.{Bool}
 use mathlib.Core.List.{List}
-use lib.ListN.{length, get_or, set}
-use lib.Seq.{get_or-set_same, get_or-set_other}
+use lib.ListN.{length}
 use Rattle.rules.specs.Bytes.{Bytes, Aid, u1, aid, counted}
 use Rattle.rules.specs.Package.{most_domains}
 use Rattle.places.specs.Reads.{Reads}
 use Rattle.places.proofs.Inverse.{reads_same}
-use Rattle.policies.specs.Rows.{unknown, Tells}
+use Rattle.policies.specs.Rows.{Tells}
 use Rattle.policies.specs.declared.RightsPlace.{RightsPlace}
 use Rattle.inclusion.specs.declared.Masked.{Masked}
 use Rattle.inclusion.specs.Rows.{other_lists, WithinKept, row_number, RowTrue, RowEmpty}
 
 pub row_empty : {a : Bytes} {u : ℕ} {d : Aid} {b : Bytes} {v : ℕ} {e : Aid} {row : List ℕ} → RowEmpty row → RowTrue a u d b v e row
 row_empty h = record { size = h.size; known = λ ds j rd gs k rg m l n. absurd (n (h.clear m (omega (arith, h.size)))) }
-
--- one entry more is cleared
-pub clear_more : (row : List ℕ) (i : ℕ) → i < length row → ((k : ℕ) → k < i → get_or row k 0 ≡ unknown) → (k : ℕ) → k < i + 1 →
-    get_or (set row i unknown) k 0 ≡ unknown
-clear_more row i l h k m = elim (ℕ_discrete k i) [
-  | yes q ↦ rw q (get_or-set_same row i unknown 0 l)
-  | no q ↦ get_or-set_other row i k unknown 0 q ∙ h k (omega (arith, q))
-]
 
 module _ {a : Bytes} {u : ℕ} (d : Aid) {b : Bytes} {v : ℕ} (e : Aid) where
   module _ {ds : List Aid} {j : ℕ} (rd : Reads (counted most_domains u1 aid) a u ds j) {gs : List Aid} {k : ℕ}

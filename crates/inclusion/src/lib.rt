@@ -14,7 +14,7 @@ ghost use Rattle.inclusion.specs.Order.{OwnBit};
 use fields::{same_bytes, wide};
 use order::{in_order, index_bits};
 use policies::rows::{has_bit, number_at};
-use policies::{RightsPlace, TwoLists, admits_all_of, slot};
+use policies::{RightsPlace, TwoLists, admits_all_of, indexes_of, slot};
 
 // A policy's indexes as bits, and where the list of domains stands that they count.
 #[derive(Clone, Copy)]
@@ -44,22 +44,18 @@ fn within<'a>(
         other: q.domains,
         base: 0,
     };
-    let at = q.policy;
-    let mut left = wide(g[at]);
-    let mut c = at + 1;
-    while 0 < left {
-        let n = number_at(f, domain, g, other, l, slot(wide(g[c])), row);
+    for i in indexes_of(g, q.policy) {
+        let n = number_at(f, domain, g, other, l, slot(wide(*i)), row);
         if !has_bit(m.bits, n) {
             return false;
         }
-        c += 1;
-        left -= 1;
     }
     true
 }
 
 // The bit for FE of a policy compared by its indexes with one in a file of domain `own` and of that many domains: behind these where both
 // domains are the same, else one that is never set.
+// Kept: 63 for "never", since the answer is a bit's number, asked of a mask for each index: an option would be asked each time.
 fn own_bit(own: &[u8], other: &[u8], count: usize) -> usize
     ensures { OwnBit own.now other.now count result }
 {
@@ -140,9 +136,5 @@ pub fn empty_row(row: &mut [u8])
     requires { length row.old ≡ row_length }
     ensures { RowEmpty row.new }
 {
-    let mut i = 0;
-    while i < row.len() {
-        row[i] = 255;
-        i += 1;
-    }
+    row.fill(255);
 }

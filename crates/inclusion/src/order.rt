@@ -7,10 +7,11 @@ ghost use Rattle.inclusion.specs.Order.{slot_as, IndexBits, BitsIs, PrefixIs, Or
 use super::Masked;
 use fields::wide;
 use files::{after_aid, aid_bytes, aid_is};
-use policies::RightsPlace;
 use policies::rows::{has_bit, with_bit};
+use policies::{RightsPlace, indexes_of};
 
 // An index of a list, those of domains below 32, with a number for FE.
+// Kept: apart from `slot` of policies, which is told of every number: it asks for FE, this one for what is below 32.
 fn slot_as(i: usize, own: usize) -> usize
     ensures { result ≡ slot_as own i }
 {
@@ -25,13 +26,9 @@ pub fn index_bits(s: &[u8], at: usize, own: usize) -> u64
     requires { IndexesThere s.now at }
     ensures { IndexBits s.now at own result }
 {
-    let mut left = wide(s[at]);
-    let mut c = at + 1;
     let mut m: u64 = 0;
-    while 0 < left {
-        m = with_bit(m, slot_as(wide(s[c]), own));
-        c += 1;
-        left -= 1;
+    for i in indexes_of(s, at) {
+        m = with_bit(m, slot_as(wide(*i), own));
     }
     m
 }
@@ -41,16 +38,9 @@ fn are_bits(s: &[u8], at: usize, own: usize, m: u64) -> bool
     requires { IndexesThere s.now at }
     ensures { BitsIs s.now at own m result }
 {
-    let mut left = wide(s[at]);
-    let mut c = at + 1;
-    while 0 < left {
-        if !has_bit(m, slot_as(wide(s[c]), own)) {
-            return false;
-        }
-        c += 1;
-        left -= 1;
-    }
-    true
+    indexes_of(s, at)
+        .iter()
+        .all(|i| has_bit(m, slot_as(wide(*i), own)))
 }
 
 // Are the domains of b listed at v the first ones of those of a listed at u, in this order?
@@ -59,21 +49,18 @@ fn begins_with(a: &[u8], u: usize, b: &[u8], v: usize) -> bool
     requires domains_there_2 { DomainsThere b.now v }
     ensures { PrefixIs a.now u b.now v result }
 {
-    let mut more = wide(a[u]);
-    let mut left = wide(b[v]);
+    let count = wide(b[v]);
+    if wide(a[u]) < count {
+        return false;
+    }
     let mut c = u + 1;
     let mut d = v + 1;
-    while 0 < left {
-        if more == 0 {
-            return false;
-        }
+    for _ in 0..count {
         if !aid_is(a, c, aid_bytes(b, d)) {
             return false;
         }
         c = after_aid(a, c);
         d = after_aid(b, d);
-        more -= 1;
-        left -= 1;
     }
     true
 }

@@ -10,7 +10,7 @@ use Rattle.rules.specs.Store.{Entry, domain, loaded}
 use Rattle.rules.proofs.Tests.{none_some}
 use Rattle.store.specs.Entries.{part, EntryAt, own_aid}
 use Rattle.store.specs.Answers.{FileAt}
-use Rattle.store.specs.declared.FileSpot.TheVariants.{File, Missing}
+use Rattle.std.specs.Prelude.{Some, None}
 use Rattle.store.proofs.Stand.{entry_one}
 use Rattle.store.proofs.Asked.{named_by, package_found, package_none}
 use Rattle.sorted.specs.Sorted.{key_at, Has, Found}
@@ -23,8 +23,8 @@ use Rattle.index.proofs.Here.{PackageBy, package_by}
 
 module _ (s : Bytes) (end : ℕ) (index : List ℕ) (a : Aid) (i : IndexIs s end index) where
   -- none is found
-  pub package_missing : (q : ℕ) → Found s index a q → q ≡ 0 → FileAt s end a Missing
-  package_missing q w z es r h = package_none s es a h (found_none package_key s end index i.table a (named_by a) (named_key a) (w.missing z) es r)
+  pub package_missing : Found s index a None → FileAt s end a None
+  package_missing w es r h = package_none s es a h (found_none package_key s end index i.table a (named_by a) (named_key a) w es r)
 
   -- the place that is found: a package's entry with this AID
   record Here (q : ℕ) : Type 0 where
@@ -34,32 +34,29 @@ module _ (s : Bytes) (end : ℕ) (index : List ℕ) (a : Aid) (i : IndexIs s end
     pub stood : Stood s end q (loaded home file) next
     pub own : a ≡ own_aid file
 
-  found_here : (q : ℕ) → Found s index a q → (q ≡ 0 → ⊥) → Here q
-  found_here q w z = let h = w.there (omega (arith, z)) in let o = i.table.only q h.0 in go o.one o.next o.stood (o.named ∙ ap some h.1)
+  found_here : (q : ℕ) → Found s index a (Some q) → Here q
+  found_here q h = let o = i.table.only q h.0 in go o.one o.next o.stood (o.named ∙ ap some h.1)
     where
       go : (e : Entry) (j : ℕ) → Stood s end q e j → package_key e ≡ some a → Here q
       go (domain x b) j t k = absurd (none_some k)
       go (loaded d f) j t k = record { home = d; file = f; next = j; stood = t; own = sym (some-injective _ _ k) }
 
-  pub found_inside : (q : ℕ) → Found s index a q → (q ≡ 0 → ⊥) → q + 3 < length s
-  found_inside q w z =
-      let o = found_here q w z in
+  pub found_inside : (q : ℕ) → Found s index a (Some q) → q + 3 < length s
+  found_inside q w =
+      let o = found_here q w in
       let b = package_by s q o.home o.file o.next o.stood.stands in
       omega (arith, b.head, o.stood.stands.to)
 
-  pub package_there : (q m j : ℕ) → Found s index a q → (q ≡ 0 → ⊥) → m ≡ file_from s q → j ≡ entry_to s q → FileAt s end a (File q m j)
-  package_there q m j w z d e es r h =
+  pub package_there : (q m j : ℕ) → Found s index a (Some q) → m ≡ file_from s q → j ≡ entry_to s q → FileAt s end a (Some (record { at = q; from = m; to = j }))
+  package_there q m j there d e es r h =
       package_found r h (y.place ∙ ap₂ (λ (u v : ℕ). some (u, v)) place to) (omega (arith, d, e, b.inside, b.to)) stands.to
       (λ v u. (entry_one s q v (loaded o.home (part s m j)) j j u stands).0)
     where
       o : Here q
-      o = found_here q w z
+      o = found_here q there
 
       b : PackageBy s q o.home o.file o.next
       b = package_by s q o.home o.file o.next o.stood.stands
-
-      there : Has index q × (key_at s q ≡ a)
-      there = w.there (omega (arith, z))
 
       next : o.next ≡ j
       next = sym b.to ∙ sym e

@@ -7,7 +7,7 @@ ghost use Rattle.store.specs.Answers.{FileAt};
 ghost use Rattle.index.specs.Index.{file_from, entry_to, IndexIs, PackageStands};
 
 use fields::{u2_at, wide};
-use store::FileSpot;
+use store::FileBounds;
 
 // Where the file of the package entry at a place begins.
 pub fn file_from(s: &[u8], at: usize) -> usize
@@ -36,16 +36,15 @@ pub fn enter_package(s: &[u8], at: usize, file: usize, next: usize, index: &mut 
 }
 
 // Where a package stands, of the entries that end at `end`.
-pub fn package_by(s: &[u8], end: usize, index: &[u16], aid: &[u8]) -> FileSpot
+pub fn package_by(s: &[u8], end: usize, index: &[u16], aid: &[u8]) -> Option<FileBounds>
     requires files_stand { FilesStand s.now end }
     requires index_is { IndexIs s.now end index.now }
     ensures { FileAt s.now end aid.now result }
 {
-    let at = sorted::find(s, index, aid);
-    if at == 0 {
-        return FileSpot::Missing;
-    }
-    let file = file_from(s, at);
-    let next = entry_to(s, at);
-    FileSpot::File(at, file, next)
+    let at = sorted::find(s, index, aid)?;
+    Some(FileBounds {
+        at,
+        from: file_from(s, at),
+        to: entry_to(s, at),
+    })
 }

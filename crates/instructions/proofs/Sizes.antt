@@ -7,13 +7,16 @@ use native.Mathlib.Decide.{dec_le, ℕ_discrete}
 use mathlib.Core.Path.{◌≡◌, refl, sym, ap, ◌∙◌, subst}
 use mathlib.Core.Bool.{Bool, true, false}
 use mathlib.Core.Option.{Option, none, some}
-use lib.Dec.{T, ltb, eqb}
+use lib.Dec.{T, eqb}
 use lib.ListN.{length}
-use borrow.Author.Tests.{ne_eqb, le-leb, lt-leb, lt-ltb, le-ltb}
+use borrow.Author.Tests.{ne_eqb, le-leb, lt-leb}
 use Rattle.rules.specs.Bytes.{Bytes, pick, is_some, ◌and_then◌}
 use Rattle.rules.specs.Code.{u1_at, u2_at, switch73, switch74, switch75, switch76, Length, by_opcode, by_switch, undefined, fits, switch_bytes, length_as, instruction_length, switch_entries}
 use Rattle.rules.proofs.Tests.{none_some}
-use Rattle.instructions.specs.Table.{switch_of, told, branch_bytes, Says, nonzero, entries_by, Whole}
+use Rattle.std.specs.Prelude.{Some, None}
+use Rattle.std.specs.Prelude.{Option as Optional}
+use Rattle.fields.specs.Told.{told as given}
+use Rattle.instructions.specs.Table.{Inside, switch_of, told, branch_bytes, Says, Whole}
 
 -- the switch of each form
 pub switch_73 : (f : ℕ) → f ≡ 4 → switch_of f ≡ switch73
@@ -77,35 +80,6 @@ pairs f code at h = rw (ne_eqb f 4 (λ e. omega arith), ne_eqb f 5 (λ e. omega 
     go true = refl
     go false = refl
 
--- the entries of a switch by a number
-pub entries_span : (f n : ℕ) → f < 6 → entries_by f n ≡ nonzero n
-unfolding entries_by
-entries_span f n h = rw (lt-ltb f 6 h)
-
-pub entries_count : (f n : ℕ) → 6 ≤ f → entries_by f n ≡ some n
-unfolding entries_by
-entries_count f n h = rw (le-ltb f 6 h)
-
-pub nonzero_is : (n : ℕ) → (n ≡ 0 → ⊥) → nonzero n ≡ some n
-nonzero_is zero h = absurd (h refl)
-nonzero_is (suc n) h = refl
-
-pub nonzero_none : (n : ℕ) → n ≡ 0 → nonzero n ≡ none
-nonzero_none n e = rw e refl
-
--- what has bytes is there whole
-pub whole_is : (o : Option ℕ) (r : ℕ) → o ≡ nonzero r → (r ≡ 0 → ⊥) → T (is_some o)
-whole_is o r e z = subst (λ (o : Option ℕ). T (is_some o)) (sym (e ∙ nonzero_is r z)) tt
-
--- what is there whole has bytes
-pub whole_nonzero : (o : Option ℕ) (r : ℕ) → T (is_some o) → o ≡ nonzero r → r ≡ 0 → ⊥
-whole_nonzero none r t e z = absurd t
-whole_nonzero (some n) zero t e z = none_some (sym e)
-whole_nonzero (some n) (suc r) t e z = omega arith
-
-pub number_one : (n m : ℕ) → n ≡ m → some (suc n) ≡ nonzero (m + 1)
-number_one n m e = let q : suc n ≡ m + 1 = omega arith in ap some q ∙ sym (nonzero_is (m + 1) (λ z. omega arith))
-
 fits_some : (code : Bytes) (at n : ℕ) → at + n ≤ length code → fits code at n ≡ some n
 fits_some code at n h = rw (le-leb (at + n) (length code) h)
 
@@ -120,23 +94,42 @@ pub said_none : (f : ℕ) (code : Bytes) (at : ℕ) → switch_entries (switch_o
     (switch_entries (switch_of f) code at and_then λ n. some (switch_bytes (switch_of f) n)) ≡ none
 said_none f code at e = ap (λ (o : Option ℕ). o and_then λ n. some (switch_bytes (switch_of f) n)) e
 
-pub said_number : (f : ℕ) (code : Bytes) (at n m : ℕ) → switch_entries (switch_of f) code at ≡ some n → m ≡ switch_bytes (switch_of f) n → (m ≡ 0 → ⊥) →
-    (switch_entries (switch_of f) code at and_then λ n. some (switch_bytes (switch_of f) n)) ≡ nonzero m
-said_number f code at n m e q z = ap (λ (o : Option ℕ). o and_then λ n. some (switch_bytes (switch_of f) n)) e ∙ ap some (sym q) ∙ sym (nonzero_is m z)
+pub said_number : (f : ℕ) (code : Bytes) (at n m : ℕ) → switch_entries (switch_of f) code at ≡ some n → m ≡ switch_bytes (switch_of f) n →
+    (switch_entries (switch_of f) code at and_then λ n. some (switch_bytes (switch_of f) n)) ≡ some m
+said_number f code at n m e q = ap (λ (o : Option ℕ). o and_then λ n. some (switch_bytes (switch_of f) n)) e ∙ ap some (sym q)
 
 -- what the fields of a switch say, where the code has so many bytes
-said_fits : (code : Bytes) (at m : ℕ) (g : ℕ → ℕ) (o : Option ℕ) → (o and_then λ k. some (g k)) ≡ nonzero m → at + m ≤ length code →
-    (o and_then λ k. fits code at (g k)) ≡ nonzero m
-said_fits code at m g none e h = e
-said_fits code at zero g (some k) e h = absurd (none_some (sym e))
-said_fits code at (suc m) g (some k) e h = let q : g k ≡ suc m = cc in rw q (fits_some code at (suc m) h)
+said_fits : (code : Bytes) (at m : ℕ) (g : ℕ → ℕ) (o : Option ℕ) → (o and_then λ k. some (g k)) ≡ some m → at + m ≤ length code →
+    (o and_then λ k. fits code at (g k)) ≡ some m
+said_fits code at m g none e h = absurd (none_some e)
+said_fits code at m g (some k) e h = let q : g k ≡ m = cc in rw q (fits_some code at m h)
 
 -- and where it has not
-said_short : (code : Bytes) (at m : ℕ) (g : ℕ → ℕ) (o : Option ℕ) → (o and_then λ k. some (g k)) ≡ nonzero m → length code < at + m →
+said_short : (code : Bytes) (at m : ℕ) (g : ℕ → ℕ) (o : Option ℕ) → (o and_then λ k. some (g k)) ≡ some m → length code < at + m →
     (o and_then λ k. fits code at (g k)) ≡ none
 said_short code at m g none e h = refl
-said_short code at zero g (some k) e h = absurd (none_some (sym e))
-said_short code at (suc m) g (some k) e h = let q : g k ≡ suc m = cc in rw q (fits_none code at (suc m) h)
+said_short code at m g (some k) e h = let q : g k ≡ m = cc in rw q (fits_none code at m h)
+
+-- and where the fields say none
+said_nothing : (code : Bytes) (at : ℕ) (g : ℕ → ℕ) (o : Option ℕ) → (o and_then λ k. some (g k)) ≡ none → (o and_then λ k. fits code at (g k)) ≡ none
+said_nothing code at g none e = refl
+said_nothing code at g (some k) e = absurd (none_some (sym e))
+
+-- what has bytes is there whole
+pub whole_is : (o : Option ℕ) (r : ℕ) → o ≡ some r → T (is_some o)
+whole_is o r e = subst (λ (o : Option ℕ). T (is_some o)) (sym e) tt
+
+-- what is there whole is not none
+pub whole_none : {A : Type 0} (o : Option ℕ) → T (is_some o) → o ≡ none → A
+whole_none o t e = absurd (subst (λ (o : Option ℕ). T (is_some o)) e t)
+
+-- what is answered of the length of an instruction
+module _ (code : Bytes) (at : ℕ) (r : Optional ℕ) (e : (instruction_length code at ≡ given r) × Inside (length code) at r) where
+  pub length_some : (n : ℕ) → r ≡ Some n → (instruction_length code at ≡ some n) × (0 < n) × (at + n ≤ length code)
+  length_some n q = let b = subst (Inside (length code) at) q e.1 in (e.0 ∙ ap given q, b.0, b.1)
+
+  pub length_none : r ≡ None → instruction_length code at ≡ none
+  length_none q = e.0 ∙ ap given q
 
 module _ (code : Bytes) (at f n : ℕ) (s : Says (u1_at code at) f n) where
   length_is : instruction_length code at ≡ length_as (told f n) code at
@@ -153,13 +146,17 @@ module _ (code : Bytes) (at f n : ℕ) (s : Says (u1_at code at) f n) where
   unfolding told
   length_switch h = length_is ∙ rw (lt-leb f 3 h)
 
-  pub plain_length : f ≤ 3 → at + n ≤ length code → instruction_length code at ≡ nonzero n
+  pub plain_length : f ≤ 3 → (n ≡ 0 → ⊥) → at + n ≤ length code → instruction_length code at ≡ some n
   unfolding length_as
-  plain_length h b = length_plain h ∙ go n b
-    where
-      go : (m : ℕ) → at + m ≤ length code → length_as (pick (eqb m 0) undefined (by_opcode m)) code at ≡ nonzero m
-      go zero k = refl
-      go (suc m) k = rw (ne_eqb (suc m) 0 (λ e. omega arith)) (fits_some code at (suc m) k)
+  plain_length h z b = length_plain h ∙ rw (ne_eqb n 0 z) (fits_some code at n b)
+
+  -- no size is no instruction
+  pub no_size : n ≡ 0 → instruction_length code at ≡ none
+  unfolding length_as
+  no_size z = elim (dec_le f 3) [
+    | yes h ↦ length_plain h ∙ rw z refl
+    | no h ↦ absurd (omega (arith, s.head (omega arith), head_least f))
+  ]
 
   plain_short : f ≤ 3 → length code < at + n → instruction_length code at ≡ none
   unfolding length_as
@@ -190,12 +187,17 @@ module _ (code : Bytes) (at f n : ℕ) (s : Says (u1_at code at) f n) where
       (switch_bytes (switch_of f) k)) (fits_some code at (switch_of f).head (omega arith))
 
   module _ (m : ℕ) (l : 3 < f) (b : at + n ≤ length code) (e : (switch_entries (switch_of f) code at and_then λ k. some (switch_bytes (switch_of f) k)) ≡
-      nonzero m) where
-    pub switch_fits : at + m ≤ length code → instruction_length code at ≡ nonzero m
+      some m) where
+    pub switch_fits : at + m ≤ length code → instruction_length code at ≡ some m
     switch_fits h = switch_entries_lem l b ∙ said_fits code at m (switch_bytes (switch_of f)) (switch_entries (switch_of f) code at) e h
 
     pub switch_short : length code < at + m → instruction_length code at ≡ none
     switch_short h = switch_entries_lem l b ∙ said_short code at m (switch_bytes (switch_of f)) (switch_entries (switch_of f) code at) e h
+
+  -- a switch whose fields say none
+  pub switch_none : 3 < f → at + n ≤ length code → (switch_entries (switch_of f) code at and_then λ k. some (switch_bytes (switch_of f) k)) ≡ none →
+      instruction_length code at ≡ none
+  switch_none l b e = switch_entries_lem l b ∙ said_nothing code at (switch_bytes (switch_of f)) (switch_entries (switch_of f) code at) e
 
   -- an instruction that is there whole has its size
   pub whole_size : Whole code at → at + n ≤ length code
@@ -205,7 +207,7 @@ module _ (code : Bytes) (at f n : ℕ) (s : Says (u1_at code at) f n) where
   ]
 
   -- and, of a switch, what its fields say
-  pub whole_switch : 3 < f → Whole code at → (m : ℕ) → (switch_entries (switch_of f) code at and_then λ k. some (switch_bytes (switch_of f) k)) ≡ nonzero m →
+  pub whole_switch : 3 < f → Whole code at → (m : ℕ) → (switch_entries (switch_of f) code at and_then λ k. some (switch_bytes (switch_of f) k)) ≡ some m →
       at + m ≤ length code
   whole_switch l w m e = elim (dec_le (at + m) (length code)) [
     | yes h ↦ h
@@ -213,36 +215,16 @@ module _ (code : Bytes) (at f n : ℕ) (s : Says (u1_at code at) f n) where
   ]
 
   -- and its entries
-  pub whole_entries : 3 < f → Whole code at → (r : ℕ) → switch_entries (switch_of f) code at ≡ entries_by f r →
-      (switch_entries (switch_of f) code at ≡ some r) × (at + ((switch_of f).head + (switch_of f).entry * r) ≤ length code)
-  unfolding entries_by
-  whole_entries l w r e =
-      let e' = switch_entries_lem l (whole_size w) in
-      let w' : T (is_some (switch_entries (switch_of f) code at and_then λ k. fits code at (switch_bytes (switch_of f) k))) = subst
-      (λ (o : Option ℕ). T (is_some o)) e' w in
-      let q = by_number (ltb f 6) refl in
-      (q w', in_code (subst (λ (o : Option ℕ). T (is_some (o and_then λ k. fits code at (switch_bytes (switch_of f) k)))) (q w') w'))
-    where
-      in_code : T (is_some (fits code at (switch_bytes (switch_of f) r))) → at + ((switch_of f).head + (switch_of f).entry * r) ≤ length code
-      in_code t = elim (dec_le (at + ((switch_of f).head + (switch_of f).entry * r)) (length code)) [
-        | yes h ↦ h
-        | no h ↦ absurd (subst (λ (o : Option ℕ). T (is_some o)) (fits_none code at (switch_bytes (switch_of f) r) (omega arith)) t)
-      ]
-
-      by_number : (t : Bool) → ltb f 6 ≡ t → T (is_some (switch_entries (switch_of f) code at and_then λ k. fits code at (switch_bytes (switch_of f) k))) →
-          switch_entries (switch_of f) code at ≡ some r
-      by_number false q t = e ∙ rw q
-      by_number true q t =
-          let d : switch_entries (switch_of f) code at ≡ nonzero r = e ∙ rw q in
-          d ∙ nonzero_is r (λ z. absurd (subst (λ (o : Option ℕ). T (is_some (o and_then λ k. fits code at (switch_bytes (switch_of f) k))))
-          (d ∙ nonzero_none r z) t))
+  pub whole_entries : 3 < f → Whole code at → (r : ℕ) → switch_entries (switch_of f) code at ≡ some r →
+      at + ((switch_of f).head + (switch_of f).entry * r) ≤ length code
+  whole_entries l w r e = whole_switch l w ((switch_of f).head + (switch_of f).entry * r) (said_number f code at r _ e refl)
 
   -- the bytes of the entries, and those of a branch
-  pub switch_room : 3 < f → Whole code at → (r : ℕ) → switch_entries (switch_of f) code at ≡ entries_by f r → (entry : ℕ) → (switch_of f).entry ≡ entry → at +
+  pub switch_room : 3 < f → Whole code at → (r : ℕ) → switch_entries (switch_of f) code at ≡ some r → (entry : ℕ) → (switch_of f).entry ≡ entry → at +
       n + entry * r ≤ length code
   switch_room l w r e entry q =
       let h : at + ((switch_of f).head + entry * r) ≤ length code = subst (λ (k : ℕ). at + ((switch_of f).head + k * r) ≤ length code) q
-      (whole_entries l w r e).1 in
+      (whole_entries l w r e) in
       omega (arith, s.head l)
 
   pub room_s1 : f ≡ 2 → Whole code at → at + 2 ≤ length code

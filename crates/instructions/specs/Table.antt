@@ -8,10 +8,11 @@
 -- Says      == form and size are an opcode's
 -- TableIs t == t is the table of the 256 opcodes
 -- BarredIs s == s is the set of the barred opcodes
--- nonzero n == a number that is none where it is 0
+-- AtMost m r, AtLeast m r == a number that is told is not above m, not below m; Inside n at r == so many bytes, one at least, lie from an offset on in a code of n bytes
 -- Whole     == an instruction is there whole
-use Rattle.std.specs.Prelude.{ℕ, zero, suc, ◌/◌, ◌%◌, ◌<◌, ◌≤◌, ◌≡◌, List, [], ◌∷◌, T, leb, ltb, eqb, get_or}
-use Rattle.std.proofs.Math.Option.{Option, none, some}
+use Rattle.std.specs.Prelude.{Some, None}
+use Rattle.std.specs.Prelude.{Option as Optional}
+use Rattle.std.specs.Prelude.{ℕ, ◌+◌, ◌/◌, ◌%◌, ◌<◌, ◌≤◌, ◌≡◌, List, [], ◌∷◌, T, leb, eqb, get_or}
 use Rattle.rules.specs.Bytes.{Bytes, pick, is_some}
 use Rattle.rules.specs.Code.{Switch, switch73, switch74, switch75, switch76, Length, by_opcode, by_switch, undefined, length_of, instruction_length, among}
 use Rattle.rules.specs.Subset.{barred_opcode}
@@ -47,14 +48,20 @@ pub record TableIs (t : List ℕ) : Type 0 where
 pub record BarredIs (set : List ℕ) : Type 0 where
   pub says : (o : ℕ) → o < 256 → bit_at set o ≡ barred_opcode o
 
--- a number that is none where it is 0
-abbrev pub nonzero : ℕ → Option ℕ
-nonzero zero = none
-nonzero (suc n) = some (suc n)
+-- a number that is told is not above m
+abbrev pub AtMost : ℕ → Optional ℕ → Type 0
+AtMost m (Some n) = n ≤ m
+AtMost m None = Unit
 
--- the entries of a switch of a form, told by a number: of 73 and 74 none where low is above high, which the number 0 says
-unfoldable pub entries_by : ℕ → ℕ → Option ℕ
-entries_by f n = pick (ltb f 6) (nonzero n) (some n)
+-- nor below m
+abbrev pub AtLeast : ℕ → Optional ℕ → Type 0
+AtLeast m (Some n) = m ≤ n
+AtLeast m None = Unit
+
+-- bytes that are told lie from an offset on in a code of n bytes, one at least
+abbrev pub Inside : ℕ → ℕ → Optional ℕ → Type 0
+Inside n at (Some k) = (0 < k) × (at + k ≤ n)
+Inside n at None = Unit
 
 -- an instruction is there whole
 abbrev pub Whole : Bytes → ℕ → Type 0

@@ -59,13 +59,7 @@ fn barred_opcode(opcode: u8) -> bool
 fn has_type(opcode: u8) -> bool
     ensures { result ≡ among ((0x90, 0x90) ∷ (0x94, 0x95) ∷ []) opcode }
 {
-    if opcode == 0x90 {
-        return true;
-    }
-    if opcode < 0x94 {
-        return false;
-    }
-    opcode <= 0x95
+    matches!(opcode, 0x90 | 0x94..=0x95)
 }
 
 // Is the instruction at an offset barred?

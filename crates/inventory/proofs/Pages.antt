@@ -10,6 +10,9 @@ use Rattle.rules.specs.Store.{store_limits}
 use Rattle.rules.specs.Operations.{on_store, entries}
 use Rattle.store.specs.Sound.{SoundAt}
 use Rattle.store.proofs.Sound.{kept, sound_store}
+use Rattle.refusals.specs.declared.refusal.Refusal.{Refusal}
+use Rattle.refusals.specs.Refusals.{number_of}
+use Rattle.refusals.proofs.Numbers.{some_number}
 use Rattle.sound.specs.Says.{Unopened}
 use Rattle.text.specs.Text.{decimal}
 use Rattle.text.specs.Put.{Put}
@@ -19,11 +22,11 @@ use Rattle.pages.specs.Says.{most_page, totals, LinesSay}
 use Rattle.pages.specs.declared.Listed.{Listed}
 
 -- a store that is refused prints the number
-pub refused_page : (s : Bytes) (n : ℕ) → Unopened s n → number_text n ≡ inventory s
+pub refused_page : (s : Bytes) (g : Refusal) → Unopened s g → number_text (number_of g) ≡ inventory s
 unfolding inventory
-refused_page s n h =
-    let e = h.1 [] in
-    ap number_text e ∙ sym (kept (on_store s []) (page (store_limits s) (entries s)) (number_text (on_store s [])) (λ z. h.0 (e ∙ z)))
+refused_page s g h =
+    let e = h [] in
+    ap number_text e ∙ sym (kept (on_store s []) (page (store_limits s) (entries s)) (number_text (on_store s [])) (λ z. omega (arith, some_number g, e ∙ z)))
 
 -- a sound one its lines and totals
 pub sound_page : (s : Bytes) (u : ℕ) → SoundAt s u → inventory s ≡ page (store_limits s) (entries s)

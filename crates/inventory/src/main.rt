@@ -12,7 +12,7 @@ fn print_page(rt: &HostRuntime, store: &[u8], page: &mut [u8])
     requires { most_page ≤ length page.old }
 {
     let n = page::put_page(store, page);
-    if !streams::write_out(rt, &page[..n]) {
+    if streams::write_out(rt, &page[..n]).is_err() {
         streams::tell(rt, b"inventory: standard output cannot be written\n");
     }
 }
@@ -21,10 +21,8 @@ fn print_page(rt: &HostRuntime, store: &[u8], page: &mut [u8])
 fn main(rt: HostRuntime) {
     let mut store = [0u8; 65536];
     let mut page = [0u8; 131100];
-    let got = streams::read_whole(&rt, &mut store);
-    if got.failed {
-        streams::tell(&rt, b"inventory: standard input cannot be read\n");
-        return;
+    match streams::read_whole(&rt, &mut store) {
+        Ok(count) => print_page(&rt, &store[..count], &mut page),
+        Err(_) => streams::tell(&rt, b"inventory: standard input cannot be read\n"),
     }
-    print_page(&rt, &store[..got.count], &mut page);
 }

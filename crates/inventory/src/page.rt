@@ -6,7 +6,6 @@ ghost use Rattle.text.specs.Put.{Put};
 ghost use Rattle.inventory_rules.specs.Inventory.{number_text, inventory};
 ghost use Rattle.pages.specs.Says.{most_page};
 
-use sound::Opened;
 use text::{put_byte, put_decimal, put_three};
 
 // Puts a number alone.
@@ -25,8 +24,8 @@ pub fn put_page(s: &[u8], out: &mut [u8]) -> usize
     ensures prefix_len { IsPrefixLen result out.new }
 {
     match sound::open_store(s) {
-        Opened::Refused(n) => put_number(out, n),
-        Opened::Used(used) => {
+        Err(e) => put_number(out, e.number()),
+        Ok(used) => {
             let x = pages::put_lines(s, used, out);
             put_three(out, x.at, x.packages, x.bytes, x.methods)
         }

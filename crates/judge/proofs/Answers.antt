@@ -1,7 +1,7 @@
 -- Answers to lists of questions: a no, a yes with what follows, and lists one behind the other. Assumes nothing.
-use Prim.Native.Nat.{ℕ, zero, suc, ◌<◌}
+use Prim.Native.Nat.{ℕ, ◌<◌}
 use native.Mathlib.Omega.{arith}
-use mathlib.Core.Path.{◌≡◌, refl, sym, ◌∙◌, ap}
+use mathlib.Core.Path.{◌≡◌, refl, sym, ◌∙◌, ap, subst}
 use mathlib.Core.Bool.{Bool, true, false}
 use mathlib.Core.List.{List, [], ◌∷◌, ◌++◌}
 use lib.Dec.{T, ltb, eqb, ltb→lt}
@@ -10,8 +10,10 @@ use Rattle.rules.specs.Bytes.{pick, all}
 use Rattle.rules.specs.Operations.{Question, first_no}
 use Rattle.rules.proofs.Tests.{and_l, and_r}
 use Rattle.judge.specs.Says.{AnswerIs}
-use Rattle.judge.specs.declared.LoadAnswer.{LoadAnswer}
-use Rattle.judge.specs.declared.LoadAnswer.TheVariants.{Refused, Accepted}
+use Rattle.std.specs.Prelude.{Result, Ok, Err, IsErr, IsErrAnd}
+use Rattle.refusals.specs.declared.refusal.Refusal.{Refusal}
+use Rattle.refusals.specs.Refusals.{number_of}
+use Rattle.refusals.proofs.Numbers.{some_number}
 
 -- the number of the first no
 pub number_no : (n : ℕ) (b : Bool) (qs : List Question) → b ≡ false → n ≡ first_no ((n, b) ∷ qs)
@@ -44,23 +46,19 @@ joined-no xs ys r h e z = e ∙ sym (joined xs ys h ∙ ap (λ (b : Bool). pick 
 pub joined-yes : (xs ys : List Question) (r : ℕ) → T (positive xs) → 0 ≡ first_no xs → r ≡ first_no ys → r ≡ first_no (xs ++ ys)
 joined-yes xs ys r h e q = q ∙ sym (joined xs ys h ∙ ap (λ (n : ℕ). pick (eqb n 0) (first_no ys) n) (sym e))
 
--- a number that is not 0
-above : (r : ℕ) → (r ≡ 0 → ⊥) → 0 < r
-above zero z = absurd (z refl)
-above (suc r) z = omega arith
-
 -- the same as answers of a load
-pub answer-refused : (qs : List Question) (depth r : ℕ) → r ≡ first_no qs → (r ≡ 0 → ⊥) → AnswerIs qs depth (Refused r)
-answer-refused qs depth r e z =
-    record { number = e; figure = λ y. absurd (z (e ∙ y)); real = λ m q. let k : r ≡ m = cc in omega (arith, k, above r z) }
+pub answer-refused : (qs : List Question) (depth : ℕ) (e : Refusal) → number_of e ≡ first_no qs → AnswerIs qs depth (Err e)
+answer-refused qs depth e h = record { number = h; figure = λ y. absurd (omega (arith, some_number e, h, y)) }
 
-pub answer-accepted : (qs : List Question) (depth : ℕ) → 0 ≡ first_no qs → AnswerIs qs depth (Accepted depth)
-answer-accepted qs depth e = record { number = e; figure = λ y. refl; real = λ m q. let z : ◌≡◌ {A = ℕ} 0 1 = cc in absurd (omega arith) }
+pub answer-accepted : (qs : List Question) (depth : ℕ) → 0 ≡ first_no qs → AnswerIs qs depth (Ok depth)
+answer-accepted qs depth e = record { number = e; figure = λ y. refl }
 
-pub answer-no : (n : ℕ) (b : Bool) (qs : List Question) (depth : ℕ) → T (ltb 0 n) → b ≡ false → AnswerIs ((n, b) ∷ qs) depth (Refused n)
-answer-no n b qs depth h e = answer-refused ((n, b) ∷ qs) depth n (number_no n b qs e) (λ z. let k = ltb→lt 0 n h in omega (arith, k, z))
-
-pub answer-yes : (n : ℕ) (b : Bool) (qs : List Question) (depth : ℕ) (r : LoadAnswer) → b ≡ true → AnswerIs qs depth r → AnswerIs ((n, b) ∷ qs) depth r
+pub answer-yes : (n : ℕ) (b : Bool) (qs : List Question) (depth : ℕ) (r : Result ℕ Refusal) → b ≡ true → AnswerIs qs depth r → AnswerIs ((n, b) ∷ qs) depth r
 answer-yes n b qs depth r e a =
     let z : first_no ((n, b) ∷ qs) ≡ first_no qs = rw e in
-    record { number = a.number ∙ sym z; figure = λ y. a.figure (sym z ∙ y); real = a.real }
+    record { number = a.number ∙ sym z; figure = λ y. a.figure (sym z ∙ y) }
+
+-- a refusal that is handed on
+pub err_again : {A : Type 0} (r : Result A Refusal) (e : Refusal) → IsErr r × IsErrAnd r (λ x. x ≡ e) → r ≡ Err e
+err_again (Ok x) e h = absurd (subst T (sym h.0) tt)
+err_again (Err x) e h = ap (λ y. Err y) h.1

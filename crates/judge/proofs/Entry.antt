@@ -24,11 +24,12 @@ use Rattle.homes.specs.Homes.{aid_at}
 use Rattle.homes.proofs.Homes.{all_read}
 use Rattle.depths.specs.Depths.{DepthsKept, DepthsFit, OwnDepths, FileKept, depth_width, depth_field}
 use Rattle.depths.proofs.Kept.{depths_next}
-use Rattle.judge.specs.Says.{Asked14, file_asks, InsideAnswer, entry_of, PackageThere, EntrySays}
+use Rattle.judge.specs.Says.{Asked14, file_asks, entry_of, PackageThere, EntrySays}
 use Rattle.judge.specs.declared.PackageEntry.{PackageEntry}
-use Rattle.judge.specs.declared.LoadAnswer.{LoadAnswer}
-use Rattle.judge.specs.declared.LoadAnswer.TheVariants.{Refused}
-use Rattle.judge.proofs.Loading.{behind_5, inside_number}
+use Rattle.refusals.specs.declared.refusal.Refusal.{Refusal}
+use Rattle.refusals.specs.Refusals.{number_of}
+use Rattle.refusals.proofs.Numbers.{some_number}
+use Rattle.judge.proofs.Loading.{behind_5}
 
 -- n is the number of the questions of a package's entry from 10 on
 abbrev pub NumberIs : Bytes → PackageEntry → ℕ → Type 0
@@ -50,8 +51,8 @@ module _ (s : Bytes) (x : PackageEntry) (there : PackageThere s x) where
   pub entry_yes : (n : ℕ) → n ≡ 0 → NumberIs s x n → EntrySays s x.at (entry_of s x) true
   entry_yes n z h = subst (EntrySays s x.at (entry_of s x)) (eq-eqb n 0 z) (entry_number n h)
 
-  pub entry_no : (n : ℕ) → (n ≡ 0 → ⊥) → NumberIs s x n → EntrySays s x.at (entry_of s x) false
-  entry_no n z h = subst (EntrySays s x.at (entry_of s x)) (ne_eqb n 0 z) (entry_number n h)
+  pub entry_no : (g : Refusal) → NumberIs s x (number_of g) → EntrySays s x.at (entry_of s x) false
+  entry_no g h = subst (EntrySays s x.at (entry_of s x)) (ne_eqb (number_of g) 0 (λ z. omega (arith, some_number g, z))) (entry_number (number_of g) h)
 
   -- a package that was asked up to 14 may be entered
   pub package_stands : (es : List Entry) (p : Package) → Asked14 s x.at d f es p → PackageStands s x.at x.file x.next
@@ -80,10 +81,3 @@ files_stand s at o = (o.0, o.1.stand, all_read (store_opening s) (length s) [] o
 
 pub indexed : (s : Bytes) (at : ℕ) (index : List ℕ) → OverSome s at → IndexIs s at index → Indexed s at index
 indexed s at index o i = record { files = files_stand s at o; is = i }
-
--- a refusal of 10 to 19 as a number from 10 on
-pub first_number : (s : Bytes) (end : ℕ) (d f : Bytes) (r : LoadAnswer) (n : ℕ) → InsideAnswer s end d f r → r ≡ Refused n → OverSome s end →
-    (n ≡ 0 → ⊥) × ((es : List Entry) → Over s end es → n ≡ first_no (file_asks s es d f))
-first_number s end d f r n first e over =
-    let x = inside_number s end d f r first n e in
-    (λ z. omega (arith, (x over.0 over.1).0, z), λ es o. (x es o).1)

@@ -1,5 +1,5 @@
 -- A load over sound entries: 3 and 5, and what follows 10 to 14. Assumes nothing.
-use Prim.Native.Nat.{ℕ, ◌+◌, ◌<◌}
+use Prim.Native.Nat.{ℕ, ◌+◌}
 use native.Mathlib.Omega.{arith}
 use mathlib.Core.Path.{◌≡◌, refl, sym, ◌∙◌, ap, subst}
 use mathlib.Core.Bool.{Bool, true, false, ◌||◌, not}
@@ -19,14 +19,18 @@ use Rattle.homes.proofs.Domains.{created_domain}
 use Rattle.store.specs.Entries.{EntryAt}
 use Rattle.store.specs.Answers.{spot, SpotAt, SubsetSays}
 use Rattle.store.specs.Sound.{Over, OverSome}
-use Rattle.store.specs.declared.Spot.{Spot}
-use Rattle.store.specs.declared.Spot.TheVariants.{At}
+use Rattle.std.specs.Prelude.{Some}
+use Rattle.std.specs.Prelude.{Option as Optional}
+use Rattle.store.specs.declared.EntryPlace.{EntryPlace}
 use Rattle.store.proofs.Walk.{FoundAt, found_at}
 use Rattle.store.proofs.Sound.{one_length}
 use Rattle.rules.specs.Subset.{code_without_int}
 use Rattle.judge.specs.Says.{Asked14, asks, from, AnswerIs, Asked14Some, NumberFrom, NumberBefore, file_asks, ParentsSay, ParentsAnswer, InsideAnswer, FileSays, LoadSays, SubsetTold}
-use Rattle.judge.specs.declared.LoadAnswer.{LoadAnswer}
-use Rattle.judge.specs.declared.LoadAnswer.TheVariants.{Refused, Accepted}
+use Rattle.std.specs.Prelude.{Result, Ok, Err}
+use Rattle.refusals.specs.declared.refusal.Refusal.{Refusal}
+use Rattle.refusals.specs.declared.refusal.Refusal.TheVariants as refused
+use Rattle.refusals.specs.Refusals.{number_of}
+use Rattle.refusals.proofs.Numbers.{some_number}
 use Rattle.judge.proofs.Answers.{number_no, number-yes, answer-yes, answer-refused, answer-accepted}
 use Rattle.judge.proofs.Settings.{self_of}
 
@@ -51,29 +55,29 @@ module _ (s : Bytes) (end : ℕ) (d : Aid) (f : Bytes) (es : List Entry) where
 
 module _ (s : Bytes) (end : ℕ) (d : Aid) (f : Bytes) where
   -- 3 and 5 answered no
-  pub load_3 : aid_length (length d) ≡ false → LoadSays s end d f (Refused 3)
+  pub load_3 : aid_length (length d) ≡ false → LoadSays s end d f (Err refused.AidLength)
   unfolding load_questions
-  load_3 h es o = answer-refused (load_questions (store_opening s) (length s) es d f) _ 3
-      (number_no 3 (q3_lengths (d ∷ [])) (from 5 (load_questions (store_opening s) (length s) es d f)) (one_length d ∙ h)) (λ z. omega (arith, z))
+  load_3 h es o = answer-refused (load_questions (store_opening s) (length s) es d f) _ refused.AidLength
+      (number_no 3 (q3_lengths (d ∷ [])) (from 5 (load_questions (store_opening s) (length s) es d f)) (one_length d ∙ h))
 
   module _ (three : aid_length (length d) ≡ true) where
-    pub load_5 : ((es : List Entry) → Over s end es → false ≡ q5_created es d) → LoadSays s end d f (Refused 5)
+    pub load_5 : ((es : List Entry) → Over s end es → false ≡ q5_created es d) → LoadSays s end d f (Err refused.DomainUnknown)
     unfolding load_questions
     load_5 c es o =
-        answer-refused (load_questions (store_opening s) (length s) es d f) _ 5
+        answer-refused (load_questions (store_opening s) (length s) es d f) _ refused.DomainUnknown
         (number-yes 3 (q3_lengths (d ∷ [])) (from 5 (load_questions (store_opening s) (length s) es d f)) 5 (one_length d ∙ three)
-        (number_no 5 (q5_created es d) (file_asks s es d f) (sym (c es o)))) (λ z. omega (arith, z))
+        (number_no 5 (q5_created es d) (file_asks s es d f) (sym (c es o))))
 
     -- both answered yes
-    pub load_file : ((es : List Entry) → Over s end es → true ≡ q5_created es d) → (r : LoadAnswer) → FileSays s end d f r → LoadSays s end d f r
+    pub load_file : ((es : List Entry) → Over s end es → true ≡ q5_created es d) → (r : Result ℕ Refusal) → FileSays s end d f r → LoadSays s end d f r
     unfolding load_questions
     load_file five r a es o =
         answer-yes 3 (q3_lengths (d ∷ [])) (from 5 (load_questions (store_opening s) (length s) es d f)) _ r (one_length d ∙ three)
         (answer-yes 5 (q5_created es d) (file_asks s es d f) _ r (sym (five es o)) (a es o))
 
-  module _ (r : LoadAnswer) (first : ParentsAnswer s end f r) where
+  module _ (r : Result ℕ Refusal) (first : ParentsAnswer s end f r) where
     -- answered yes
-    module _ (depth : ℕ) (e : r ≡ Accepted depth) where
+    module _ (depth : ℕ) (e : r ≡ Ok depth) where
       pub asked_14 : (es : List Entry) × Over s end es → Asked14Some s end d f
       asked_14 o = let x = subst (ParentsSay s end d f o.0) e (first d o.0 o.1) in (o.0, x.0, x.1)
 
@@ -84,54 +88,55 @@ module _ (s : Bytes) (end : ℕ) (d : Aid) (f : Bytes) where
             let x = subst (ParentsSay s end d f es) e (first d es o) in
             behind_14 s end d f es x.0 x.1 x.2 n (number es x.0 x.1)
 
-        file_refused : (n ≡ 0 → ⊥) → FileSays s end d f (Refused n)
-        file_refused z es o = answer-refused (file_asks s es d f) _ n (file_number_lem es o) z
+        file_refused : (g : Refusal) → n ≡ number_of g → FileSays s end d f (Err g)
+        file_refused g z es o = answer-refused (file_asks s es d f) _ g (sym z ∙ file_number_lem es o)
 
-        file_done : n ≡ 0 → FileSays s end d f (Accepted depth)
+        file_done : n ≡ 0 → FileSays s end d f (Ok depth)
         file_done z es o =
             let x = subst (ParentsSay s end d f es) e (first d es o) in
             let is : deepest_of (store_limits s) es d (read_file (store_limits s) f) ≡ depth = ap (deepest_of (store_limits s) es d) x.1.read.reads ∙ sym
             x.3 in
-            subst (λ (m : ℕ). AnswerIs (file_asks s es d f) m (Accepted depth)) (sym is) (answer-accepted (file_asks s es d f) depth (sym z ∙ file_number_lem es o))
+            subst (λ (m : ℕ). AnswerIs (file_asks s es d f) m (Ok depth)) (sym is) (answer-accepted (file_asks s es d f) depth (sym z ∙ file_number_lem es o))
 
 -- 10 to 19, from the answer to 10 to 14
-module _ (s : Bytes) (end : ℕ) (d : Aid) (f : Bytes) (r : LoadAnswer) (first : ParentsAnswer s end f r) where
-  pub inside_first : (n : ℕ) → r ≡ Refused n → InsideAnswer s end d f (Refused n)
-  inside_first n e es o = subst (ParentsSay s end d f es) e (first d es o)
+module _ (s : Bytes) (end : ℕ) (d : Aid) (f : Bytes) (r : Result ℕ Refusal) (first : ParentsAnswer s end f r) where
+  pub inside_first : (g : Refusal) → r ≡ Err g → InsideAnswer s end d f (Err g)
+  inside_first g e es o = subst (ParentsSay s end d f es) e (first d es o)
 
-  module _ (depth : ℕ) (e : r ≡ Accepted depth) (n : ℕ) (number : NumberBefore 15 20 s end d f n) where
-    pub inside_refused : (n ≡ 0 → ⊥) → InsideAnswer s end d f (Refused n)
-    inside_refused z es o = (omega (arith, z), file_number_lem s end d f r first depth e n (number.0 z) es o)
+  module _ (depth : ℕ) (e : r ≡ Ok depth) (n : ℕ) (number : NumberBefore 15 20 s end d f n) where
+    pub inside_refused : (g : Refusal) → n ≡ number_of g → InsideAnswer s end d f (Err g)
+    inside_refused g z es o =
+        sym z ∙ file_number_lem s end d f r first depth e n (number.0 (λ y. omega (arith, some_number g, z, y))) es o
 
-    pub inside_yes : n ≡ 0 → InsideAnswer s end d f (Accepted depth)
+    pub inside_yes : n ≡ 0 → InsideAnswer s end d f (Ok depth)
     inside_yes z = (subst (ParentsAnswer s end f) e first, number.1 z)
 
 -- 10 to 21, from the answer to 10 to 19
-module _ (s : Bytes) (end : ℕ) (d : Aid) (f : Bytes) (r : LoadAnswer) (inside : InsideAnswer s end d f r) where
+module _ (s : Bytes) (end : ℕ) (d : Aid) (f : Bytes) (r : Result ℕ Refusal) (inside : InsideAnswer s end d f r) where
   -- answered no, as a number from 10 on
-  pub inside_number : (n : ℕ) → r ≡ Refused n → (es : List Entry) → Over s end es → (0 < n) × (n ≡ first_no (file_asks s es d f))
-  inside_number n e = subst (InsideAnswer s end d f) e inside
+  pub inside_number : (g : Refusal) → r ≡ Err g → (es : List Entry) → Over s end es → number_of g ≡ first_no (file_asks s es d f)
+  inside_number g e = subst (InsideAnswer s end d f) e inside
 
-  pub file_inside : (n : ℕ) → r ≡ Refused n → FileSays s end d f (Refused n)
-  file_inside n e es o = let x = inside_number n e es o in answer-refused (file_asks s es d f) _ n x.1 (λ z. omega (arith, x.0, z))
+  pub file_inside : (g : Refusal) → r ≡ Err g → FileSays s end d f (Err g)
+  file_inside g e es o = answer-refused (file_asks s es d f) _ g (inside_number g e es o)
 
   -- answered yes
-  module _ (depth : ℕ) (e : r ≡ Accepted depth) where
-    both : InsideAnswer s end d f (Accepted depth)
+  module _ (depth : ℕ) (e : r ≡ Ok depth) where
+    both : InsideAnswer s end d f (Ok depth)
     both = subst (InsideAnswer s end d f) e inside
 
     pub asked_inside : (es : List Entry) × Over s end es → Asked14Some s end d f
-    asked_inside = asked_14 s end d f (Accepted depth) both.0 depth refl
+    asked_inside = asked_14 s end d f (Ok depth) both.0 depth refl
 
     module _ (n : ℕ) (number : NumberFrom 20 s end d f n) where
       pub later_number : (es : List Entry) → Over s end es → n ≡ first_no (file_asks s es d f)
-      later_number = file_number_lem s end d f (Accepted depth) both.0 depth refl n (both.1 n number)
+      later_number = file_number_lem s end d f (Ok depth) both.0 depth refl n (both.1 n number)
 
-      pub later_refused : (n ≡ 0 → ⊥) → FileSays s end d f (Refused n)
-      later_refused = file_refused s end d f (Accepted depth) both.0 depth refl n (both.1 n number)
+      pub later_refused : (g : Refusal) → n ≡ number_of g → FileSays s end d f (Err g)
+      later_refused = file_refused s end d f (Ok depth) both.0 depth refl n (both.1 n number)
 
-      pub later_done : n ≡ 0 → FileSays s end d f (Accepted depth)
-      later_done = file_done s end d f (Accepted depth) both.0 depth refl n (both.1 n number)
+      pub later_done : n ≡ 0 → FileSays s end d f (Ok depth)
+      later_done = file_done s end d f (Ok depth) both.0 depth refl n (both.1 n number)
 
 -- 26 is asked where the domain is of kind 3
 pub kind_asked : (s : Bytes) (end : ℕ) (d f : Bytes) (b : Bool) → SubsetSays s end d b → SubsetTold s end d f b
@@ -139,15 +144,15 @@ unfolding q26_subset
 kind_asked s end d f b h es o p e = ap (λ (x : Bool). not x || all_codes code_without_int p) (h es o.stand)
 
 -- the place of the loading domain's AID, by that of its entry
-pub domain_place_lem : (s : Bytes) (end : ℕ) (a : Aid) (r : Spot) (i j : ℕ) → SpotAt (is_domain a) s end r → r ≡ At i j → OverSome s end →
-    aid_length (length a) ≡ true → Ends aid s (i + 2) × (a ≡ aid_at s (i + 2))
-domain_place_lem s end a r i j h e o l = go x.one x.stands (of_true x.found)
+pub domain_place_lem : (s : Bytes) (end : ℕ) (a : Aid) (r : Optional EntryPlace) (p : EntryPlace) → SpotAt (is_domain a) s end r → r ≡ Some p → OverSome s end →
+    aid_length (length a) ≡ true → Ends aid s (p.at + 2) × (a ≡ aid_at s (p.at + 2))
+domain_place_lem s end a r p h e o l = go x.one x.stands (of_true x.found)
   where
-    x : FoundAt (is_domain a) s (first_entry s) o.0 end i j
-    x = found_at (is_domain a) s (first_entry s) o.0 end i j o.1.stand (sym (h o.0 o.1.stand) ∙ ap spot e)
+    x : FoundAt (is_domain a) s (first_entry s) o.0 end p.at p.next
+    x = found_at (is_domain a) s (first_entry s) o.0 end p.at p.next o.1.stand (sym (h o.0 o.1.stand) ∙ ap spot e)
 
-    go : (y : Entry) → EntryAt s i y j → T (is_domain a y) → Ends aid s (i + 2) × (a ≡ aid_at s (i + 2))
+    go : (y : Entry) → EntryAt s p.at y p.next → T (is_domain a y) → Ends aid s (p.at + 2) × (a ≡ aid_at s (p.at + 2))
     go (domain k b) t q =
         let same : a ≡ b = same_eq a b q in
-        created_domain s i a j (subst (λ (z : Aid). EntryAt s i (domain k z) j) (sym same) t) (of_true (one_length a ∙ l))
+        created_domain s p.at a p.next (subst (λ (z : Aid). EntryAt s p.at (domain k z) p.next) (sym same) t) (of_true (one_length a ∙ l))
     go (loaded d f) t q = absurd q

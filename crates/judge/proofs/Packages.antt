@@ -17,6 +17,7 @@ use Rattle.rules.proofs.Tests.{is_true, of_true}
 use Rattle.store.specs.Entries.{part, kind_at, EntryAt, StandFrom, FirstIs}
 use Rattle.store.specs.Answers.{PartAt}
 use Rattle.store.specs.Sound.{Over, OverSome}
+use Rattle.std.specs.Prelude.{Some, None}
 use Rattle.store.specs.declared.EntryPart.TheVariants as parts
 use Rattle.store.proofs.Parts.{part_length}
 use Rattle.store.proofs.Stand.{entry_later, entry_next, entries_to, entries_one}
@@ -52,7 +53,7 @@ module _ (s : Bytes) (end at : ℕ) (g : Going s end at) where
       let b = entries_to s j f.rest end f.after in
       (f.stands.to, omega arith, b.0)
 
-  module _ (a j : ℕ) (p : PartAt s at end (parts.Domain a j)) where
+  module _ (a j : ℕ) (p : PartAt s at end (Some (parts.Domain a j))) where
     pub domain_in : StandFrom s (first_entry s) end → (at < j) × (j ≤ end)
     domain_in t =
         let r = g t.0 t.1 in
@@ -70,7 +71,7 @@ module _ (s : Bytes) (end at : ℕ) (g : Going s end at) where
         let yes = y es r.pre q.rest (domain (kind_at s at) (part s a j)) t are in
         going_on s end at es r (domain (kind_at s at) (part s a j)) j q (domain_accepted_lem s at j (kind_at s at) (part s a j) r.pre r.over q.stands yes)
 
-  module _ (a m j : ℕ) (p : PartAt s at end (parts.Package a m j)) where
+  module _ (a m j : ℕ) (p : PartAt s at end (Some (parts.Package a m j))) where
     pub package_in : StandFrom s (first_entry s) end → (at < j) × (j ≤ end)
     package_in t =
         let r = g t.0 t.1 in
@@ -139,8 +140,8 @@ module _ (s : Bytes) (end at : ℕ) (g : Going s end at) where
         sym (going_bad s end at es r (loaded (part s a m) (part s m j)) j (p r.rest r.behind).2
         (sym (package_says (es, t) false y r.pre r.over)))
 
-  pub all_done : PartAt s at end parts.AtEnd → PackagesSay s end true
+  pub all_done : PartAt s at end None → PackagesSay s end true
   all_done p es t = let v = g es t in sym (going_done s end at es v (p v.rest v.behind).0)
 
-  pub done_at : PartAt s at end parts.AtEnd → StandFrom s (first_entry s) end → at ≡ end
+  pub done_at : PartAt s at end None → StandFrom s (first_entry s) end → at ≡ end
   done_at p t = let v = g t.0 t.1 in (p v.rest v.behind).1

@@ -2,11 +2,11 @@
 use Prim.Native.Nat.{ℕ}
 use native.Mathlib.Omega.{arith}
 use mathlib.Core.Path.{◌≡◌, refl, sym, ◌∙◌, ap, subst}
-use mathlib.Core.Bool.{Bool, true, false, ◌||◌, not}
+use mathlib.Core.Bool.{Bool, true, false, ◌||◌}
 use mathlib.Core.List.{List, [], ◌∷◌}
 use lib.Dec.{T, eqb}
 use lib.ListN.{length}
-use borrow.Author.Tests.{eq-eqb, ne_eqb, eqb-true}
+use borrow.Author.Tests.{ne_eqb, eqb-true}
 use Rattle.rules.specs.Bytes.{Bytes, Aid, pick, aid}
 use Rattle.rules.specs.Package.{Package}
 use Rattle.rules.specs.Store.{Entry, loaded, store_limits, store_opening}
@@ -103,17 +103,8 @@ module _ (s : Bytes) (end : ℕ) (d : Aid) (f : Bytes) where
         behind_15 es p a c (e ∙ sym (codes.number_no p (from 26 (asks s es d f p)) (λ x. z (e ∙ x)) (λ x. y (e ∙ x))))
 
     -- a number that is neither 0 nor 18
-    pub codes_before : not (eqb c 0 || eqb c 18) ≡ true → NumberBefore 15 20 s end d f c
-    codes_before h = ((λ z. number_16 z (λ y. taken (eqb c 0) (eqb c 18) (eq-eqb c 18 y) h)), (λ z. absurd (first (eqb c 0) (eqb c 18) (eq-eqb c 0 z) h)))
-      where
-        taken : (a b : Bool) → b ≡ true → not (a || b) ≡ true → ⊥
-        taken true b e h = subst T (sym h) tt
-        taken false true e h = subst T (sym h) tt
-        taken false false e h = subst T (sym e) tt
-
-        first : (a b : Bool) → a ≡ true → not (a || b) ≡ true → ⊥
-        first true b e h = subst T (sym h) tt
-        first false b e h = subst T (sym e) tt
+    pub codes_before : (c ≡ 0 → ⊥) → (c ≡ 18 → ⊥) → NumberBefore 15 20 s end d f c
+    codes_before z y = (λ k. number_16 z y, λ e. absurd (z e))
 
     -- 0 or 18: 16, 17 and 24 are answered yes
     module _ (ok : (eqb c 0 || eqb c 18) ≡ true) where

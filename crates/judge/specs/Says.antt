@@ -1,6 +1,6 @@
 -- What judging a load and the packages of a store says: the questions of document 01 over the entries that end at a place. Assumes nothing.
 --
--- number_of r, figure_of r    == the number of a load's answer, and its depth figure
+-- figure_of r                == the depth figure of a load's answer
 -- from k qs                 == the questions of a list from the one with number k on
 -- asks s es d f p           == a load's questions from 11 on, of a file that reads as p
 -- FileRead s end f es p     == over sound entries es that end at a place the file f reads as the package p
@@ -20,7 +20,7 @@
 -- DomainsYes s end          == of every entry of those that end at a place
 -- PackageThere s x          == the entry of a package stands at places, and questions 3, 5 and 26 of it are answered yes
 -- PackagesSay s end r       == whether all these entries are accepted
-use Rattle.std.specs.Prelude.{ℕ, ◌+◌, ◌<◌, ◌≤◌, ◌≡◌, Bool, true, ◌||◌, not, List, [], ◌∷◌, ◌++◌, T, eqb, length}
+use Rattle.std.specs.Prelude.{ℕ, ◌+◌, ◌<◌, ◌≤◌, ◌≡◌, Bool, true, ◌||◌, not, List, [], ◌∷◌, ◌++◌, T, eqb, length, Result, Ok, Err}
 use Rattle.std.proofs.Math.Option.{some}
 use Rattle.rules.specs.Bytes.{Bytes, Aid, pick, aid}
 use Rattle.rules.specs.Subset.{code_without_int}
@@ -39,8 +39,8 @@ use Rattle.chains.specs.Names.{names_length}
 use Rattle.classes.specs.Keys.{seen_length}
 use Rattle.slots.specs.Slots.{slots_length}
 use Rattle.depths.specs.Depths.{OwnDepths, DepthsFit, depth_width}
-use Rattle.judge.specs.declared.LoadAnswer.{LoadAnswer}
-use Rattle.judge.specs.declared.LoadAnswer.TheVariants.{Refused, Accepted}
+use Rattle.refusals.specs.declared.refusal.Refusal.{Refusal}
+use Rattle.refusals.specs.Refusals.{number_of, number_said}
 use Rattle.judge.specs.declared.PackageEntry.{PackageEntry}
 use Rattle.judge.specs.declared.LoadingDomain.{LoadingDomain}
 use Rattle.judge.specs.declared.Judging.{Judging}
@@ -53,14 +53,10 @@ used_at s = u2_at s 5
 abbrev pub HasRoom : Bytes → List ℕ → List ℕ → Type 0
 HasRoom s names seen = (names_length s ≤ length names) × (seen_length s ≤ length seen) × (slots_length ≤ length names)
 
--- the number of a load's answer, and its depth figure
-abbrev pub number_of : LoadAnswer → ℕ
-number_of (Refused n) = n
-number_of (Accepted d) = 0
-
-abbrev pub figure_of : LoadAnswer → ℕ
-figure_of (Refused n) = 0
-figure_of (Accepted d) = d
+-- the depth figure of a load's answer
+abbrev pub figure_of : Result ℕ Refusal → ℕ
+figure_of (Err e) = 0
+figure_of (Ok d) = d
 
 -- the questions of a list from the one with number k on
 abbrev pub from : ℕ → List Question → List Question
@@ -83,11 +79,10 @@ pub record Asked14 (s : Bytes) (end : ℕ) (d : Aid) (f : Bytes) (es : List Entr
   pub q13 : T (q13_imports (installed (store_limits s) es) p)
   pub q14 : T (q14_parents (store_limits s) (installed (store_limits s) es) (record { domain = d; pack = p }))
 
--- an answer to a list of questions: its number, the depth figure where that is 0, and that a refusal has a number
-pub record AnswerIs (qs : List Question) (depth : ℕ) (r : LoadAnswer) : Type 0 where
-  pub number : number_of r ≡ first_no qs
+-- an answer to a list of questions: its number, and the depth figure where that is 0
+pub record AnswerIs (qs : List Question) (depth : ℕ) (r : Result ℕ Refusal) : Type 0 where
+  pub number : number_said r ≡ first_no qs
   pub figure : first_no qs ≡ 0 → figure_of r ≡ depth
-  pub real : (n : ℕ) → r ≡ Refused n → 0 < n
 
 -- what is required of a file that reads, and of one that passed 14
 abbrev pub ReadSome : Bytes → Bytes → Type 0
@@ -109,18 +104,18 @@ abbrev pub file_asks : Bytes → List Entry → Aid → Bytes → List Question
 file_asks s es d f = from 10 (load_questions (store_opening s) (length s) es d f)
 
 -- questions 10 to 14: the number of the first no, or that all are answered yes, with the depth of the deepest class
-abbrev pub ParentsSay : Bytes → ℕ → Aid → Bytes → List Entry → LoadAnswer → Type 0
-ParentsSay s end d f es (Refused n) = (0 < n) × (n ≡ first_no (file_asks s es d f))
-ParentsSay s end d f es (Accepted depth) = (p : Package) × Asked14 s end d f es p × (q10_marked f ≡ true) × (depth ≡ deepest (store_limits s) es d p)
+abbrev pub ParentsSay : Bytes → ℕ → Aid → Bytes → List Entry → Result ℕ Refusal → Type 0
+ParentsSay s end d f es (Err e) = number_of e ≡ first_no (file_asks s es d f)
+ParentsSay s end d f es (Ok depth) = (p : Package) × Asked14 s end d f es p × (q10_marked f ≡ true) × (depth ≡ deepest (store_limits s) es d p)
 
 -- of whatever sound entries end at a place, and whatever domain loads the file
-abbrev pub ParentsAnswer : Bytes → ℕ → Bytes → LoadAnswer → Type 0
+abbrev pub ParentsAnswer : Bytes → ℕ → Bytes → Result ℕ Refusal → Type 0
 ParentsAnswer s end f r = (d : Aid) (es : List Entry) → Over s end es → ParentsSay s end d f es r
 
 -- with a yes: the depths of the own classes, and the places of the imports
-abbrev pub TablesTold : Bytes → ℕ → Bytes → List ℕ → List ℕ → LoadAnswer → Type 0
-TablesTold s end f own places (Refused n) = Unit {0}
-TablesTold s end f own places (Accepted depth) = OwnDepths f s end own × DepthsFit (depth_width s) f own × ImportPlaces f s end places
+abbrev pub TablesTold : Bytes → ℕ → Bytes → List ℕ → List ℕ → Result ℕ Refusal → Type 0
+TablesTold s end f own places (Err e) = Unit {0}
+TablesTold s end f own places (Ok depth) = OwnDepths f s end own × DepthsFit (depth_width s) f own × ImportPlaces f s end places
 
 -- 26 of the file that d loads, where b says that it is asked, is the load's: it is not asked only where it is known to be yes
 abbrev pub SubsetTold : Bytes → ℕ → Aid → Bytes → Bool → Type 0
@@ -141,15 +136,15 @@ abbrev pub SubsetIs : Bytes → Bool → Bool → Type 0
 SubsetIs f b r = (l : Limits) (p : Package) → read_file l f ≡ some p → r ≡ (not b || all_codes code_without_int p)
 
 -- questions 10 to 19 of a file that d loads: the number of the first no, or what 10 to 14 say, and that the number from 20 on is the one from 15 on
-abbrev pub InsideAnswer : Bytes → ℕ → Aid → Bytes → LoadAnswer → Type 0
-InsideAnswer s end d f (Refused n) = (es : List Entry) → Over s end es → (0 < n) × (n ≡ first_no (file_asks s es d f))
-InsideAnswer s end d f (Accepted depth) = ParentsAnswer s end f (Accepted depth) × ((n : ℕ) → NumberFrom 20 s end d f n → NumberFrom 15 s end d f n)
+abbrev pub InsideAnswer : Bytes → ℕ → Aid → Bytes → Result ℕ Refusal → Type 0
+InsideAnswer s end d f (Err e) = (es : List Entry) → Over s end es → number_of e ≡ first_no (file_asks s es d f)
+InsideAnswer s end d f (Ok depth) = ParentsAnswer s end f (Ok depth) × ((n : ℕ) → NumberFrom 20 s end d f n → NumberFrom 15 s end d f n)
 
 -- a load's answer from 10 on, and whole
-abbrev pub FileSays : Bytes → ℕ → Aid → Bytes → LoadAnswer → Type 0
+abbrev pub FileSays : Bytes → ℕ → Aid → Bytes → Result ℕ Refusal → Type 0
 FileSays s end d f r = (es : List Entry) → Over s end es → AnswerIs (file_asks s es d f) (deepest_of (store_limits s) es d (read_file (store_limits s) f)) r
 
-abbrev pub LoadSays : Bytes → ℕ → Aid → Bytes → LoadAnswer → Type 0
+abbrev pub LoadSays : Bytes → ℕ → Aid → Bytes → Result ℕ Refusal → Type 0
 LoadSays s end d f r = (es : List Entry) → Over s end es →
     AnswerIs (load_questions (store_opening s) (length s) es d f) (deepest_of (store_limits s) es d (read_file (store_limits s) f)) r
 

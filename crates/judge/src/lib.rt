@@ -14,19 +14,13 @@ ghost use Rattle.homes.specs.Found.{Indexed};
 ghost use Rattle.depths.specs.Depths.{DepthsKept};
 ghost use Rattle.judge.specs.Says.{used_at, HasRoom, LoadSays, DomainsYes, entry_of, PackageThere, EntrySays, PackagesSay};
 
-use contents::inside_number;
+use contents::inside_answer;
 use fields::u2_at;
 use homes::Loaded;
-use questions::{file_answer, parents_answer, running_number};
+use questions::{file_answer, parents_answer, running_answer};
+use refusals::refusal::Refusal;
 use store::subset::keeps_subset;
-use store::{EntryPart, Spot, openings};
-
-// A load: the number of the first no, or the depth of the deepest own class.
-#[derive(Clone, Copy)]
-pub enum LoadAnswer {
-    Refused(u32),
-    Accepted(usize),
-}
+use store::{EntryPart, openings};
 
 // The entry of a package by its places: its start, the file's first byte, its end. The domain's AID stands three bytes behind its start.
 #[derive(Clone, Copy)]
@@ -53,8 +47,8 @@ pub struct Judging {
     pub subset: bool,
 }
 
-// Load, over all entries of a store: 3, 5, 10 to 17, 24, 26, 18 to 21. In a domain's entry the AID stands behind the low byte of its length, two
-// bytes behind the entry's start.
+// Load, over all entries of a store: the first refusal of 3, 5, 10 to 17, 24, 26, 18 to 21, or the depth of the deepest own class. In a
+// domain's entry the AID stands behind the low byte of its length, two bytes behind the entry's start.
 pub fn load_answer<'a>(
     s: &'a [u8],
     domain: &[u8],
@@ -63,25 +57,25 @@ pub fn load_answer<'a>(
     depths: &[u8],
     names: &mut [u16],
     seen: &mut [u8],
-) -> LoadAnswer
+) -> Result<usize, Refusal>
     requires over_some { OverSome s.now (used_at s.now) }
     requires indexed { Indexed s.now (used_at s.now) index.now × DepthsKept s.now (used_at s.now) depths.now }
     requires s_len_bound { (length s.now ≤ 65535) × HasRoom s.now names.old seen.old }
     ensures { LoadSays s.now (used_at s.now) domain.now file.now result }
 {
     if !cursor::length_ok(domain) {
-        return LoadAnswer::Refused(3);
+        return Err(Refusal::AidLength);
     }
     let end = u2_at(s, 5);
     match store::find_domain(s, end, domain) {
-        Spot::At(at, _) => {
+        Some(p) => {
             let loading = LoadingDomain {
-                aid: at + 2,
+                aid: p.at + 2,
                 subset: keeps_subset(s, end, domain),
             };
             file_answer(s, loading, file, index, depths, names, seen)
         }
-        Spot::Nothing => LoadAnswer::Refused(5),
+        None => Err(Refusal::DomainUnknown),
     }
 }
 
@@ -108,29 +102,27 @@ fn package_sound(
     let aid = at + 3;
     let mut own = [0u8; 32];
     let mut places = [0u16; 15];
-    match parents_answer(s, at, g, index, depths, &mut own, &mut places) {
-        LoadAnswer::Refused(_) => false,
-        LoadAnswer::Accepted(_) => {
-            let judged = Judging {
-                end: at as u16,
-                aid: aid as u16,
-                subset: false,
-            };
-            if inside_number(s, judged, g, index, &places, names, seen) != 0 {
-                return false;
-            }
-            depths::table::keep_depths(s, depths, &own, file, next);
-            let loaded = Loaded {
-                end: at,
-                domain: aid,
-            };
-            if running_number(s, loaded, g, index, &places, names, seen) != 0 {
-                return false;
-            }
-            index::enter_package(s, at, file, next, index);
-            true
-        }
-    }
+    let Ok(_) = parents_answer(s, at, g, index, depths, &mut own, &mut places) else {
+        return false;
+    };
+    let judged = Judging {
+        end: at as u16,
+        aid: aid as u16,
+        subset: false,
+    };
+    let Ok(()) = inside_answer(s, judged, g, index, &places, names, seen) else {
+        return false;
+    };
+    depths::table::keep_depths(s, depths, &own, file, next);
+    let loaded = Loaded {
+        end: at,
+        domain: aid,
+    };
+    let Ok(()) = running_answer(s, loaded, g, index, &places, names, seen) else {
+        return false;
+    };
+    index::enter_package(s, at, file, next, index);
+    true
 }
 
 // Would each entry up to a place have been accepted, where questions 3 to 5 of each are answered yes? With tables lent for no entries; those
@@ -150,12 +142,12 @@ pub fn packages_sound(
     ensures index_is_2 { result ≡ true → IndexIs s.now end index.new × DepthsKept s.now end depths.new }
 {
     let mut at = openings::first_entry(s);
-    loop {
-        match store::entry_at(s, at, end) {
-            EntryPart::Domain(_, next) => {
+    while let Some(part) = store::entry_at(s, at, end) {
+        match part {
+            EntryPart::Domain { next, .. } => {
                 at = next;
             }
-            EntryPart::Package(_, file, next) => {
+            EntryPart::Package { file, next, .. } => {
                 let x = PackageEntry {
                     at: at,
                     file: file,
@@ -166,9 +158,7 @@ pub fn packages_sound(
                 }
                 at = next;
             }
-            EntryPart::AtEnd => {
-                return true;
-            }
         }
     }
+    true
 }

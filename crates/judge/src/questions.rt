@@ -3,6 +3,7 @@ ghost use Rattle.std.specs.Prelude.{◌≡◌, true, ℕ, ◌≤◌, length, get
 ghost use Rattle.rules.specs.Bytes.{aid};
 ghost use Rattle.rules.specs.Package.{most_classes};
 ghost use Rattle.rules.specs.Questions.{q10_marked};
+ghost use Rattle.refusals.specs.Refusals.{number_said};
 ghost use Rattle.store.specs.Sound.{OverSome};
 ghost use Rattle.places.specs.Reads.{Ends};
 ghost use Rattle.homes.specs.Homes.{aid_at};
@@ -10,15 +11,15 @@ ghost use Rattle.homes.specs.Found.{places_length, Indexed, ImportPlaces};
 ghost use Rattle.depths.specs.Depths.{DepthsKept};
 ghost use Rattle.judge.specs.Says.{used_at, HasRoom, ReadSome, Asked14Some, NumberFrom, ParentsAnswer, DomainTold, TablesTold, FileSays};
 
-use super::contents::inside_number;
-use super::{Judging, LoadAnswer, LoadingDomain};
-use depths::{Bounds, Parented};
+use super::contents::inside_answer;
+use super::{Judging, LoadingDomain};
+use depths::Bounds;
 use fields::u2_at;
 use homes::{Loaded, Places};
-use reader::Read;
+use refusals::refusal::Refusal;
 use store::openings;
 
-// 12 to 14 of a file that reads: the number of the first no, or the depth of the deepest class; with it the depths of the own classes and the
+// 12 to 14 of a file that reads: the first no, or the depth of the deepest class; with it the depths of the own classes and the
 // places of the imports, in a table that has none before.
 fn package_answer<'a>(
     s: &'a [u8],
@@ -28,7 +29,7 @@ fn package_answer<'a>(
     depths: &[u8],
     own: &mut [u8],
     places: &mut Places,
-) -> LoadAnswer
+) -> Result<usize, Refusal>
     requires over_some { OverSome s.now end × (q10_marked file.now ≡ true) × ReadSome s.now file.now }
     requires indexed { Indexed s.now end index.now × DepthsKept s.now end depths.now × (length s.now ≤ 65535) }
     requires own_len { (length own.old ≡ most_classes) × (length places.old ≡ places_length) × ((k : ℕ) → get_or places.old k 0 ≡ 0) }
@@ -36,10 +37,10 @@ fn package_answer<'a>(
     ensures tables_told { TablesTold s.now end file.now own.new places.new result }
 {
     if !imports::package_new(file, s, end, index) {
-        return LoadAnswer::Refused(12);
+        return Err(Refusal::PackageExists);
     }
     if !imports::imports_there(file, s, end, index, places) {
-        return LoadAnswer::Refused(13);
+        return Err(Refusal::ImportMissing);
     }
     let mut rows = [0u16; 512];
     let limits = openings::limits_of(s);
@@ -48,12 +49,12 @@ fn package_answer<'a>(
         most: limits.depth,
     };
     match depths::parents_ok(file, s, places, &mut rows, depths, own, bounds) {
-        Parented::Yes(depth) => LoadAnswer::Accepted(depth),
-        Parented::No => LoadAnswer::Refused(14),
+        Some(depth) => Ok(depth),
+        None => Err(Refusal::ClassParents),
     }
 }
 
-// 10 to 14 of a file: the number of the first no, or the depth of the deepest class; with it the depths of the own classes and the places of
+// 10 to 14 of a file: the first no, or the depth of the deepest class; with it the depths of the own classes and the places of
 // the imports, in a table that has none before.
 pub fn parents_answer<'a>(
     s: &'a [u8],
@@ -63,22 +64,19 @@ pub fn parents_answer<'a>(
     depths: &[u8],
     own: &mut [u8],
     places: &mut Places,
-) -> LoadAnswer
+) -> Result<usize, Refusal>
     requires over_some { OverSome s.now end }
     requires indexed { Indexed s.now end index.now × DepthsKept s.now end depths.now × (length s.now ≤ 65535) }
     requires own_len { (length own.old ≡ most_classes) × (length places.old ≡ places_length) × ((k : ℕ) → get_or places.old k 0 ≡ 0) }
     ensures parents_answer { ParentsAnswer s.now end file.now result }
     ensures tables_told { TablesTold s.now end file.now own.new places.new result }
 {
-    match reader::read_package(file, openings::limits_of(s)) {
-        Read::Unmarked => LoadAnswer::Refused(10),
-        Read::Unreadable => LoadAnswer::Refused(11),
-        Read::Package(_) => package_answer(s, end, file, index, depths, own, places),
-    }
+    reader::read_package(file, openings::limits_of(s))?;
+    package_answer(s, end, file, index, depths, own, places)
 }
 
-// Load, from 20 on, of a file that passed 14: the number of the first no, or 0.
-pub fn running_number<'a>(
+// Load, from 20 on, of a file that passed 14: the first no.
+pub fn running_answer<'a>(
     s: &'a [u8],
     x: Loaded,
     file: &'a [u8],
@@ -86,21 +84,21 @@ pub fn running_number<'a>(
     places: &Places,
     names: &mut [u16],
     seen: &mut [u8],
-) -> u32
+) -> Result<(), Refusal>
     requires asked14some { Asked14Some s.now x.end (aid_at s.now x.domain) file.now × Ends aid s.now x.domain }
     requires indexed { Indexed s.now x.end index.now × ImportPlaces file.now s.now x.end places.now }
     requires s_len_bound { (length s.now ≤ 65535) × HasRoom s.now names.old seen.old }
-    ensures { NumberFrom 20 s.now x.end (aid_at s.now x.domain) file.now result }
+    ensures { NumberFrom 20 s.now x.end (aid_at s.now x.domain) file.now (number_said result) }
 {
     let end = x.end;
     let domain = x.domain;
     if !running::running_ok(file, s, x, index, places, names, seen) {
-        return 20;
+        return Err(Refusal::RunningPolicy);
     }
     if !store::package_fits(s, end, files::aid_bytes(s, domain), file) {
-        return 21;
+        return Err(Refusal::StoreFull);
     }
-    0
+    Ok(())
 }
 
 // Load, from 10 on, over all entries of a store.
@@ -112,7 +110,7 @@ pub fn file_answer<'a>(
     depths: &[u8],
     names: &mut [u16],
     seen: &mut [u8],
-) -> LoadAnswer
+) -> Result<usize, Refusal>
     requires over_some { OverSome s.now (used_at s.now) × DomainTold s.now (used_at s.now) file.now domain }
     requires indexed { Indexed s.now (used_at s.now) index.now × DepthsKept s.now (used_at s.now) depths.now }
     requires s_len_bound { (length s.now ≤ 65535) × HasRoom s.now names.old seen.old }
@@ -122,24 +120,14 @@ pub fn file_answer<'a>(
     let aid = domain.aid;
     let mut own = [0u8; 32];
     let mut places = [0u16; 15];
-    match parents_answer(s, end, file, index, depths, &mut own, &mut places) {
-        LoadAnswer::Refused(n) => LoadAnswer::Refused(n),
-        LoadAnswer::Accepted(depth) => {
-            let judged = Judging {
-                end: end as u16,
-                aid: aid as u16,
-                subset: domain.subset,
-            };
-            let inside = inside_number(s, judged, file, index, &places, names, seen);
-            if inside != 0 {
-                return LoadAnswer::Refused(inside);
-            }
-            let loaded = Loaded { end, domain: aid };
-            let later = running_number(s, loaded, file, index, &places, names, seen);
-            if later != 0 {
-                return LoadAnswer::Refused(later);
-            }
-            LoadAnswer::Accepted(depth)
-        }
-    }
+    let depth = parents_answer(s, end, file, index, depths, &mut own, &mut places)?;
+    let judged = Judging {
+        end: end as u16,
+        aid: aid as u16,
+        subset: domain.subset,
+    };
+    inside_answer(s, judged, file, index, &places, names, seen)?;
+    let loaded = Loaded { end, domain: aid };
+    running_answer(s, loaded, file, index, &places, names, seen)?;
+    Ok(depth)
 }

@@ -1,5 +1,5 @@
 -- Decoding an argument two characters after two: the laws of the loop. Assumes nothing.
-use Prim.Native.Nat.{ℕ, zero, suc, ◌+◌, ◌*◌, ◌≤◌, ◌<◌}
+use Prim.Native.Nat.{ℕ, ◌+◌, ◌*◌, ◌≤◌, ◌<◌}
 use native.Mathlib.Omega.{arith}
 use native.Mathlib.Numerals.{add-one}
 use mathlib.Core.Path.{◌≡◌, refl, sym, ap, ◌∙◌}
@@ -7,11 +7,10 @@ use mathlib.Core.List.{[], ◌∷◌, ◌++◌, append_assoc, append-nil}
 use mathlib.Core.Option.{Option, none, some}
 use lib.ListN.{length, take, drop, set, length-drop, drop_of_length-le}
 use lib.Seq.{drop-drop, drop-set-add, take-suc-set}
-use borrow.Author.Tests.{ne_eqb}
 use Rattle.rules.specs.Bytes.{Bytes, ◌and_then◌}
 use Rattle.rules.proofs.Tests.{none_some}
 use Rattle.lines.specs.Line.{bytes_of, argument}
-use Rattle.lines.specs.Results.{first_byte, found}
+use Rattle.lines.specs.Results.{first_byte}
 
 -- bytes put in front of those that are there
 abbrev pub joined : Bytes → Option Bytes → Option Bytes
@@ -43,6 +42,11 @@ no_bytes [] h e = absurd (omega arith)
 no_bytes (x ∷ []) h e = refl
 no_bytes (x ∷ y ∷ cs) h e = rw e
 
+-- no characters are no argument
+pub argument_none : (s : Bytes) → length s ≡ 0 → none ≡ argument s
+argument_none [] h = refl
+argument_none (c ∷ cs) h = absurd (omega arith)
+
 -- an argument that is not empty is its bytes
 pub argument_is : (s : Bytes) → 0 < length s → argument s ≡ bytes_of s
 argument_is [] h = absurd (omega arith)
@@ -73,11 +77,8 @@ decode_stop s xs k h e i =
     sym (argument_is s (omega arith) ∙ z)
 
 -- it ends with all decoded
-pub decode_end : (s out : Bytes) (at n : ℕ) → length s ≤ 2 * n → 2 * n ≤ length s → bytes_of s ≡ joined (take n (drop at out)) (bytes_of (drop (2 * n) s))
-    → found n at out ≡ argument s
-decode_end [] out at zero h k i = refl
-decode_end (c ∷ cs) out at zero h k i = absurd (omega arith)
-decode_end [] out at (suc n) h k i = absurd (omega arith)
-decode_end (c ∷ cs) out at (suc n) h k i =
-    let z : drop (2 * suc n) (c ∷ cs) ≡ [] = drop_of_length-le (c ∷ cs) {i = 2 * suc n} h in
-    rw (ne_eqb (suc n) 0 (λ (e : suc n ≡ 0). omega arith)) (sym (i ∙ rw (z, append-nil (take (suc n) (drop at out)))))
+pub decode_end : (s out : Bytes) (at n : ℕ) → 0 < length s → length s ≤ 2 * n → bytes_of s ≡ joined (take n (drop at out)) (bytes_of (drop (2 * n) s))
+    → some (take n (drop at out)) ≡ argument s
+decode_end s out at n p h i =
+    let z : drop (2 * n) s ≡ [] = drop_of_length-le s {i = 2 * n} h in
+    sym (argument_is s p ∙ i ∙ rw (z, append-nil (take n (drop at out))))

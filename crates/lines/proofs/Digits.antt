@@ -1,46 +1,36 @@
 -- Digits and bytes of two digits: the definitions by the tests that the code makes. Assumes nothing.
-use Prim.Native.Nat.{ℕ, suc, ◌+◌, ◌-◌, ◌*◌, ◌≤◌, ◌<◌}
+use Prim.Native.Nat.{ℕ, suc, ◌+◌, ◌-◌, ◌*◌, ◌<◌}
 use native.Mathlib.Omega.{arith}
 use native.Mathlib.Numerals.{add-one}
-use mathlib.Core.Path.{◌≡◌, sym, ◌∙◌}
-use mathlib.Core.Option.{Option, none, some}
+use mathlib.Core.Path.{◌≡◌, refl, sym}
+use mathlib.Core.Bool.{Bool, true, false, ◌&&◌}
+use mathlib.Core.Option.{none, some, some-injective}
+use lib.Dec.{leb}
 use lib.ListN.{length, drop, get_or, drop_of_length-le}
 use lib.Seq.{drop-cons}
-use borrow.Author.Tests.{lt-ltb, le-ltb, le-leb, lt-leb}
-use Rattle.rules.specs.Bytes.{Bytes}
+use borrow.Author.Tests.{leb-true}
+use Rattle.rules.specs.Bytes.{Bytes, pick}
+use Rattle.rules.proofs.Tests.{none_some}
 use Rattle.lines.specs.Line.{digit, byte_of}
-use Rattle.lines.specs.Results.{if_below, first_byte}
+use Rattle.lines.specs.Results.{first_byte}
 
--- a character below 0, between 9 and A, or above F is no digit
-pub digit_under : (c : ℕ) → c < 48 → none ≡ digit c
+-- a digit is below 16
+pub digit_small : (c n : ℕ) → some n ≡ digit c → n < 16
 unfolding digit
-digit_under c h = rw (lt-leb 48 c h, lt-leb 65 c (omega arith))
-
-pub digit_between : (c : ℕ) → 57 < c → c < 65 → none ≡ digit c
-unfolding digit
-digit_between c h k = rw (le-leb 48 c (omega arith), lt-leb c 57 h, lt-leb 65 c k)
-
-pub digit_over : (c : ℕ) → 70 < c → none ≡ digit c
-unfolding digit
-digit_over c h = rw (le-leb 48 c (omega arith), lt-leb c 57 (omega arith), le-leb 65 c (omega arith), lt-leb c 70 h)
-
--- 0 to 9
-pub digit_figure : (c : ℕ) → 48 ≤ c → c ≤ 57 → if_below 16 (c - 48) ≡ digit c
-unfolding digit
-digit_figure c h k = rw (le-leb 48 c h, le-leb c 57 k, lt-ltb (c - 48) 16 (omega arith))
-
--- A to F
-pub digit_capital : (c : ℕ) → 65 ≤ c → c ≤ 70 → if_below 16 (c - 65 + 10) ≡ digit c
-unfolding digit
-digit_capital c h k =
-    rw (le-leb 48 c (omega arith), lt-leb c 57 (omega arith), le-leb 65 c h, le-leb c 70 k, lt-ltb (c - 65 + 10) 16 (omega arith))
-
--- a number at the limit says none, one below it is the value
-pub limit_none : (k n : ℕ) {o : Option ℕ} → if_below k n ≡ o → k ≤ n → o ≡ none
-limit_none k n e h = sym e ∙ rw (le-ltb n k h)
-
-pub limit_some : (k n : ℕ) {o : Option ℕ} → if_below k n ≡ o → n < k → o ≡ some n
-limit_some k n e h = sym e ∙ rw (lt-ltb n k h)
+digit_small c n e = go (leb 48 c) refl (leb c 57) refl (leb 65 c) refl (leb c 70) refl e
+  where
+    go : (b₁ : Bool) → leb 48 c ≡ b₁ → (b₂ : Bool) → leb c 57 ≡ b₂ → (b₃ : Bool) → leb 65 c ≡ b₃ → (b₄ : Bool) → leb c 70 ≡ b₄ →
+        some n ≡ pick (b₁ && b₂) (some (c - 48)) (pick (b₃ && b₄) (some (c - 65 + 10)) none) → n < 16
+    go true h₁ true h₂ b₃ h₃ b₄ h₄ q =
+        let z : n ≡ c - 48 = some-injective _ _ q in omega (arith, leb-true c 57 h₂)
+    go false h₁ b₂ h₂ true h₃ true h₄ q =
+        let z : n ≡ c - 65 + 10 = some-injective _ _ q in omega (arith, leb-true c 70 h₄)
+    go true h₁ false h₂ true h₃ true h₄ q =
+        let z : n ≡ c - 65 + 10 = some-injective _ _ q in omega (arith, leb-true c 70 h₄)
+    go true h₁ false h₂ false h₃ b₄ h₄ q = absurd (none_some (sym q))
+    go true h₁ false h₂ true h₃ false h₄ q = absurd (none_some (sym q))
+    go false h₁ b₂ h₂ false h₃ b₄ h₄ q = absurd (none_some (sym q))
+    go false h₁ b₂ h₂ true h₃ false h₄ q = absurd (none_some (sym q))
 
 -- a single character is no byte
 pub first_odd : (s : Bytes) (i : ℕ) → i < length s → i + 1 ≡ length s → none ≡ first_byte (drop i s)
@@ -52,13 +42,12 @@ module _ (s : Bytes) (i : ℕ) (h : i + 1 < length s) where
   first_two = rw (drop-cons s i 0 (omega arith), drop-cons s (suc i) 0 (omega arith), add-one)
 
   -- no digit, no byte
-  pub no_high : (x : ℕ) → if_below 16 x ≡ digit (get_or s i 0) → 16 ≤ x → none ≡ first_byte (drop i s)
-  no_high x e k = rw (first_two, limit_none 16 x e k)
+  pub no_high : none ≡ digit (get_or s i 0) → none ≡ first_byte (drop i s)
+  no_high e = rw (first_two, ← e)
 
-  pub no_low : (x y : ℕ) → if_below 16 x ≡ digit (get_or s i 0) → x < 16 → if_below 16 y ≡ digit (get_or s (i + 1) 0) → 16 ≤ y → none ≡ first_byte (drop i s)
-  no_low x y e k f m = rw (first_two, limit_some 16 x e k, limit_none 16 y f m)
+  pub no_low : (x : ℕ) → some x ≡ digit (get_or s i 0) → none ≡ digit (get_or s (i + 1) 0) → none ≡ first_byte (drop i s)
+  no_low x e f = rw (first_two, ← e, ← f)
 
   -- two digits, the high one first
-  pub two_digits : (x y : ℕ) → if_below 16 x ≡ digit (get_or s i 0) → x < 16 → if_below 16 y ≡ digit (get_or s (i + 1) 0) → y < 16 → if_below 256 (x * 16 + y) ≡
-      first_byte (drop i s)
-  two_digits x y e k f m = rw (first_two, limit_some 16 x e k, limit_some 16 y f m, lt-ltb (x * 16 + y) 256 (omega arith))
+  pub two_digits : (x y : ℕ) → some x ≡ digit (get_or s i 0) → some y ≡ digit (get_or s (i + 1) 0) → some (x * 16 + y) ≡ first_byte (drop i s)
+  two_digits x y e f = rw (first_two, ← e, ← f)

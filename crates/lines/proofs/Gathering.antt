@@ -1,13 +1,12 @@
 -- Gathering a line from chunks: what is kept of it. Assumes nothing.
 use Prim.Native.Nat.{ℕ, ◌+◌, ◌-◌, ◌≤◌, ◌<◌, min}
 use native.Mathlib.Omega.{arith}
-use native.Mathlib.Numerals.{add-one}
 use mathlib.Core.Path.{◌≡◌, refl, sym, ap, ◌∙◌}
 use mathlib.Core.Bool.{Bool, true, false}
 use mathlib.Core.List.{◌++◌}
 use lib.Dec.{leb}
-use lib.ListN.{length, take, drop, set, get_or, length-take, length-drop}
-use lib.Seq.{paste, take-paste, take-append-add, length-take-le, take_all, take-take, paste-suc, get_or-drop}
+use lib.ListN.{length, take, length-take}
+use lib.Seq.{paste, take-paste, take-append-add, length-take-le, take_all, take-take}
 use borrow.Author.Tests.{leb-true, leb-false}
 use Rattle.rules.specs.Bytes.{Bytes}
 use Rattle.lines.specs.Line.{before, newline, kept, most_kept}
@@ -28,7 +27,7 @@ take_least w m x = go (leb w m) refl
 
 -- the characters held and those gathered, as many as are kept
 pub gathered : (line x : Bytes) (held n : ℕ) → held ≤ most_kept → most_kept ≤ length line → n ≡ min (length (before newline x)) (most_kept - held)
-    → take (held + n) (paste line held x n) ≡ kept (take held line ++ before newline x)
+    → take (held + n) (paste line held (take n x) n) ≡ kept (take held line ++ before newline x)
 unfolding kept
 gathered line x held n h k e =
     let w : ℕ = length (before newline x) in
@@ -38,13 +37,8 @@ gathered line x held n h k e =
     let q : take n x ≡ take (most_kept - held) (before newline x) =
     ap (λ (i : ℕ). take i x) e ∙ take_least (length (before newline x)) (most_kept - held) x
     ∙ ap (take (most_kept - held)) (sym (before_take newline x)) in
-    take-paste line held x n (omega arith) (omega arith)
-    ∙ ap (λ (y : Bytes). take held line ++ y) q
+    let short : n ≤ length (take n x) = omega (arith, length-take n x) in
+    take-paste line held (take n x) n (omega arith) short
+    ∙ ap (λ (y : Bytes). take held line ++ y) (take-take n n x (omega arith) ∙ q)
     ∙ sym (take-append-add (take held line) (before newline x) (most_kept - held))
     ∙ ap (λ (i : ℕ). take i (take held line ++ before newline x)) (sym p)
-
--- one byte more is copied
-pub copy_step : (line₀ line chunk : Bytes) (to from i : ℕ) → to + i < length line₀ → from + i < length chunk → line ≡ paste line₀ to (drop from chunk) i
-    → set line (to + i) (get_or chunk (from + i) 0) ≡ paste line₀ to (drop from chunk) (i + 1)
-copy_step line₀ line chunk to from i h k e =
-    rw (e, add-one, ← get_or-drop from chunk i 0) (paste-suc line₀ to (drop from chunk) i 0 h (rw (length-drop from chunk) (omega arith)))

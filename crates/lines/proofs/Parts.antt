@@ -1,13 +1,11 @@
 -- The characters before the first of a kind, and the parts between them. Assumes nothing.
 use Prim.Native.Nat.{ℕ, suc, ◌+◌, ◌≤◌, ◌<◌}
 use native.Mathlib.Omega.{arith}
-use native.Mathlib.Numerals.{add-one}
 use mathlib.Core.Path.{◌≡◌, refl, ap}
 use mathlib.Core.Bool.{Bool, true, false}
 use mathlib.Core.List.{List, [], ◌∷◌}
 use lib.Dec.{eqb}
-use lib.ListN.{length, take, drop, get_or, drop_of_length-le}
-use lib.Seq.{drop-cons}
+use lib.ListN.{length, take, drop}
 use borrow.Author.Tests.{eq-eqb, ne_eqb}
 use Rattle.rules.specs.Bytes.{Bytes, pick}
 use Rattle.lines.specs.Line.{before, parts, on_first}
@@ -61,15 +59,10 @@ before_take b (c ∷ cs) = go (eqb c b) (before_take b cs)
     go true rec = refl
     go false rec = ap (λ (x : Bytes). c ∷ x) rec
 
--- a character that is not b adds one
-pub before_step : (b : ℕ) (s : Bytes) (i : ℕ) → i < length s → (get_or s i 0 ≡ b → ⊥) → i + length (before b (drop i s)) ≡ i + 1 + length
-    (before b (drop (i + 1) s))
-before_step b s i h e = rw (add-one, drop-cons s i 0, ne_eqb (get_or s i 0) b e) (omega arith)
-
 -- a b ends them
-pub before_stop : (b : ℕ) (s : Bytes) (i : ℕ) → i < length s → get_or s i 0 ≡ b → i + length (before b (drop i s)) ≡ i
-before_stop b s i h e = rw (drop-cons s i 0, eq-eqb (get_or s i 0) b e) (omega arith)
+pub before_stop : (b c : ℕ) (cs : Bytes) → c ≡ b → length (before b (c ∷ cs)) ≡ 0
+before_stop b c cs e = rw (eq-eqb c b e)
 
--- so does the end
-pub before_end : (b : ℕ) (s : Bytes) (i : ℕ) → length s ≤ i → i + length (before b (drop i s)) ≡ i
-before_end b s i h = rw (drop_of_length-le s {i = i} h) (omega arith)
+-- a character that is not b adds one
+pub before_step : (b c : ℕ) (cs : Bytes) → (c ≡ b → ⊥) → length (before b (c ∷ cs)) ≡ length (before b cs) + 1
+before_step b c cs e = rw (ne_eqb c b e) (omega arith)

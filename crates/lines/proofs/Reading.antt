@@ -9,24 +9,16 @@ use mathlib.Core.Option.{Option, none, some}
 use lib.Dec.{eqb, leb}
 use lib.ListN.{length, take, drop, get_or, length-drop}
 use lib.Seq.{get_or-take, take_all}
-use borrow.Author.Tests.{eq-eqb, ne_eqb, eqb-true, leb-true, leb-false, le-leb, lt-leb}
+use borrow.Author.Tests.{ne_eqb, eqb-true, leb-true, leb-false, le-leb, lt-leb}
 use Rattle.rules.specs.Bytes.{Bytes, pick, ◌and_then◌}
 use Rattle.rules.specs.Operations.{load}
 use Rattle.lines.specs.Line.{space, longest, before, parts, digit, byte_of, bytes_of, argument, with_one, with_two, letter_and, letter, form_of, line_of}
-use Rattle.lines.specs.Results.{found}
 use Rattle.lines.proofs.Parts.{before_bound, before_take, parts_whole, parts_next, parts_first}
 
 -- nothing comes of a step that never gives a value
 pub never : {A B : Type 0} (o : Option A) (f : A → Option B) → ((a : A) → f a ≡ none) → (o and_then f) ≡ none
 never none f h = refl
 never (some a) f h = h a
-
--- a result of 0 bytes says that there is no argument
-pub found_none : (n at : ℕ) (out : Bytes) {o : Option Bytes} → found n at out ≡ o → n ≡ 0 → o ≡ none
-found_none n at out e h = sym e ∙ rw (eq-eqb n 0 h)
-
-pub found_some : (n at : ℕ) (out : Bytes) {o : Option Bytes} → found n at out ≡ o → (n ≡ 0 → ⊥) → o ≡ some (take n (drop at out))
-found_some n at out e h = sym e ∙ rw (ne_eqb n 0 h)
 
 -- a space is no digit
 space_digit : digit space ≡ none

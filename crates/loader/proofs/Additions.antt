@@ -19,7 +19,10 @@ use Rattle.store.specs.Sound.{SoundAt, Asked}
 use Rattle.writing.specs.Changes.{Room, Appended}
 use Rattle.store.proofs.Asked.{size_is}
 use Rattle.judge.specs.Says.{LoadSays}
-use Rattle.judge.specs.declared.LoadAnswer.TheVariants.{Accepted}
+use Rattle.std.specs.Prelude.{Ok}
+use Rattle.refusals.specs.declared.refusal.Refusal.{Refusal}
+use Rattle.refusals.specs.Refusals.{number_of}
+use Rattle.refusals.proofs.Numbers.{some_number}
 use Rattle.loader.specs.Promises.{LoadPromise}
 use Rattle.store.proofs.Sound.{sound_store, laid, small, asked_number, asked_done, refused_after}
 
@@ -46,11 +49,10 @@ fresh_limits_lem s t l true h q e = (rw (h, ← q), e ∙ rw (h, ← q))
 fresh_limits_lem s t l false h q e = (rw (h, ← q), e ∙ rw (h, ← q))
 
 -- a load's refusal
-pub refused_promise : (s : Bytes) (d : Aid) (f : Bytes) (n : ℕ) → (n ≡ 0 → ⊥) → n ≡ number s (load d f) → LoadPromise s d f n
-refused_promise s d f n z e = omega (arith, e, figure_refused s d f (λ y. z (e ∙ y)))
-
-pub load_refused : (s : Bytes) (d : Aid) (f : Bytes) (n : ℕ) → (n ≡ 0 → ⊥) × (n ≡ number s (load d f)) → LoadPromise s d f n × (s ≡ after s (load d f))
-load_refused s d f n p = (refused_promise s d f n p.0 p.1, refused_after s (load d f) n p.0 p.1)
+pub load_refused : (s : Bytes) (d : Aid) (f : Bytes) (g : Refusal) → number_of g ≡ number s (load d f) → LoadPromise s d f (number_of g) × (s ≡ after s (load d f))
+load_refused s d f g e =
+    let z : number_of g ≡ 0 → ⊥ = λ y. omega (arith, some_number g, y) in
+    (omega (arith, e, figure_refused s d f (λ y. z (e ∙ y))), refused_after s (load d f) (number_of g) z e)
 
 module _ (s : Bytes) (u : ℕ) (h : SoundAt s u) where
   -- a creation with all questions yes
@@ -59,7 +61,7 @@ module _ (s : Bytes) (u : ℕ) (h : SoundAt s u) where
       let x = sound_store s u h in
       record { laid = laid s u h; small = small s u h; fits = is_true _ (create_yes (store_opening s) (length s) x.es k a (sym (q x.es x.over))).q21 }
 
-  module _ (d : Aid) (f : Bytes) (depth : ℕ) (q : LoadSays s u d f (Accepted depth)) where
+  module _ (d : Aid) (f : Bytes) (depth : ℕ) (q : LoadSays s u d f (Ok depth)) where
     -- all questions are answered yes
     load_asked : Asked s u (load d f) 0
     load_asked es o = (q es o).number

@@ -4,49 +4,10 @@ use native.Mathlib.Omega.{arith}
 use mathlib.Core.Path.{◌≡◌, refl, sym, ◌∙◌}
 use mathlib.Core.List.{List}
 use mathlib.Core.Logic.{◌⊎◌, inl, inr, ⊎_elim}
-use lib.ListN.{length, get_or, set, length-set}
-use lib.Seq.{get_or-set_same, get_or-set_other}
+use lib.ListN.{length, get_or}
 use Rattle.rules.specs.Bytes.{Bytes}
 use Rattle.methods.specs.Table.{name_at, Named, Has, Nameless, Sorted, Lower, Opened, Entered}
 use Rattle.methods.proofs.Search.{less_or, equal_or, none_over, none_here}
-
--- the numbers from k + 1 up to e have been moved up
-pub record Moved (l m : List ℕ) (e r k : ℕ) : Type 0 where
-  pub size : length m ≡ length l
-  pub top : k ≤ e
-  pub bottom : r ≤ k
-  pub low : (j : ℕ) → j < k → get_or m j 0 ≡ get_or l j 0
-  pub high : (j : ℕ) → k < j → j ≤ e → get_or m j 0 ≡ get_or l (j - 1) 0
-
-module _ (l : List ℕ) (e r : ℕ) (room : e < length l) where
-  pub moved_start : r ≤ e → Moved l l e r e
-  moved_start h = record { size = refl; top = omega arith; bottom = h; low = λ j g. refl; high = λ j g f. absurd (omega arith) }
-
-  module _ (m : List ℕ) (k : ℕ) (v : Moved l m e r k) where
-    pub moved_step : r < k → Moved l (set m k (get_or m (k - 1) 0)) e r (k - 1)
-    moved_step h = record {
-      size = length-set m k _ ∙ v.size;
-      top = omega (arith, v.top);
-      bottom = omega arith;
-      low = λ j g. get_or-set_other m k j _ 0 (λ z. omega arith) ∙ v.low j (omega arith);
-      high = λ j g f. ⊎_elim (at j) (past j g f) (equal_or j k);
-    }
-      where
-        at : (j : ℕ) → j ≡ k → get_or (set m k (get_or m (k - 1) 0)) j 0 ≡ get_or l (j - 1) 0
-        at j z = rw z (get_or-set_same m k _ 0 (omega (arith, v.size, v.top)) ∙ v.low (k - 1) (omega arith))
-
-        past : (j : ℕ) → k - 1 < j → j ≤ e → (j ≡ k → ⊥) → get_or (set m k (get_or m (k - 1) 0)) j 0 ≡ get_or l (j - 1) 0
-        past j g f z = get_or-set_other m k j _ 0 z ∙ v.high j (omega (arith, z)) f
-
-    pub moved_end : (p : ℕ) → k ≤ r → Opened l (set m k p) e r p
-    moved_end p h =
-        let z : k ≡ r = omega (arith, v.bottom) in
-        record {
-          size = length-set m k p ∙ v.size;
-          low = λ j g. get_or-set_other m k j p 0 (λ y. omega arith) ∙ v.low j (omega arith);
-          new = rw z (get_or-set_same m r p 0 (omega (arith, v.size, v.top)));
-          high = λ j g f. get_or-set_other m k j p 0 (λ y. omega arith) ∙ v.high j (omega arith) f;
-        }
 
 module _ (t : Bytes) (l : List ℕ) (a e p : ℕ) (sorted : Sorted t l a e) where
   -- a method of the name is there

@@ -1,5 +1,5 @@
 -- Finding a name in a table of methods sorted by name. Assumes nothing.
-use Prim.Native.Nat.{ℕ, ◌+◌, ◌<◌, ◌≤◌}
+use Prim.Native.Nat.{ℕ, ◌-◌, ◌<◌, ◌≤◌}
 use native.Mathlib.Omega.{arith}
 use mathlib.Core.Path.{◌≡◌, refl}
 use mathlib.Core.List.{List}
@@ -9,7 +9,7 @@ use lib.Dec.{ltb, eqb}
 use lib.ListN.{get_or}
 use borrow.Author.Tests.{ltb-true, ltb-false, eqb-true, eqb-false}
 use Rattle.rules.specs.Bytes.{Bytes}
-use Rattle.methods.specs.Table.{name_at, Named, Nameless, Sorted, Lower, Found}
+use Rattle.methods.specs.Table.{name_at, Named, Nameless, Sorted, Lower}
 
 pub less_or : (a b : ℕ) → (a < b) ⊎ (b ≤ a)
 less_or a b = go (ltb a b) refl
@@ -25,63 +25,27 @@ equal_or a b = go (eqb a b) refl
     go true e = inl (eqb-true a b e)
     go false e = inr (eqb-false a b e)
 
--- the search by halves: what is known below lo and from hi on
-pub record Between (t : Bytes) (l : List ℕ) (a e x lo hi : ℕ) : Type 0 where
-  pub start : a ≤ lo
-  pub low : lo ≤ hi
-  pub high : hi ≤ e
-  pub under : (k : ℕ) → a ≤ k → k < lo → name_at t (get_or l k 0) < x
-  pub over : (k : ℕ) → hi ≤ k → k < e → x ≤ name_at t (get_or l k 0)
-
 module _ (t : Bytes) (l : List ℕ) (a e x : ℕ) (sorted : Sorted t l a e) where
-  pub between_start : Between t l a e x a e
-  between_start = record {
-    start = omega arith;
-    low = sorted.low;
-    high = omega arith;
-    under = λ k h g. absurd (omega arith);
-    over = λ k h g. absurd
-        (omega arith);
-  }
-
-  pub between_up : (lo hi m : ℕ) → Between t l a e x lo hi → lo ≤ m → m < hi → name_at t (get_or l m 0) < x → Between t l a e x (m + 1) hi
-  between_up lo hi m b h g less = record {
-    start = omega (arith, b.start);
-    low = omega arith;
-    high = b.high;
-    under = λ k u v. ⊎_elim (λ w. below k u w) (λ w. here k w v) (less_or k m);
-    over = b.over;
+  -- the name right before r is smaller than x, and the one at r is not
+  pub lower_parted : (r : ℕ) → a ≤ r → r ≤ e → (a < r → name_at t (get_or l (r - 1) 0) < x) → (r < e → x ≤ name_at t (get_or l r 0)) → Lower t l a e x r
+  lower_parted r low high before there = record {
+    low = low;
+    high = high;
+    under = λ k u v. ⊎_elim (λ w. below k u v w) (λ w. last k u v w) (less_or k (r - 1));
+    over = λ k u v. ⊎_elim (λ w. above k v w) (λ w. first k u v w) (less_or r k);
   }
     where
-      below : (k : ℕ) → a ≤ k → k < m → name_at t (get_or l k 0) < x
-      below k u w = let o = sorted.order k m u w (omega (arith, b.high)) in omega (arith, o, less)
+      below : (k : ℕ) → a ≤ k → k < r → k < r - 1 → name_at t (get_or l k 0) < x
+      below k u v w = let o = sorted.order k (r - 1) u w (omega arith) in omega (arith, o, before (omega arith))
 
-      here : (k : ℕ) → m ≤ k → k < m + 1 → name_at t (get_or l k 0) < x
-      here k w v = let same : k ≡ m = omega arith in rw same less
+      last : (k : ℕ) → a ≤ k → k < r → r - 1 ≤ k → name_at t (get_or l k 0) < x
+      last k u v w = let same : k ≡ r - 1 = omega arith in rw same (before (omega arith))
 
-  pub between_down : (lo hi m : ℕ) → Between t l a e x lo hi → lo ≤ m → m < hi → x ≤ name_at t (get_or l m 0) → Between t l a e x lo m
-  between_down lo hi m b h g more = record {
-    start = b.start;
-    low = h;
-    high = omega (arith, b.high);
-    under = b.under;
-    over = λ k u v. ⊎_elim (λ w. above k w v) (λ w. here k u w) (less_or m k);
-  }
-    where
-      above : (k : ℕ) → m < k → k < e → x ≤ name_at t (get_or l k 0)
-      above k w v = let o = sorted.order m k (omega (arith, b.start)) w v in omega (arith, o, more)
+      above : (k : ℕ) → k < e → r < k → x ≤ name_at t (get_or l k 0)
+      above k v w = let o = sorted.order r k low w v in omega (arith, o, there (omega arith))
 
-      here : (k : ℕ) → m ≤ k → k ≤ m → x ≤ name_at t (get_or l k 0)
-      here k u w = let same : k ≡ m = omega arith in rw same more
-
-  pub between_end : (lo hi : ℕ) → Between t l a e x lo hi → hi ≤ lo → Lower t l a e x lo
-  between_end lo hi b h = record {
-    low = b.start;
-    high = omega (arith, b.low, b.high);
-    under = b.under;
-    over = λ k u v. b.over k
-        (omega (arith, b.low)) v;
-  }
+      first : (k : ℕ) → r ≤ k → k < e → k ≤ r → x ≤ name_at t (get_or l k 0)
+      first k u v w = let same : k ≡ r = omega arith in rw same (there (omega arith))
 
   -- finding
   module _ (r : ℕ) (w : Lower t l a e x r) where
@@ -105,12 +69,6 @@ module _ (t : Bytes) (l : List ℕ) (a e x : ℕ) (sorted : Sorted t l a e) wher
 
         go : (k : ℕ) → a ≤ k → k < e → name_at t (get_or l k 0) ≡ x → ⊥
         go k g v y = ⊎_elim (λ o. under_not k g o y) (λ o. from k o v y) (less_or k r)
-
-    pub found_none : Nameless t l a e x → Found t l a e x e
-    found_none n = record { low = sorted.low; high = omega arith; there = λ g. absurd (omega arith); missing = λ g. n }
-
-    pub found_here : r < e → name_at t (get_or l r 0) ≡ x → Found t l a e x r
-    found_here h z = record { low = w.low; high = w.high; there = λ g. z; missing = λ g. absurd (omega arith) }
 
 -- the code's terms
 pub named_of : (t : Bytes) (l : List ℕ) (a e k q : ℕ) → Sorted t l a e → a ≤ k → k < e → q ≡ get_or l k 0 → Named t q

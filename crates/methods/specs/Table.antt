@@ -5,10 +5,12 @@
 -- Nameless t l a e x   == none of these is the place of a method of name x
 -- Sorted t l a e       == they are places of methods, each name greater than the one before
 -- Lower t l a e x r    == the names before r are smaller than x, and none from r on is
--- Found t l a e x r    == the method at number r has name x; where r is e none has
+-- Standing t l a e x r == the method at number r, from a up to e, has name x
+-- Found t l a e x r    == it is a number where the method has name x, or none has
 -- Opened l m a e r p   == m is l with p put at r, and the numbers from r up to e moved one up
 -- Entered t l m a e p r == m is l with p entered, where no method of its name was there; the numbers then end at r
-use Rattle.std.specs.Prelude.{ℕ, ◌+◌, ◌-◌, ◌<◌, ◌≤◌, ◌≡◌, List, ◌⊎◌, length, get_or}
+use Rattle.std.specs.Prelude.{ℕ, ◌+◌, ◌-◌, ◌<◌, ◌≤◌, ◌≡◌, List, ◌⊎◌, length, get_or, Some, None}
+use Rattle.std.specs.Prelude.{Option as Optional}
 use Rattle.rules.specs.Bytes.{Bytes}
 use Rattle.rules.specs.Code.{u2_at}
 
@@ -36,11 +38,14 @@ pub record Lower (t : Bytes) (l : List ℕ) (a e x r : ℕ) : Type 0 where
   pub under : (k : ℕ) → a ≤ k → k < r → name_at t (get_or l k 0) < x
   pub over : (k : ℕ) → r ≤ k → k < e → x ≤ name_at t (get_or l k 0)
 
-pub record Found (t : Bytes) (l : List ℕ) (a e x r : ℕ) : Type 0 where
+pub record Standing (t : Bytes) (l : List ℕ) (a e x r : ℕ) : Type 0 where
   pub low : a ≤ r
-  pub high : r ≤ e
-  pub there : r < e → name_at t (get_or l r 0) ≡ x
-  pub missing : r ≡ e → Nameless t l a e x
+  pub high : r < e
+  pub named : name_at t (get_or l r 0) ≡ x
+
+abbrev pub Found : Bytes → List ℕ → ℕ → ℕ → ℕ → Optional ℕ → Type 0
+Found t l a e x (Some r) = Standing t l a e x r
+Found t l a e x None = Nameless t l a e x
 
 pub record Opened (l m : List ℕ) (e r p : ℕ) : Type 0 where
   pub size : length m ≡ length l

@@ -5,13 +5,7 @@ ghost use Rattle.std.specs.Prelude.{◌≡◌, ◌<◌, ◌≤◌, length};
 ghost use Rattle.methods.specs.Table.{name_at, Named, Sorted, Lower, Found, Opened, Entered};
 
 use fields::u2_at;
-
-// A place as a number.
-fn place(x: u16) -> usize
-    ensures { result ≡ x }
-{
-    x as usize
-}
+use halving::partition_point;
 
 // The name of the method at a place.
 pub fn name_at(t: &[u8], p: usize) -> usize
@@ -26,32 +20,22 @@ fn lower(t: &[u8], places: &[u16], a: usize, e: usize, name: usize) -> usize
     requires { Sorted t.now places.now a e }
     ensures { Lower t.now places.now a e name result }
 {
-    let mut lo = a;
-    let mut hi = e;
-    while lo < hi {
-        let mid = lo + (hi - lo) / 2;
-        if name_at(t, place(places[mid])) < name {
-            lo = mid + 1;
-        } else {
-            hi = mid;
-        }
-    }
-    lo
+    partition_point(a, e, |k| name_at(t, usize::from(places[k])) < name)
 }
 
-// Where the method of a name stands among the numbers from a up to e, or e for nowhere.
-pub fn find(t: &[u8], places: &[u16], a: usize, e: usize, name: usize) -> usize
+// Where the method of a name stands among the numbers from a up to e.
+pub fn find(t: &[u8], places: &[u16], a: usize, e: usize, name: usize) -> Option<usize>
     requires { Sorted t.now places.now a e }
     ensures { Found t.now places.now a e name result }
 {
     let r = lower(t, places, a, e, name);
     if e <= r {
-        return e;
+        return None;
     }
-    if name_at(t, place(places[r])) != name {
-        return e;
+    if name_at(t, usize::from(places[r])) != name {
+        return None;
     }
-    r
+    Some(r)
 }
 
 // Moves the numbers from r up to e one up, and puts p at r.
@@ -59,12 +43,8 @@ fn open_at(places: &mut [u16], e: usize, r: usize, p: usize)
     requires { (r ≤ e) × (e < length places.old) × (p ≤ 65535) }
     ensures { Opened places.old places.new e r p }
 {
-    let mut k = e;
-    while r < k {
-        places[k] = places[k - 1];
-        k -= 1;
-    }
-    places[k] = p as u16;
+    places.copy_within(r..e, r + 1);
+    places[r] = p as u16;
 }
 
 // Enters the method at place p among the numbers from a up to e, unless one of its name is there. Where they end then.
@@ -79,7 +59,7 @@ pub fn enter(t: &[u8], places: &mut [u16], a: usize, e: usize, p: usize) -> usiz
         open_at(places, e, r, p);
         return e + 1;
     }
-    if name_at(t, place(places[r])) == name {
+    if name_at(t, usize::from(places[r])) == name {
         return e;
     }
     open_at(places, e, r, p);

@@ -1,4 +1,6 @@
 -- A file's classes walked from a place on, and what a row tells of them. Assumes nothing.
+use Rattle.std.specs.Prelude.{ℕ, Some, None}
+use Rattle.std.specs.Prelude.{Option as Optional}
 use Prim.Native.Nat.{ℕ, zero, suc, ◌+◌, ◌-◌, ◌≤◌, ◌<◌}
 use native.Mathlib.Omega.{arith}
 use mathlib.Core.Path.{◌≡◌, refl, sym, ◌∙◌}
@@ -19,8 +21,6 @@ use Rattle.places.proofs.Inverse.{reads_same, reads_counted, reads_u1, reads_lef
 use Rattle.places.proofs.Parts.{class_part, file_parts}
 use Rattle.places.proofs.Track.{put, put_none, many_length, counted_inside}
 use Rattle.files.specs.Say.{Readable, ClassThere, AfterClass, ClassesAt, ClassPlaced}
-use Rattle.files.specs.declared.Spot.{Spot}
-use Rattle.files.specs.declared.Spot.TheVariants.{At, Nothing}
 use Rattle.files.proofs.Walks.{classes_read}
 use Rattle.named.specs.Named.{Stands, first, next, ClassesFrom, ClassFrom, ClassStands, RowTrue, Beside}
 
@@ -91,7 +91,7 @@ module _ (g : Bytes) (c i : ℕ) where
   pub from_there : ClassFrom g c i → Readable g → ClassThere g i
   from_there h r = let z = from_front h r.0 r.1 r.2 in (r.0, r.1.domains, (z.one, z.end, z.reads))
 
-  pub from_placed : ClassFrom g c i → ClassPlaced g c (At i)
+  pub from_placed : ClassFrom g c i → ClassPlaced g c (Some i)
   from_placed h l p e = let z = from_front h l p e in put z.is z.reads
 
   pub from_next : (d : ℕ) → Readable g → ClassFrom g c i → AfterClass g i d → ClassesFrom g (c + 1) d
@@ -102,7 +102,7 @@ module _ (g : Bytes) (c i : ℕ) where
       left l p e = let z = from_front h l p e in let q = a l p.domains z.one z.end z.reads in rw q z.rest
 
   -- at the file's end there is no class more
-  pub from_end : ClassesFrom g c i → length g ≤ i → (k : ℕ) → c ≤ k → ClassPlaced g k Nothing
+  pub from_end : ClassesFrom g c i → length g ≤ i → (k : ℕ) → c ≤ k → ClassPlaced g k None
   from_end h le k ck l p e = go (length p.classes - c) refl (h.left l p e)
     where
       go : (n : ℕ) → n ≡ length p.classes - c → Reads (many n (class (format_of l g) p.domains)) g i (drop c p.classes) (length g) → Placed
@@ -115,7 +115,7 @@ module _ (g : Bytes) (c i : ℕ) where
           absurd (omega (arith, le, t.inside))
 
 -- behind the greatest count
-pub placed_behind : (g : Bytes) (c : ℕ) → most_classes ≤ c → ClassPlaced g c Nothing
+pub placed_behind : (g : Bytes) (c : ℕ) → most_classes ≤ c → ClassPlaced g c None
 placed_behind g c h l p e = put_none (at_none p.classes c (omega (arith, classes_few l g p e)))
 
 -- the file's length
@@ -137,9 +137,9 @@ pub told_stands : (g : Bytes) (rows : List ℕ) (base c k : ℕ) → RowTrue g r
 told_stands g rows base c k t h e n = let z : 0 < get_or rows (base + c) 0 = omega (arith, e, n) in rw e (t.told c h z)
 
 -- a place as it is read
-pub stands_placed : (g : Bytes) (c : ℕ) (r : Spot) → ClassStands g c r → ClassPlaced g c r
-stands_placed g c (At i) h = from_placed g c i h
-stands_placed g c Nothing h = h
+pub stands_placed : (g : Bytes) (c : ℕ) (r : Optional ℕ) → ClassStands g c r → ClassPlaced g c r
+stands_placed g c (Some i) h = from_placed g c i h
+stands_placed g c None h = h
 
 -- a class stands at one place
 module _ (g : Bytes) (r : Readable g) where

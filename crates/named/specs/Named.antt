@@ -13,6 +13,8 @@
 -- Beside rows new base == the numbers outside that row are the same
 -- RowsTrue f s end t rows == row p is true of the file of package number p
 use Rattle.std.specs.Prelude.{ℕ, zero, suc, ◌+◌, ◌-◌, ◌*◌, ◌≤◌, ◌<◌, ◌≡◌, List, length, drop, get_or}
+use Rattle.std.specs.Prelude.{Some, None}
+use Rattle.std.specs.Prelude.{Option as Optional}
 use Rattle.std.proofs.Math.Option.{some}
 use Rattle.rules.specs.Bytes.{Bytes, many}
 use Rattle.rules.specs.Package.{Limits, format_of, most_imports, most_classes, Package, class, read_file}
@@ -20,8 +22,6 @@ use Rattle.rules.specs.Store.{Entry}
 use Rattle.rules.specs.Classes.{Installed}
 use Rattle.places.specs.Reads.{Reads}
 use Rattle.files.specs.Say.{ClassesAt, ClassThere, AfterClass, ClassPlaced}
-use Rattle.files.specs.declared.Spot.{Spot}
-use Rattle.files.specs.declared.Spot.TheVariants.{At, Nothing}
 use Rattle.homes.specs.Homes.{Imports, own_home, PackageFrom, file_of}
 use Rattle.homes.specs.Found.{home_at}
 use Rattle.homes.specs.declared.Home.{Home}
@@ -66,9 +66,9 @@ pub record ClassFrom (g : Bytes) (c i : ℕ) : Type 0 where
   pub rest : ClassesFrom g c i
 
 -- its place, if the file has that class
-abbrev pub ClassStands : Bytes → ℕ → Spot → Type 0
-ClassStands g c (At i) = ClassFrom g c i
-ClassStands g c Nothing = ClassPlaced g c Nothing
+abbrev pub ClassStands : Bytes → ℕ → Optional ℕ → Type 0
+ClassStands g c (Some i) = ClassFrom g c i
+ClassStands g c None = ClassPlaced g c None
 
 -- what a row tells
 pub record RowTrue (g : Bytes) (rows : List ℕ) (base : ℕ) : Type 0 where

@@ -6,7 +6,7 @@ ghost use Rattle.rules.specs.Package.{most_methods};
 ghost use Rattle.files.specs.Say.{MethodThere, NameIs, ClassThere, Readable};
 ghost use Rattle.names.specs.Say.{FormIs, among, Below, ClassIs, NamesIs};
 
-use fields::{u2_at, wide};
+use fields::u2_at;
 use files::{
     after_class, after_method, classes_at, is_implemented, is_interface, is_static, methods_of,
 };
@@ -37,16 +37,15 @@ fn name_at(s: &[u8], at: usize) -> u16
     u2_at(s, at + 1) as u16
 }
 
-// Is a name one of the first n of the table? All are compared: without a way out the loop is compiled to vectors.
+// Is a name one of the first n of the table?
+// Kept: all are compared, since `contains` has a way out, and a loop that has none is compiled to vectors.
 fn is_among(names: &[u16], n: usize, name: u16) -> bool
     requires { n ≤ length names.now }
     ensures { result ≡ among names.now n name }
 {
     let mut found = false;
-    let mut i = 0;
-    while i < n {
+    for i in 0..n {
         found = found | (names[i] == name);
-        i += 1;
     }
     found
 }
@@ -56,7 +55,8 @@ fn is_taken(names: &[u16], n: usize, top: usize, name: u16) -> bool
     requires { Below names.now n top }
     ensures { result ≡ among names.now n name }
 {
-    if top <= name as usize {
+    let x = usize::from(name);
+    if top <= x {
         return false;
     }
     is_among(names, n, name)
@@ -66,11 +66,7 @@ fn is_taken(names: &[u16], n: usize, top: usize, name: u16) -> bool
 fn above(top: usize, name: u16) -> usize
     ensures { (top ≤ result) × (name < result) }
 {
-    let x = name as usize;
-    if x < top {
-        return top;
-    }
-    x + 1
+    top.max(usize::from(name) + 1)
 }
 
 // Do the names of the methods of the class at a place differ, and has each its form? The table takes the names of those passed.
@@ -80,11 +76,10 @@ fn class_ok(s: &[u8], at: usize, names: &mut [u16]) -> bool
 {
     let interface = is_interface(s, at);
     let start = methods_of(s, at);
-    let count = wide(s[start]);
+    let count = usize::from(s[start]);
     let mut c = start + 1;
-    let mut n = 0;
     let mut top = 0;
-    while n < count {
+    for n in 0..count {
         if !form_ok(s, c, interface) {
             return false;
         }
@@ -94,7 +89,6 @@ fn class_ok(s: &[u8], at: usize, names: &mut [u16]) -> bool
         }
         names[n] = name;
         top = above(top, name);
-        n += 1;
         c = after_method(s, c);
     }
     true
@@ -107,14 +101,12 @@ pub fn names_ok(f: &[u8]) -> bool
 {
     let mut names = [0u16; 64];
     let start = classes_at(f);
-    let mut left = wide(f[start]);
     let mut c = start + 1;
-    while 0 < left {
+    for _ in 0..usize::from(f[start]) {
         if !class_ok(f, c, &mut names) {
             return false;
         }
         c = after_class(f, c);
-        left -= 1;
     }
     true
 }

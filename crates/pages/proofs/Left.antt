@@ -12,6 +12,7 @@ use Rattle.rules.specs.Operations.{entries}
 use Rattle.store.specs.Entries.{part, Entries, StandFrom, AllRead}
 use Rattle.store.specs.Answers.{PartAt}
 use Rattle.store.specs.Sound.{SoundAt}
+use Rattle.std.specs.Prelude.{Some, None}
 use Rattle.store.specs.declared.EntryPart.TheVariants as parts
 use Rattle.store.proofs.Parts.{part_length}
 use Rattle.store.proofs.Stand.{entry_next, entry_later, entries_to}
@@ -57,7 +58,7 @@ left_start s u out i h e =
 
 -- where a domain's entry ends
 pub domain_in : {s : Bytes} {u : ℕ} {out : Bytes} {at packages bytes methods i : ℕ} → Left s u out at packages bytes methods i → {a j : ℕ} →
-    PartAt s i u (parts.Domain a j) → (i < j) × (j ≤ u)
+    PartAt s i u (Some (parts.Domain a j)) → (i < j) × (j ≤ u)
 domain_in {s} {u} {i = i} w {j = j} p =
     let x = (p w.rest w.stand).1 in
     (omega (arith, entry_later s i _ j x.stands), (entries_to s j x.rest u x.after).0)
@@ -74,7 +75,7 @@ pub record PackageIn (s : Bytes) (u i a f j : ℕ) : Type 0 where
   pub reads : read_file (store_limits s) (part s f j) ≡ some pack
 
 pub package_in : {s : Bytes} {u : ℕ} {out : Bytes} {at packages bytes methods i : ℕ} → Left s u out at packages bytes methods i → {a f j : ℕ} →
-    PartAt s i u (parts.Package a f j) → PackageIn s u i a f j
+    PartAt s i u (Some (parts.Package a f j)) → PackageIn s u i a f j
 package_in {s} {u} {i = i} w {a} {f} {j} p =
     let e = p w.rest w.stand in
     let x = e.2 in
@@ -98,7 +99,7 @@ package_in {s} {u} {i = i} w {a} {f} {j} p =
 
 -- a domain is passed
 pub left_domain : {s : Bytes} {u : ℕ} {out : Bytes} {at packages bytes methods i : ℕ} → Left s u out at packages bytes methods i → {a j : ℕ} →
-    PartAt s i u (parts.Domain a j) → Left s u out at packages bytes methods j
+    PartAt s i u (Some (parts.Domain a j)) → Left s u out at packages bytes methods j
 left_domain {s} {u} {out} {at} {packages} {bytes} {methods} {i} w {a} {j} p =
     let x = (p w.rest w.stand).1 in
     let later = entry_later s i _ j x.stands in
@@ -117,7 +118,7 @@ left_domain {s} {u} {out} {at} {packages} {bytes} {methods} {i} w {a} {j} p =
 
 -- a package's line is put, and the package counted
 pub left_package : {s : Bytes} {u : ℕ} {out : Bytes} {at packages bytes methods i : ℕ} → Left s u out at packages bytes methods i → u ≤ 65535 →
-    {a f j : ℕ} → PartAt s i u (parts.Package a f j) → {n : ℕ} → MethodsSay (part s f j) n → {out' : Bytes} {at' : ℕ} →
+    {a f j : ℕ} → PartAt s i u (Some (parts.Package a f j)) → {n : ℕ} → MethodsSay (part s f j) n → {out' : Bytes} {at' : ℕ} →
     LinePut out at (part s a f) (part s f j) n out' at' → Left s u out' at' (packages + 1) (bytes + (j - f)) (methods + n) j
 left_package {s} {u} {out} {at} {packages} {bytes} {methods} {i} w short {a} {f} {j} p {n} counted {out'} {at'} put =
     let x = (p w.rest w.stand).2 in
@@ -145,7 +146,7 @@ left_package {s} {u} {out} {at} {packages} {bytes} {methods} {i} w short {a} {f}
 
 -- all entries are passed
 pub left_end : {s : Bytes} {u : ℕ} {out : Bytes} {i : ℕ} (x : Listed) → Left s u out x.at x.packages x.bytes x.methods i → u ≤ 65535 →
-    PartAt s i u parts.AtEnd → LinesSay s u out x
+    PartAt s i u None → LinesSay s u out x
 left_end {s} {u} {out} {i} x w short p =
     let e = p w.rest w.stand in
     let l = store_limits s in

@@ -1,7 +1,7 @@
 -- Counting the methods of a file, class by class. Assumes nothing.
-use Prim.Native.Nat.{ℕ, ◌+◌, ◌-◌, ◌≤◌, ◌<◌}
+use Prim.Native.Nat.{ℕ, suc, ◌+◌, ◌-◌, ◌≤◌}
 use native.Mathlib.Omega.{arith}
-use mathlib.Core.Path.{◌≡◌, sym, ◌∙◌}
+use mathlib.Core.Path.{◌≡◌, sym, ◌∙◌, subst}
 use mathlib.Core.List.{List}
 use mathlib.Core.Option.{some}
 use lib.ListN.{length, get_or}
@@ -39,12 +39,14 @@ count_is f c d h l ds k j r =
     (reads_u1 f d x.number x.place x.count).byte ∙ sym (many_length m (steady_method (format_of l f) ds) x.number f x.place k.methods j x.list)
 
 -- a class more
-pub counts_more : (f : Bytes) (i n left c d e m : ℕ) → Counts f i n left c → 0 < left → MethodsAt f c d → m ≡ get_or f d 0 → AfterClass f c e →
-    Counts f i (n + m) (left - 1) e
-counts_more f i n left c d e m t h at m-is after l ds =
+pub counts_more : (f : Bytes) (i n left rest c d e m : ℕ) → Counts f i n left c → left ≡ suc rest → MethodsAt f c d → m ≡ get_or f d 0 → AfterClass f c e →
+    Counts f i (n + m) rest e
+counts_more f i n left rest c d e m t h at m-is after =
+    let next : Counts f i (n + m) (left - 1) e = λ l ds.
     track_more (class (format_of l f) ds) (steady_class (format_of l f) ds) f (counted most_classes u1 (class (format_of l f) ds)) i methods_of_all
-    (λ ks. n + methods_of_all ks) left c (t l ds) (λ ks. n + m + methods_of_all ks) e h (after l ds)
-    (λ k j r ks. let z = m-is ∙ count_is f c d at l ds k j r in omega (arith, z))
+    (λ ks. n + methods_of_all ks) left c (t l ds) (λ ks. n + m + methods_of_all ks) e (omega (arith, h)) (after l ds)
+    (λ k j r ks. let z = m-is ∙ count_is f c d at l ds k j r in omega (arith, z)) in
+    subst (λ (k : ℕ). Counts f i (n + m) k e) (omega (arith, h)) next
 
 -- all of them
 pub counts_done : (f : Bytes) (i n left c : ℕ) → Counts f i n left c → left ≤ 0 → ClassesAt f i → (l : Limits) (p : Package) → read_file l f ≡ some p →

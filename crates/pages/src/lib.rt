@@ -25,13 +25,11 @@ fn methods_in(f: &[u8]) -> usize
     ensures { MethodsSay f.now result }
 {
     let start = classes_at(f);
-    let mut left = fields::wide(f[start]);
     let mut c = start + 1;
     let mut n = 0;
-    while 0 < left {
+    for _ in 0..fields::wide(f[start]) {
         n += fields::wide(f[methods_of(f, c)]);
         c = after_class(f, c);
-        left -= 1;
     }
     n
 }
@@ -59,12 +57,12 @@ pub fn put_lines(s: &[u8], used: usize, out: &mut [u8]) -> Listed
     let mut bytes = 0;
     let mut methods = 0;
     let mut i = store::openings::first_entry(s);
-    loop {
-        match store::entry_at(s, i, used) {
-            EntryPart::Domain(_, next) => {
+    while let Some(part) = store::entry_at(s, i, used) {
+        match part {
+            EntryPart::Domain { next, .. } => {
                 i = next;
             }
-            EntryPart::Package(from, file, next) => {
+            EntryPart::Package { from, file, next } => {
                 let n = methods_in(&s[file..next]);
                 at = put_line(out, at, &s[from..file], &s[file..next], n);
                 packages += 1;
@@ -72,14 +70,12 @@ pub fn put_lines(s: &[u8], used: usize, out: &mut [u8]) -> Listed
                 methods += n;
                 i = next;
             }
-            EntryPart::AtEnd => {
-                return Listed {
-                    at,
-                    packages,
-                    bytes,
-                    methods,
-                };
-            }
         }
+    }
+    Listed {
+        at,
+        packages,
+        bytes,
+        methods,
     }
 }

@@ -1,7 +1,6 @@
 -- Tests of the slots that a policy lists, which answer as tests of the AIDs that they stand for. Assumes nothing.
-use Prim.Native.Nat.{ℕ, zero, suc, ◌+◌, ◌-◌, ◌≤◌, ◌<◌}
+use Prim.Native.Nat.{ℕ, zero, suc, ◌-◌, ◌≤◌, ◌<◌}
 use native.Mathlib.Omega.{arith}
-use native.Mathlib.Decide.{ℕ_discrete}
 use mathlib.Core.Path.{◌≡◌, refl, sym, ◌∙◌, ap, ap₂}
 use mathlib.Core.Bool.{Bool, true, false, ◌&&◌, ◌||◌, or-true}
 use mathlib.Core.List.{List, [], ◌∷◌, map}
@@ -38,6 +37,13 @@ reads_slotted ds e s (suc n) i xs j few p =
     sym (index_means ds few (get_or s i 0) t.index e) ∙ ap (item_means e) t.stands in
     rw (← z.are, w) (index_slot ds few (get_or s i 0) t.index, means, h)
 
+-- each index has a slot
+pub slotted_at : (ds : List Aid) (e : Aid) (ks : List ℕ) (xs : List Aid) → Slotted ds e ks xs → (k : ℕ) → k < length ks → IsSlot ds (slot_of (get_or ks k 0))
+slotted_at ds e [] xs h k l = absurd (omega arith)
+slotted_at ds e (n ∷ ks) [] h k l = absurd h
+slotted_at ds e (n ∷ ks) (a ∷ xs) h zero l = h.0
+slotted_at ds e (n ∷ ks) (a ∷ xs) h (suc k) l = slotted_at ds e ks xs h.2 k (omega arith)
+
 -- a test of slots that answers as a test of the AIDs
 module _ (ds : List Aid) (e : Aid) (p : ℕ → Bool) (q : Aid → Bool) (h : (k : ℕ) → IsSlot ds k → p k ≡ q (slot_aid ds e k)) where
   pub all_by_slot : (ks : List ℕ) (xs : List Aid) → Slotted ds e ks xs → all (λ k. p (slot_of k)) ks ≡ all q xs
@@ -68,16 +74,3 @@ module _ (ds : List Aid) (e : Aid) (p : ℕ → Bool) (q : Aid → Bool) (h : (k
       let s : q a ≡ true = ap q (sym x.1) ∙ h (slot_of k) x.0 (is_true _ (and_l (p (slot_of k)) (all (λ k. p (slot_of k)) ks) (of_true v))) in
       let rest = all_through ks xs x.2 (is_true _ (and_r (p (slot_of k)) (all (λ k. p (slot_of k)) ks) (of_true v))) in
       rw (s, rest)
-
--- each index has a slot
-pub slot_here : (ds : List Aid) (s : Bytes) (n i : ℕ) (xs : List Item) (j : ℕ) → length ds ≤ most_domains → Reads (many n (item ds)) s i xs j →
-    (k : ℕ) → i ≤ k → k < i + n → IsSlot ds (slot_of (get_or s k 0))
-slot_here ds s zero i xs j few p k a b = absurd (omega arith)
-slot_here ds s (suc n) i xs j few p k a b =
-    let z = reads_left (item ds) (steady_item ds) (suc n) s i xs j (omega arith) p in
-    let t = item_part ds s i z.one z.place z.reads in
-    let c : suc n - 1 ≡ n = omega arith in
-    elim (ℕ_discrete k i) [
-      | yes q ↦ rw q (index_slot ds few (get_or s i 0) t.index)
-      | no q ↦ slot_here ds s n z.place z.others j few (rw c at z.rest) k (omega (arith, t.next)) (omega (arith, t.next))
-    ]

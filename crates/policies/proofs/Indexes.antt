@@ -11,6 +11,8 @@ use lib.Dec.{eqb}
 use lib.ListN.{length, take, drop, get_or}
 use lib.Seq.{drop-cons}
 use borrow.Author.Tests.{eq-eqb, ne_eqb}
+use Rattle.std.specs.List.{list_any, list_all}
+use Rattle.std.proofs.lemmas.List.{drop_more, drop_all}
 use Rattle.rules.specs.Bytes.{Bytes, Aid, any, all, many}
 use Rattle.rules.specs.Package.{most_domains, own_index, Item, item}
 use Rattle.rules.specs.Classes.{item_means}
@@ -19,6 +21,15 @@ use Rattle.places.proofs.Inverse.{reads_left, reads_done}
 use Rattle.places.proofs.Steady.{steady_item}
 use Rattle.places.proofs.Parts.{item_part}
 use Rattle.policies.specs.Numbers.{any_from}
+
+-- the library's test of a list is the definitions' own
+pub list_any_is : {A : Type 0} (p : A → Bool) (xs : List A) → list_any p xs ≡ any p xs
+list_any_is p [] = refl
+list_any_is p (x ∷ xs) = ap (λ b. p x || b) (list_any_is p xs)
+
+pub list_all_is : {A : Type 0} (p : A → Bool) (xs : List A) → list_all p xs ≡ all p xs
+list_all_is p [] = refl
+list_all_is p (x ∷ xs) = ap (λ b. p x && b) (list_all_is p xs)
 
 -- numbers that are not met
 any_without : (q : Aid → Bool) (ds : List Aid) (m : ℕ) → any_from (λ k d. q d && false) m ds ≡ false
@@ -71,26 +82,16 @@ pub take_more : (s : Bytes) (i n : ℕ) → 0 < n → i < length s → take n (d
 take_more s i zero h k = absurd (omega arith)
 take_more s i (suc n) h k = let z : suc n - 1 ≡ n = omega arith in rw (z, add-one, drop-cons s i 0 k)
 
--- tests of the bytes at a place: of one, and of all
-module _ (s : Bytes) (p : ℕ → Bool) (left c : ℕ) where
-  module _ (h : 0 < left) (l : c < length s) where
-    pub byte_hit : p (get_or s c 0) ≡ true → any p (take left (drop c s)) ≡ true
-    byte_hit e = rw (take_more s c left h l, e)
+-- a test of all, of the elements from number k on
+module _ (xs : List ℕ) (p : ℕ → Bool) (k : ℕ) where
+  pub all_fails : k < length xs → p (get_or xs k 0) ≡ false → all p (drop k xs) ≡ false
+  all_fails h e = rw (drop_more xs k 0 h, e)
 
-    pub byte_miss : p (get_or s c 0) ≡ false → any p (take left (drop c s)) ≡ any p (take (left - 1) (drop (c + 1) s))
-    byte_miss e = rw (take_more s c left h l, e)
+  pub all_passes : k < length xs → p (get_or xs k 0) ≡ true → all p (drop k xs) ≡ all p (drop (k + 1) xs)
+  all_passes h e = rw (drop_more xs k 0 h, e)
 
-    pub byte_fails : p (get_or s c 0) ≡ false → all p (take left (drop c s)) ≡ false
-    byte_fails e = rw (take_more s c left h l, e)
-
-    pub byte_passes : p (get_or s c 0) ≡ true → all p (take left (drop c s)) ≡ all p (take (left - 1) (drop (c + 1) s))
-    byte_passes e = rw (take_more s c left h l, e)
-
-  pub byte_none : left ≤ 0 → any p (take left (drop c s)) ≡ false
-  byte_none h = let z : left ≡ 0 = omega arith in rw z
-
-  pub byte_all : left ≤ 0 → all p (take left (drop c s)) ≡ true
-  byte_all h = let z : left ≡ 0 = omega arith in rw z
+  pub all_end : length xs ≤ k → all p (drop k xs) ≡ true
+  all_end h = rw (drop_all k xs h)
 
 -- an AID more, by its index or by FE
 domain_more : (x a y : Bool) → (x || (a || y)) ≡ ((x || a) || y)

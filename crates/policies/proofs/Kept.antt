@@ -1,5 +1,5 @@
--- Rows of numbers: a number looked up and kept, and the loop over the indexes of a policy. Assumes nothing.
-use Prim.Native.Nat.{ℕ, ◌+◌, ◌-◌, ◌<◌}
+-- Rows of numbers: a number looked up and kept. Assumes nothing.
+use Prim.Native.Nat.{ℕ, ◌+◌, ◌<◌}
 use native.Mathlib.Omega.{arith}
 use native.Mathlib.Decide.{ℕ_discrete}
 use mathlib.Core.Path.{◌≡◌, sym, ◌∙◌, ap}
@@ -7,14 +7,12 @@ use mathlib.Core.List.{List, [], ◌∷◌, ◌++◌}
 use lib.ListN.{length, get_or, set, length-append, length-set}
 use lib.Seq.{get_or-set_same, get_or-set_other}
 use Rattle.rules.specs.Bytes.{Bytes, Aid}
-use Rattle.policies.specs.Say.{slot_of, slot_aid, HasSlot, SlotIs}
+use Rattle.policies.specs.Say.{slot_aid, HasSlot, SlotIs}
 use Rattle.policies.specs.Numbers.{number_in, DomainsThere, NumberIs}
-use Rattle.policies.specs.Rows.{HasPlaces, ListOver, unknown, Known, SlotNumber, Tells, NumberKept}
+use Rattle.policies.specs.Rows.{HasPlaces, unknown, Known, SlotNumber, Tells, NumberKept}
 use Rattle.policies.specs.declared.TwoLists.{TwoLists}
 use Rattle.policies.proofs.Slots.{slot_most}
 use Rattle.policies.proofs.Numbers.{number_most, domains_length}
-use Rattle.policies.proofs.Rules.{only_list, over_indexes}
-use Rattle.policies.proofs.Compared.{slot_here}
 
 -- the number of what a slot stands for
 pub slot_number : (f : Bytes) (d : Aid) {g : Bytes} (e : Aid) (l : TwoLists) (k : ℕ) {x : Aid} {n : ℕ} → SlotIs g l.other e k x → NumberIs f l.own d x n →
@@ -52,23 +50,3 @@ told_small {d = d} {e = e} i a h w t =
     let n = t.number i a.0 a.1 a.2 h.0 h.1 h.2 h.3 in
     let m = number_most (a.0 ++ d ∷ []) (slot_aid h.0 e i) in
     omega (arith, n, m, length-append a.0 (d ∷ []), domains_length a.0 a.1 a.2)
-
--- `left` indexes of the policy at i are still to be read at c
-pub record IndexesLeft (g : Bytes) (i left c : ℕ) : Type 0 where
-  pub place : c + left ≡ i + 1 + get_or g i 0
-  pub behind : i < c
-
-pub left_start : {g : Bytes} {i n : ℕ} → n ≡ get_or g i 0 → IndexesLeft g i n (i + 1)
-left_start h = record { place = omega arith; behind = omega arith }
-
-pub left_more : {g : Bytes} {i left c : ℕ} → IndexesLeft g i left c → 0 < left → IndexesLeft g i (left - 1) (c + 1)
-left_more x h = record { place = omega (arith, x.place); behind = omega (arith, x.behind) }
-
--- the slot of the index at hand
-pub left_here : {g : Bytes} {t i left c : ℕ} → ListOver g t i → IndexesLeft g i left c → 0 < left → HasSlot g t (slot_of (get_or g c 0)) × (c < length g)
-left_here {g} {t} {i} {left} {c} o x h =
-    let e = o.0 in
-    let y = only_list e.0 g i e.3.0 e.3.1 e.3.2 o.1 in
-    let few = domains_length e.0 e.1 e.2 in
-    let b = slot_here e.0 g (get_or g i 0) (i + 1) y.listed e.3.1 few y.list c (omega (arith, x.behind)) (omega (arith, x.place)) in
-    ((e.0, e.1, e.2, b), omega (arith, x.place, over_indexes e o.1))

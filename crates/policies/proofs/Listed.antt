@@ -9,7 +9,9 @@ use mathlib.Core.Logic.{inl, inr}
 use mathlib.Core.Option.{some}
 use lib.Dec.{eqb}
 use lib.ListN.{length, get_or}
-use borrow.Author.Tests.{lt-ltb, le-ltb}
+use Rattle.std.specs.Prelude.{Some, None}
+use Rattle.std.specs.Prelude.{Option as Optional}
+use Rattle.std.specs.Option.{is_some}
 use Rattle.rules.specs.Bytes.{Bytes, Aid, any, at, same, u1, aid, counted}
 use Rattle.rules.specs.Package.{most_domains, own_index}
 use Rattle.rules.specs.Classes.{item_means}
@@ -20,7 +22,7 @@ use Rattle.places.proofs.Track.{track_front, track_more, track_done}
 use Rattle.files.specs.Say.{AidIs}
 use Rattle.files.proofs.Loops.{AidLoop, aids_start}
 use Rattle.policies.specs.Say.{own_slot, indexes_at, ListsIs, ListedIs, Admits}
-use Rattle.policies.specs.Numbers.{DomainsThere, OfDomains, listed_as, listed_from, ListedDomain, ListedSlot}
+use Rattle.policies.specs.Numbers.{DomainsThere, OfDomains, listed_as, listed_from, DomainNumber, SlotFor, ListedSlot}
 use Rattle.policies.proofs.Slots.{aid_domain}
 use Rattle.policies.proofs.Indexes.{any_indexed}
 use Rattle.policies.proofs.Numbers.{domains_few, domains_length}
@@ -75,8 +77,8 @@ listed_start {s} {d} i x {n} e h = record {
 
 module _ {s : Bytes} {d : ℕ} (i : ℕ) (x : Aid) {k left c : ℕ} (t : ListedLoop s d i x k left c) where
   -- the domain at hand is x and listed
-  pub listed_hit : 0 < left → ListedIs s c x i k true → ListedDomain s d i x k
-  listed_hit h q = record { there = λ l ds j rd. there ds j rd; answer = λ ds j rd. lt-ltb k most_domains (omega (arith, t.few, h)) ∙ sym (hit ds j rd) }
+  pub listed_hit : 0 < left → ListedIs s c x i k true → DomainNumber s d i x k
+  listed_hit h q = record { there = there; listed = hit }
     where
       there : (ds : List Aid) (j : ℕ) → Reads (counted most_domains u1 aid) s d ds j → (k < length ds) × (get_or ds k [] ≡ x)
       there ds j rd =
@@ -115,47 +117,41 @@ module _ {s : Bytes} {d : ℕ} (i : ℕ) (x : Aid) {k left c : ℕ} (t : ListedL
           let b : k + suc m ≡ k + 1 + m = omega arith in
           (z.0, z.1, subst (λ (n : ℕ). at xs n ≡ at z.0 m) b z.2)
 
-  pub listed_none : left ≤ 0 → ListedDomain s d i x most_domains
-  listed_none h = record {
-    there = λ l. absurd (omega arith);
-    answer = λ ds j rd. sym (none_left ds j rd);
-  }
-    where
-      none_left : (ds : List Aid) (j : ℕ) → Reads (counted most_domains u1 aid) s d ds j → listed_from s i x 0 ds ≡ false
-      none_left ds j rd =
-          let z =
-          track_done aid steady_aid s (counted most_domains u1 aid) d (listed_from s i x 0) (listed_from s i x k) left c
-          (t.walk most_domains) h ds j rd
-          in
-          z.1
+  pub listed_none : left ≤ 0 → OfDomains s d λ ds. listed_from s i x 0 ds ≡ false
+  listed_none h ds j rd =
+      let z =
+      track_done aid steady_aid s (counted most_domains u1 aid) d (listed_from s i x 0) (listed_from s i x k) left c
+      (t.walk most_domains) h ds j rd
+      in
+      z.1
 
--- the slot that stands for x, by the number of a domain told
-module _ {s : Bytes} {d : ℕ} (e : Aid) {i : ℕ} {x : Aid} {k : ℕ} (q : ListedDomain s d i x k) (n : get_or s i 0 ≡ 255 → ⊥) where
+module _ {s : Bytes} {d : ℕ} (e : Aid) {i : ℕ} (x : Aid) (n : get_or s i 0 ≡ 255 → ⊥) where
   -- a domain listed by its index
-  pub slot_listed : k < most_domains → ListedSlot s d e i x k
-  slot_listed h = record {
-    there = λ _ ds j rd. let z = q.there h ds j rd in (inr (h, z.0), aid_domain ds e k h ∙ z.1);
-    answer = rw (lt-ltb k 33 (omega arith)) (admits_is s d e i x n true λ ds j rd.
-        let z : listed_from s i x 0 ds ≡ true = sym (q.answer ds j rd) ∙ lt-ltb k most_domains h in rw z);
+  pub slot_listed : {k : ℕ} → DomainNumber s d i x k → SlotFor s d e i x k
+  slot_listed {k} q = record {
+    there = λ ds j rd.
+        let z = q.there ds j rd in
+        let h : k < most_domains = omega (arith, z.0, domains_length ds j rd) in
+        (inr (h, z.0), aid_domain ds e k h ∙ z.1);
+    allowed = admits_is s d e i x n true λ ds j rd. let z : listed_from s i x 0 ds ≡ true = q.listed ds j rd in rw z;
   }
 
-  module _ (h : most_domains ≤ k) where
-    -- none is
-    unlisted : OfDomains s d λ ds. listed_from s i x 0 ds ≡ false
-    unlisted ds j rd = sym (q.answer ds j rd) ∙ le-ltb k most_domains h
-
+  -- none is
+  module _ (unlisted : OfDomains s d λ ds. listed_from s i x 0 ds ≡ false) where
     -- x is the own domain, and FE is listed or not
-    pub slot_told : {r : Bool} → same x e ≡ true → ListsIs s i own_index r → Admits s d e i x r
+    slot_told : {r : Bool} → same x e ≡ true → ListsIs s i own_index r → Admits s d e i x r
     slot_told {r} f l = admits_is s d e i x n r λ ds j rd. let u = unlisted ds j rd in rw (u, f) (sym l)
 
-    pub slot_as_own : same x e ≡ true → ListsIs s i own_index true → ListedSlot s d e i x own_slot
-    slot_as_own f l = record { there = λ _ ds j rd. (inl refl, sym (same_eq x e (of_true f))); answer = slot_told f l }
+    pub slot_as_own : same x e ≡ true → ListsIs s i own_index true → SlotFor s d e i x own_slot
+    slot_as_own f l = record { there = λ ds j rd. (inl refl, sym (same_eq x e (of_true f))); allowed = slot_told f l }
 
-    pub slot_unlisted : same x e ≡ true → ListsIs s i own_index false → ListedSlot s d e i x 33
-    slot_unlisted f l = record { there = λ m. absurd (omega arith); answer = slot_told f l }
+    pub slot_unlisted : same x e ≡ true → ListsIs s i own_index false → Admits s d e i x false
+    slot_unlisted f l = slot_told f l
 
-    pub slot_none : same x e ≡ false → ListedSlot s d e i x 33
-    slot_none f = record {
-      there = λ m. absurd (omega arith);
-      answer = admits_is s d e i x n false λ ds j rd. let u = unlisted ds j rd in rw (u, f);
-    }
+    pub slot_none : same x e ≡ false → Admits s d e i x false
+    slot_none f = admits_is s d e i x n false λ ds j rd. let u = unlisted ds j rd in rw (u, f)
+
+-- a slot that is told says yes, none no
+pub slot_tells : {s : Bytes} {d : ℕ} (e : Aid) {i : ℕ} (x : Aid) (r : Optional ℕ) → ListedSlot s d e i x r → Admits s d e i x (is_some r)
+slot_tells e x (Some r) q = q.allowed
+slot_tells e x None q = q

@@ -7,12 +7,12 @@ pub mod rows;
 ghost use Rattle.std.specs.Prelude.{◌≡◌, ◌≤◌};
 ghost use Rattle.rules.specs.Bytes.{aid};
 ghost use Rattle.places.specs.Reads.{Ends};
-ghost use Rattle.policies.specs.Say.{slot_of, IndexesThere, ListsIs, ListedIs, PolicyOver, HasSlot, SlotIs, Admits, AdmitsAllOf};
+ghost use Rattle.policies.specs.Say.{slot_of, IndexesThere, ListsIs, ListedIs, PolicyOver, HasSlot, SlotIs, Admits, AdmitsAllOf, indexes_at};
 ghost use Rattle.policies.specs.Numbers.{DomainsThere, NumberIs, ListedDomain, ListedSlot};
 ghost use Rattle.policies.specs.Rows.{ListOver};
 
 use fields::{same_bytes, wide};
-use files::{Spot, after_aid, aid_bytes, aid_is, nth_aid};
+use files::{after_aid, aid_bytes, aid_is, nth_aid};
 
 // Where a method's rights stand in its file: the list of domains, and the policy over it.
 #[derive(Clone, Copy)]
@@ -39,21 +39,22 @@ pub fn slot(i: usize) -> usize
     i
 }
 
-// Is k one of the indexes of the policy at a place, which is not FF?
+// The indexes of the policy at a place, which is not FF.
+pub fn indexes_of(s: &[u8], at: usize) -> &[u8]
+    requires { IndexesThere s.now at }
+    ensures { result.now ≡ indexes_at s.now at }
+{
+    let start = at + 1;
+    let end = start + wide(s[at]);
+    &s[start..end]
+}
+
+// Is k one of them?
 fn lists(s: &[u8], at: usize, k: usize) -> bool
     requires { IndexesThere s.now at }
     ensures { ListsIs s.now at k result }
 {
-    let mut left = wide(s[at]);
-    let mut c = at + 1;
-    while 0 < left {
-        if wide(s[c]) == k {
-            return true;
-        }
-        c += 1;
-        left -= 1;
-    }
-    false
+    indexes_of(s, at).iter().any(|i| k == wide(*i))
 }
 
 // Is the AID at c the bytes of x, and k one of the indexes of the policy at `at`?
@@ -68,41 +69,35 @@ fn listed_as(s: &[u8], c: usize, x: &[u8], at: usize, k: usize) -> bool
     lists(s, at, k)
 }
 
-// The number of a domain that is x and that the policy at `at` lists by its index, which is not FF; 32 where there is none.
-fn listed_domain(s: &[u8], domains: usize, at: usize, x: &[u8]) -> usize
+// The number of a domain that is x and that the policy at `at` lists by its index, which is not FF.
+fn listed_domain(s: &[u8], domains: usize, at: usize, x: &[u8]) -> Option<usize>
     requires { ListOver s.now domains at }
     ensures { ListedDomain s.now domains at x.now result }
 {
-    let mut left = wide(s[domains]);
     let mut c = domains + 1;
-    let mut k = 0;
-    while 0 < left {
+    for k in 0..wide(s[domains]) {
         if listed_as(s, c, x, at, k) {
-            return k;
+            return Some(k);
         }
         c = after_aid(s, c);
-        k += 1;
-        left -= 1;
     }
-    32
+    None
 }
 
-// A slot that the policy lists, which is not FF, and that stands for x in a file of domain `own`; 33 where there is none.
-pub fn listed_slot(s: &[u8], own: &[u8], p: RightsPlace, x: &[u8]) -> usize
+// A slot that the policy lists, which is not FF, and that stands for x in a file of domain `own`.
+pub fn listed_slot(s: &[u8], own: &[u8], p: RightsPlace, x: &[u8]) -> Option<usize>
     requires { ListOver s.now p.domains p.policy }
     ensures { ListedSlot s.now p.domains own.now p.policy x.now result }
 {
-    let k = listed_domain(s, p.domains, p.policy, x);
-    if k < 32 {
-        return k;
+    match listed_domain(s, p.domains, p.policy, x) {
+        Some(k) => Some(k),
+        None => {
+            if same_bytes(x, own) && lists(s, p.policy, 254) {
+                return Some(32);
+            }
+            None
+        }
     }
-    if !same_bytes(x, own) {
-        return 33;
-    }
-    if lists(s, p.policy, 254) {
-        return 32;
-    }
-    33
 }
 
 // Does the policy allow x, in a file of domain `own`? Each domain is compared once.
@@ -110,11 +105,10 @@ pub fn admits(s: &[u8], own: &[u8], p: RightsPlace, x: &[u8]) -> bool
     requires { PolicyOver s.now p.domains p.policy }
     ensures { Admits s.now p.domains own.now p.policy x.now result }
 {
-    let at = p.policy;
-    if wide(s[at]) == 255 {
+    if wide(s[p.policy]) == 255 {
         return true;
     }
-    listed_slot(s, own, p, x) < 33
+    listed_slot(s, own, p, x).is_some()
 }
 
 // What slot k of the list of domains at u stands for, in a file of domain `own`.
@@ -126,8 +120,8 @@ pub fn slot_aid<'a>(t: &'a [u8], own: &'a [u8], u: usize, k: usize) -> &'a [u8]
         return own;
     }
     match nth_aid(t, u, k) {
-        Spot::At(a) => aid_bytes(t, a),
-        Spot::Nothing => own,
+        Some(a) => aid_bytes(t, a),
+        None => own,
     }
 }
 
@@ -145,46 +139,38 @@ pub fn admits_all_of<'a>(
     ensures { AdmitsAllOf s.now p.domains own.now p.policy
         t.now q.domains other.now q.policy result }
 {
-    let at = p.policy;
-    if wide(s[at]) == 255 {
+    if wide(s[p.policy]) == 255 {
         return true;
     }
-    let v = q.policy;
-    let mut left = wide(t[v]);
-    if left == 255 {
+    if wide(t[q.policy]) == 255 {
         return false;
     }
-    let mut c = v + 1;
-    while 0 < left {
-        let x = slot_aid(t, other, q.domains, slot(wide(t[c])));
-        if 32 < listed_slot(s, own, p, x) {
+    for i in indexes_of(t, q.policy) {
+        let x = slot_aid(t, other, q.domains, slot(wide(*i)));
+        if listed_slot(s, own, p, x).is_none() {
             return false;
         }
-        c += 1;
-        left -= 1;
     }
     true
 }
 
 // The number of x in the domains listed at u, the loading domain behind them; one more than the last where it is not there.
+// Kept: a number for "not there", since the answer is kept as a byte of a row, and compared as one.
 pub fn number_of(f: &[u8], u: usize, domain: &[u8], x: &[u8]) -> usize
     requires { DomainsThere f.now u }
     ensures number_is { NumberIs f.now u domain.now x.now result }
     ensures upper_bound { result ≤ 33 }
 {
-    let mut left = wide(f[u]);
+    let count = wide(f[u]);
     let mut c = u + 1;
-    let mut k = 0;
-    while 0 < left {
+    for k in 0..count {
         if aid_is(f, c, x) {
             return k;
         }
         c = after_aid(f, c);
-        k += 1;
-        left -= 1;
     }
     if same_bytes(x, domain) {
-        return k;
+        return count;
     }
-    k + 1
+    count + 1
 }

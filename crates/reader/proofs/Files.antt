@@ -22,11 +22,12 @@ use Rattle.cursor.specs.Says.{Says, Stops, itself}
 use Rattle.cursor.specs.declared.Cursor.{Cursor}
 use Rattle.cursor.proofs.Steps.{Leads, said, stop_none, stopped, stopped_none, then_none, then_leads, then_told, then_any, made_leads, when_leads, when_none}
 use Rattle.cursor.proofs.Fields.{front}
-use Rattle.reader.specs.Answers.{StopsFor, Stand, contentsSaid, ContentsRead, PlacesOf, PackageRead}
+use Rattle.reader.specs.Answers.{StopsFor, Stand, ContentsRead, LayoutRead, PlacesOf, PackageRead}
 use Rattle.reader.specs.declared.Places.{Places}
-use Rattle.reader.specs.declared.Contents.{Contents}
-use Rattle.reader.specs.declared.Contents.TheVariants as contentsAre
-use Rattle.reader.specs.declared.Read.TheVariants as read
+use Rattle.std.specs.Prelude.{Some, None, Err}
+use Rattle.std.specs.Prelude.{Option as Optional}
+use Rattle.std.specs.Option.{ok_or}
+use Rattle.refusals.specs.declared.refusal.Refusal.TheVariants as refused
 
 -- a file shorter than mark and version does not begin with them
 pub mark_short : (f : Bytes) → length f < 5 → false ≡ q10_marked f
@@ -88,25 +89,11 @@ module _ (t : Format) {f : Bytes} {i : ℕ} where
 
 -- the answers for the contents
 module _ {l : Limits} {f : Bytes} {i : ℕ} where
-  pub contents_bad : Stops (contents (format_of l f)) f i none → ContentsRead l f i contentsAre.Bad
-  contents_bad h = record { stops = h; stand = λ q c e. absurd (clash q c e) }
-    where
-      clash : (q : Places) (c : Cursor) → contentsAre.Bad ≡ contentsAre.Are q c → ⊥
-      clash q c e = let z : ◌≡◌ {A = ℕ} 0 1 = cc in omega arith
+  pub contents_bad : Stops (contents (format_of l f)) f i none → ContentsRead l f i None
+  contents_bad h = record { stops = h; stand = λ v e. cc }
 
-  pub contents_are : (q : Places) (c : Cursor) → Stops (contents (format_of l f)) f i (some c.at.0) → Stand q f i → ContentsRead l f i (contentsAre.Are q c)
-  contents_are q c h s = record { stops = h; stand = λ p d e. moved p d e }
-    where
-      moved : (p : Places) (d : Cursor) → contentsAre.Are q c ≡ contentsAre.Are p d → Stand p f i
-      moved p d e = let z : q ≡ p = cc in subst (λ (x : Places). Stand x f i) z s
-
--- what an answer for the contents tells
-module _ {l : Limits} {f : Bytes} {i : ℕ} {r : Contents} where
-  pub contents_stopped : {q : Places} {c : Cursor} → r ≡ contentsAre.Are q c → ContentsRead l f i r → Stops (contents (format_of l f)) f i (some c.at.0)
-  contents_stopped e h = subst (λ (x : Contents). Stops (contents (format_of l f)) f i (contentsSaid x)) e h.stops
-
-  pub contents_none : r ≡ contentsAre.Bad → ContentsRead l f i r → Stops (contents (format_of l f)) f i none
-  contents_none e h = subst (λ (x : Contents). Stops (contents (format_of l f)) f i (contentsSaid x)) e h.stops
+  pub contents_are : (v : Places × Cursor) → Stops (contents (format_of l f)) f i (some v.1.at.0) → Stand v.0 f i → ContentsRead l f i (Some v)
+  contents_are v h s = record { stops = h; stand = λ w e. (let z : v ≡ w = cc in subst (λ (x : Places × Cursor). Stand x.0 f i) z s) }
 
 -- the size, then the contents to the end
 module _ (t : Format) {f : Bytes} where
@@ -160,24 +147,24 @@ stand_places q l f h p part =
     let r : q.references.0 ≡ part.references_at = stop_at (rw i at h.imports) part.imports in
     record { domains = d; imports = i; references = r; classes = stop_at (rw r at h.references) part.references }
 
+-- the answers for what follows the mark
+module _ {l : Limits} {f : Bytes} where
+  pub layout_none : read_file l f ≡ none → LayoutRead l f None
+  unfolding q11_reads
+  layout_none n = record { reads = rw n; places = λ q z. cc }
+
+  pub layout_read : is_some (read_file l f) ≡ true → (q : Places) → Stand q f 7 → LayoutRead l f (Some q)
+  unfolding q11_reads
+  layout_read n q h = record { reads = sym n; places = λ q' z p part. moved q' z p part }
+    where
+      moved : (q' : Places) → ◌≡◌ {A = Optional Places} (Some q) (Some q') → (p : Package) (part : FilePart l f p) → PlacesOf q' l f p part
+      moved q' z p part = let w : q ≡ q' = cc in subst (λ (x : Places). PlacesOf x l f p part) w (stand_places q l f h p part)
+
 -- the answers for a file
 module _ {l : Limits} {f : Bytes} where
-  pub unmarked : q10_marked f ≡ false → PackageRead l f read.Unmarked
-  unmarked e = record { number = rw e; places = λ q z. absurd (clash q z) }
-    where
-      clash : (q : Places) → read.Unmarked ≡ read.Package q → ⊥
-      clash q z = let w : ◌≡◌ {A = ℕ} 0 1 = cc in omega arith
+  pub unmarked : q10_marked f ≡ false → PackageRead l f (Err refused.FileMark)
+  unmarked e = record { number = rw e; places = λ q z. cc }
 
-  pub unreadable : q10_marked f ≡ true → read_file l f ≡ none → PackageRead l f read.Unreadable
-  unfolding q11_reads
-  unreadable e n = record { number = rw (e, n); places = λ q z. absurd (clash q z) }
-    where
-      clash : (q : Places) → read.Unreadable ≡ read.Package q → ⊥
-      clash q z = let w : ◌≡◌ {A = ℕ} 0 1 = cc in omega arith
-
-  pub package_read : q10_marked f ≡ true → is_some (read_file l f) ≡ true → (q : Places) → Stand q f 7 → PackageRead l f (read.Package q)
-  unfolding q11_reads
-  package_read e n q h = record { number = rw (e, n); places = λ q' z p part. moved q' z p part }
-    where
-      moved : (q' : Places) → read.Package q ≡ read.Package q' → (p : Package) (part : FilePart l f p) → PlacesOf q' l f p part
-      moved q' z p part = let w : q ≡ q' = cc in subst (λ (x : Places). PlacesOf x l f p part) w (stand_places q l f h p part)
+  pub package_read : q10_marked f ≡ true → (r : Optional Places) → LayoutRead l f r → PackageRead l f (ok_or r refused.FileLayout)
+  package_read e None h = record { number = rw (e, sym h.reads); places = λ q z. cc }
+  package_read e (Some q) h = record { number = rw (e, sym h.reads); places = λ q' z p part. h.places q' (cc) p part }

@@ -14,8 +14,8 @@ use Rattle.places.specs.Parts.{FilePart}
 use Rattle.places.proofs.Parts.{file_parts}
 use Rattle.reader.specs.Answers.{PlacesOf, PackageRead}
 use Rattle.reader.specs.declared.Places.{Places}
-use Rattle.reader.specs.declared.Read.{Read}
-use Rattle.reader.specs.declared.Read.TheVariants as read
+use Rattle.std.specs.Prelude.{Result, Ok}
+use Rattle.refusals.specs.declared.refusal.Refusal.{Refusal}
 
 -- the file is marked and reads as a package, whose lists stand at the places q
 pub record Opened (l : Limits) (f : Bytes) (q : Places) : Type 0 where
@@ -31,7 +31,7 @@ both_yes true true e = (refl, refl)
 both_yes true false e = absurd (omega arith)
 both_yes false b e = absurd (omega arith)
 
-pub opened : (l : Limits) (f : Bytes) (r : Read) (q : Places) → r ≡ read.Package q → PackageRead l f r → Opened l f q
+pub opened : (l : Limits) (f : Bytes) (r : Result Places Refusal) (q : Places) → r ≡ Ok q → PackageRead l f r → Opened l f q
 unfolding q11_reads
 opened l f r q e h =
     let number : 0 ≡ first_no ((10, q10_marked f) ∷ (11, q11_reads (read_file l f)) ∷ []) = rw e at h.number in

@@ -9,10 +9,11 @@ ghost use Rattle.rules.specs.Package.{format_of, most_references, most_classes, 
 ghost use Rattle.rules.specs.Questions.{q10_marked};
 ghost use Rattle.cursor.specs.Says.{Stops, skip_said};
 ghost use Rattle.cursor.specs.Limits.{limits_of};
-ghost use Rattle.reader.specs.Answers.{StopsFor, ContentsRead, PackageRead};
+ghost use Rattle.reader.specs.Answers.{StopsFor, ContentsRead, LayoutRead, PackageRead};
 
-use cursor::{AidField, Cursor, Field, FilePlace, Limits, Skip};
+use cursor::{Cursor, FilePlace, Limits};
 use members::skip_methods;
+use refusals::refusal::Refusal;
 
 // "BPK", version 1, and version 2, with handlers.
 const MARK_1: [u8; 5] = [0x42, 0x50, 0x4B, 0x00, 0x01];
@@ -37,21 +38,6 @@ pub struct Places {
     pub classes: FilePlace,
 }
 
-// What follows the size: where the lists stand, and the cursor behind them.
-#[derive(Clone, Copy)]
-pub enum Contents {
-    Are(Places, Cursor),
-    Bad,
-}
-
-// A file: refused by question 10, refused by question 11, or the package.
-#[derive(Clone, Copy)]
-pub enum Read {
-    Unmarked,
-    Unreadable,
-    Package(Places),
-}
-
 // Does the file begin with mark and version, 1 or 2?
 fn marked(f: &[u8]) -> bool
     ensures { result ≡ q10_marked f.now }
@@ -66,128 +52,97 @@ fn marked(f: &[u8]) -> bool
 }
 
 // A count of at most `most` and that many parents of two bytes.
-fn skip_parents(f: &[u8], from: Cursor, most: usize) -> Skip
+fn skip_parents(f: &[u8], from: Cursor, most: usize) -> Option<Cursor>
     ensures { Stops (counted most u1 class_number) f.now from.at.0 (skip_said result) }
 {
-    let Field::Is(count, first) = from.u1(f) else {
-        return Skip::Bad;
-    };
+    let (count, first) = from.u1(f)?;
     if most < count {
-        return Skip::Bad;
+        return None;
     }
     let at = first.at.0;
     if (f.len() - at) / 2 < count {
-        return Skip::Bad;
+        return None;
     }
-    Skip::To(Cursor {
-        at: FilePlace(at + 2 * count),
-    })
+    Some(Cursor::new(at + 2 * count))
 }
 
 // A count and that many references of four bytes.
-fn skip_references(f: &[u8], from: Cursor) -> Skip
+fn skip_references(f: &[u8], from: Cursor) -> Option<Cursor>
     ensures { Stops (counted most_references u2 reference) f.now from.at.0 (skip_said result) }
 {
-    let Field::Is(count, first) = from.u2(f) else {
-        return Skip::Bad;
-    };
+    let (count, first) = from.u2(f)?;
     if MOST_REFERENCES < count {
-        return Skip::Bad;
+        return None;
     }
-    let at = first.at.0;
-    if (f.len() - at) / 4 < count {
-        return Skip::Bad;
-    }
-    Skip::To(Cursor {
-        at: FilePlace(at + 4 * count),
-    })
+    first.skip(f, 4 * count)
 }
 
 // A class: kind, parents, methods.
-fn skip_class(f: &[u8], from: Cursor, domains: usize, limits: Limits) -> Skip
+fn skip_class(f: &[u8], from: Cursor, domains: usize, limits: Limits) -> Option<Cursor>
     ensures { StopsFor domains (class (format_of (limits_of limits) f.now)) f.now from.at.0 (skip_said result) }
 {
-    let Field::Is(kind, parents) = from.u1(f) else {
-        return Skip::Bad;
-    };
+    let (kind, parents) = from.u1(f)?;
     if 1 < kind {
-        return Skip::Bad;
+        return None;
     }
-    let Skip::To(methods) = skip_parents(f, parents, limits.parents) else {
-        return Skip::Bad;
-    };
+    let methods = skip_parents(f, parents, limits.parents)?;
     skip_methods(f, methods, domains, limits)
 }
 
 // A count and that many classes.
-fn skip_classes(f: &[u8], from: Cursor, domains: usize, limits: Limits) -> Skip
+fn skip_classes(f: &[u8], from: Cursor, domains: usize, limits: Limits) -> Option<Cursor>
     ensures { StopsFor domains (λ ds. counted most_classes u1 (class (format_of (limits_of limits) f.now) ds)) f.now from.at.0 (skip_said result) }
 {
-    let Field::Is(count, first) = from.u1(f) else {
-        return Skip::Bad;
-    };
+    let (count, first) = from.u1(f)?;
     if MOST_CLASSES < count {
-        return Skip::Bad;
+        return None;
     }
     let mut c = first;
-    let mut left = count;
-    while 0 < left {
-        let Skip::To(next) = skip_class(f, c, domains, limits) else {
-            return Skip::Bad;
-        };
-        c = next;
-        left -= 1;
+    for _ in 0..count {
+        c = skip_class(f, c, domains, limits)?;
     }
-    Skip::To(c)
+    Some(c)
 }
 
-// What follows the size: the package AID and the lists.
-fn read_contents(f: &[u8], from: Cursor, limits: Limits) -> Contents
+// What follows the size: where the package AID and the lists stand, and the cursor behind them.
+fn read_contents(f: &[u8], from: Cursor, limits: Limits) -> Option<(Places, Cursor)>
     ensures { ContentsRead (limits_of limits) f.now from.at.0 result }
 {
-    let AidField::Is(_, _, domains) = from.aid(f) else {
-        return Contents::Bad;
-    };
-    let Field::Is(count, imports) = domains.aids(f, MOST_DOMAINS) else {
-        return Contents::Bad;
-    };
-    let Field::Is(_, references) = imports.aids(f, MOST_IMPORTS) else {
-        return Contents::Bad;
-    };
-    let Skip::To(classes) = skip_references(f, references) else {
-        return Contents::Bad;
-    };
-    let Skip::To(end) = skip_classes(f, classes, count, limits) else {
-        return Contents::Bad;
-    };
+    let (_, domains) = from.aid(f)?;
+    let (count, imports) = domains.aids(f, MOST_DOMAINS)?;
+    let (_, references) = imports.aids(f, MOST_IMPORTS)?;
+    let classes = skip_references(f, references)?;
+    let end = skip_classes(f, classes, count, limits)?;
     let places = Places {
-        domains: FilePlace(domains.at.0),
-        imports: FilePlace(imports.at.0),
-        references: FilePlace(references.at.0),
-        classes: FilePlace(classes.at.0),
+        domains: domains.at,
+        imports: imports.at,
+        references: references.at,
+        classes: classes.at,
     };
-    Contents::Are(places, end)
+    Some((places, end))
 }
 
-// Questions 10 and 11 of a file; where it is a package, the places of its lists.
-pub fn read_package(f: &[u8], limits: Limits) -> Read
+// 11. Where the lists of the package stand, if what follows the mark is laid out as one, to the end of the file.
+fn read_layout(f: &[u8], limits: Limits) -> Option<Places>
+    ensures { LayoutRead (limits_of limits) f.now result }
+{
+    let (size, contents) = Cursor::new(5).u2(f)?;
+    if size != f.len() {
+        return None;
+    }
+    let (places, end) = read_contents(f, contents, limits)?;
+    if end.at.0 < f.len() {
+        return None;
+    }
+    Some(places)
+}
+
+// Questions 10 and 11 of a file: the refusal of the first that is answered no, or the places of the package's lists.
+pub fn read_package(f: &[u8], limits: Limits) -> Result<Places, Refusal>
     ensures { PackageRead (limits_of limits) f.now result }
 {
     if !marked(f) {
-        return Read::Unmarked;
+        return Err(Refusal::FileMark);
     }
-    let Field::Is(size, contents) = Cursor::new(5).u2(f) else {
-        return Read::Unreadable;
-    };
-    if size != f.len() {
-        return Read::Unreadable;
-    }
-    let Contents::Are(places, end) = read_contents(f, contents, limits) else {
-        return Read::Unreadable;
-    };
-    let at = end.at.0;
-    if at < f.len() {
-        return Read::Unreadable;
-    }
-    Read::Package(places)
+    read_layout(f, limits).ok_or(Refusal::FileLayout)
 }

@@ -6,7 +6,7 @@ ghost use Rattle.cursor.specs.Says.{Stops, skip_said};
 ghost use Rattle.cursor.specs.Limits.{limits_of};
 ghost use Rattle.reader.specs.Answers.{StopsFor};
 
-use cursor::{Cursor, Field, Limits, Skip};
+use cursor::{Cursor, Limits};
 use fields::is_second;
 
 // The greatest counts.
@@ -33,123 +33,98 @@ fn is_index(index: usize, domains: usize) -> bool
 }
 
 // So many indexes, each FE or below the domain count.
-fn skip_indexes(f: &[u8], from: Cursor, count: usize, domains: usize) -> Skip
+fn skip_indexes(f: &[u8], from: Cursor, count: usize, domains: usize) -> Option<Cursor>
     requires { from.at.0 ≤ length f.now }
     ensures { StopsFor domains (λ ds. many count (item ds)) f.now from.at.0 (skip_said result) }
 {
     let mut c = from;
-    let mut left = count;
-    while 0 < left {
-        let Field::Is(index, next) = c.u1(f) else {
-            return Skip::Bad;
-        };
+    for _ in 0..count {
+        let (index, next) = c.u1(f)?;
         if !is_index(index, domains) {
-            return Skip::Bad;
+            return None;
         }
         c = next;
-        left -= 1;
     }
-    Skip::To(c)
+    Some(c)
 }
 
 // What a method allows: FF alone, or a count and that many indexes.
-fn skip_policy(f: &[u8], from: Cursor, domains: usize) -> Skip
+fn skip_policy(f: &[u8], from: Cursor, domains: usize) -> Option<Cursor>
     ensures { StopsFor domains policy f.now from.at.0 (skip_said result) }
 {
-    let Field::Is(count, next) = from.u1(f) else {
-        return Skip::Bad;
-    };
+    let (count, next) = from.u1(f)?;
     if count == EVERY {
-        return Skip::To(next);
+        return Some(next);
     }
     if MOST_ALLOWED < count {
-        return Skip::Bad;
+        return None;
     }
     skip_indexes(f, next, count, domains)
 }
 
 // If implemented, the code's length and the code.
-fn skip_code(f: &[u8], from: Cursor, implemented: bool, limits: Limits) -> Skip
+fn skip_code(f: &[u8], from: Cursor, implemented: bool, limits: Limits) -> Option<Cursor>
     requires { from.at.0 ≤ length f.now }
     ensures { Stops (code_if (limits_of limits) implemented) f.now from.at.0 (skip_said result) }
 {
     if !implemented {
-        return Skip::To(from);
+        return Some(from);
     }
-    let Field::Is(size, next) = from.u2(f) else {
-        return Skip::Bad;
-    };
+    let (size, next) = from.u2(f)?;
     if size < 1 {
-        return Skip::Bad;
+        return None;
     }
     let most = limits.code;
     if most < size {
-        return Skip::Bad;
+        return None;
     }
     next.skip(f, size)
 }
 
 // If implemented and of the second edition, a count and that many handlers of six bytes.
-fn skip_handlers(f: &[u8], from: Cursor, implemented: bool) -> Skip
+fn skip_handlers(f: &[u8], from: Cursor, implemented: bool) -> Option<Cursor>
     requires { from.at.0 ≤ length f.now }
     ensures { Stops (handlers_if (edition_of f.now) implemented) f.now from.at.0 (skip_said result) }
 {
     if !implemented {
-        return Skip::To(from);
+        return Some(from);
     }
     if !is_second(f) {
-        return Skip::To(from);
+        return Some(from);
     }
-    let Field::Is(count, first) = from.u1(f) else {
-        return Skip::Bad;
-    };
+    let (count, first) = from.u1(f)?;
     if MOST_HANDLERS < count {
-        return Skip::Bad;
+        return None;
     }
     first.skip(f, 6 * count)
 }
 
 // A method: bitfield, name, allowed domains, code, handlers.
-fn skip_method(f: &[u8], from: Cursor, domains: usize, limits: Limits) -> Skip
+fn skip_method(f: &[u8], from: Cursor, domains: usize, limits: Limits) -> Option<Cursor>
     ensures { StopsFor domains (method (format_of (limits_of limits) f.now)) f.now from.at.0 (skip_said result) }
 {
-    let Field::Is(bits, name) = from.u1(f) else {
-        return Skip::Bad;
-    };
+    let (bits, name) = from.u1(f)?;
     if bits % 32 != 0 {
-        return Skip::Bad;
+        return None;
     }
-    let Field::Is(_, allowed) = name.u2(f) else {
-        return Skip::Bad;
-    };
-    let Skip::To(code) = skip_policy(f, allowed, domains) else {
-        return Skip::Bad;
-    };
+    let (_, allowed) = name.u2(f)?;
+    let code = skip_policy(f, allowed, domains)?;
     let implemented = bits / 64 % 2 == 1;
-    let Skip::To(handlers) = skip_code(f, code, implemented, limits) else {
-        return Skip::Bad;
-    };
+    let handlers = skip_code(f, code, implemented, limits)?;
     skip_handlers(f, handlers, implemented)
 }
 
 // A count and that many methods.
-pub fn skip_methods(f: &[u8], from: Cursor, domains: usize, limits: Limits) -> Skip
+pub fn skip_methods(f: &[u8], from: Cursor, domains: usize, limits: Limits) -> Option<Cursor>
     ensures { StopsFor domains (λ ds. counted most_methods u1 (method (format_of (limits_of limits) f.now) ds)) f.now from.at.0 (skip_said result) }
 {
-    let Field::Is(count, first) = from.u1(f) else {
-        return Skip::Bad;
-    };
+    let (count, first) = from.u1(f)?;
     if MOST_METHODS < count {
-        return Skip::Bad;
+        return None;
     }
     let mut c = first;
-    let mut left = count;
-    while 0 < left {
-        let Skip::To(next) = skip_method(f, c, domains, limits) else {
-            return Skip::Bad;
-        };
-        c = next;
-        left -= 1;
+    for _ in 0..count {
+        c = skip_method(f, c, domains, limits)?;
     }
-    Skip::To(c)
+    Some(c)
 }

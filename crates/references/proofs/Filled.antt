@@ -1,4 +1,5 @@
 -- A table in which what references name is written place by place, and what it tells of those of a group. Assumes nothing.
+use Rattle.std.specs.Prelude.{Option as Optional}
 use Prim.Native.Nat.{ℕ, ◌+◌, ◌-◌, ◌<◌, ◌≤◌}
 use native.Mathlib.Omega.{arith}
 use native.Mathlib.Decide.{dec_le}
@@ -12,10 +13,11 @@ use borrow.Author.Tests.{ltb-true, leb-true, leb-false, lt-leb}
 use Rattle.rules.specs.Bytes.{Bytes, pick}
 use Rattle.rules.proofs.Lists.{same_or_not}
 use Rattle.rules.proofs.Tests.{and_l, and_r, is_true, of_true}
+use Rattle.homes.specs.declared.Home.{Home}
 use Rattle.references.specs.Named.{GroupTrue, ReferenceIs, ToldIs}
-use Rattle.references.specs.Kept.{kept_count, kept_length, told_at, told_of, is_told, KeptIs, SameTold, KeptTrue, SearchedIn, AllTold, in_group, told_in}
+use Rattle.references.specs.Kept.{held, kept_count, kept_length, told_at, told_of, is_told, KeptIs, SameTold, KeptTrue, SearchedIn, AllTold, in_group, told_in}
+use Rattle.references.specs.declared.Meant.{Meant}
 use Rattle.references.specs.declared.Group.{Group}
-use Rattle.references.specs.declared.NamedFound.{NamedFound}
 use Rattle.references.specs.declared.Told.{Told}
 use Rattle.references.specs.declared.Told.TheVariants as told
 use Rattle.references.proofs.Telling.{told_kept, named_told, named_known, reference_past}
@@ -54,13 +56,9 @@ module _ (f s : Bytes) (g : Group) {t : List ℕ} where
     pub kept_again : KeptTrue f s g t → KeptTrue f s g u
     kept_again p = record { size = e ∙ p.size; told = λ j l m. written j (λ z. p.told j l m) }
 
-  -- all that the file has, or all that the table holds
-  module _ {k : ℕ} (p : KeptBelow f s g k t) where
-    pub kept_file : g.count ≤ g.first + k → KeptTrue f s g t
-    kept_file l = record { size = p.size; told = λ j a b. p.told j (omega arith) }
-
-    pub kept_full : kept_count ≤ k → KeptTrue f s g t
-    kept_full l = record { size = p.size; told = λ j a b. p.told j (omega arith) }
+  -- all that the table holds of the file's
+  pub kept_full : {k : ℕ} → held g ≤ k → KeptBelow f s g k t → KeptTrue f s g t
+  kept_full l p = record { size = p.size; told = λ j a b. p.told j (omega arith) }
 
   -- the same is told
   pub kept_same : {u : List ℕ} → SameTold t u → KeptTrue f s g t → KeptTrue f s g u
@@ -87,9 +85,18 @@ told_on {k = k} {t} {u} w p j l = which (same_or_not j k)
     which (inl z) = subst (λ (i : ℕ). is_told (told_at u i) ≡ true) (sym z) w.told
     which (inr z) = ap is_told (w.others j z) ∙ p j (below j l z)
 
+pub told_full : (g : Group) (t : List ℕ) (k : ℕ) → held g ≤ k → ToldBelow k t → AllTold g t
+told_full g t k n p j l m = p j (omega arith)
+
+-- what is not open is told
+pub told_unless : (r : Told) → ((h : Home) (i : ℕ) → r ≡ told.Open h i → ⊥) → is_told r ≡ true
+told_unless (told.Method x) n = refl
+told_unless told.Nothing n = refl
+told_unless (told.Open h i) n = absurd (n h i refl)
+
 -- a place whose reference was searched, or was not open
 module _ (f s : Bytes) (g : Group) {t : List ℕ} (k : ℕ) (p : KeptTrue f s g t) where
-  pub searched : {u : List ℕ} (x : NamedFound) → ReferenceIs f s g.end (g.first + k) x → KeptIs t u k (told_of x) → length u ≡ length t →
+  pub searched : {u : List ℕ} (x : Optional Meant) → ReferenceIs f s g.end (g.first + k) x → KeptIs t u k (told_of x) → length u ≡ length t →
       SearchedIn f s g k t u
   searched x q w e = record {
     kept = kept_again f s g (told_of x) (named_told (g.first + k) x q) w e p;

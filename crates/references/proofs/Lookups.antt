@@ -1,4 +1,7 @@
 -- What a reference names, step by step: its numbers and name, the class record, the declaration meant. Assumes nothing.
+use Rattle.std.specs.Prelude.{Some, None}
+use Rattle.std.specs.Prelude.{Option as Optional}
+use Rattle.files.specs.declared.Reference.{Reference as Naming}
 use Prim.Native.Nat.{ℕ, zero, suc, ◌≤◌}
 use native.Mathlib.Omega.{arith}
 use mathlib.Core.Path.{◌≡◌, refl, sym, ◌∙◌, ap, subst}
@@ -6,6 +9,7 @@ use mathlib.Core.Bool.{Bool, not}
 use mathlib.Core.List.{List}
 use mathlib.Core.Option.{Option, none, some}
 use lib.ListN.{length}
+use Rattle.std.specs.Prelude.{Some, None}
 use Rattle.rules.specs.Bytes.{Bytes, at, ◌and_then◌}
 use Rattle.rules.specs.Package.{Reference, Method, Class}
 use Rattle.rules.specs.Store.{Entry, first_entry, store_limits}
@@ -16,24 +20,16 @@ use Rattle.rules.specs.Questions.{Named, reference_names}
 use Rattle.places.proofs.Track.{placed_at, placed_none}
 use Rattle.files.specs.Say.{referenced, Readable, ReferencesAt, ReferenceNth, InterfaceIs, DeclaredPlaced}
 use Rattle.files.specs.Say as say
-use Rattle.files.specs.declared.Spot.TheVariants.{At, Nothing}
-use Rattle.files.specs.declared.Referenced.{Referenced}
-use Rattle.files.specs.declared.Referenced.TheVariants as referenced'
 use Rattle.files.proofs.Walks.{references_read}
 use Rattle.homes.specs.Homes.{file_of, HomeIs, own, HomeThere, NumberedIs, ClassPlaced, own_home}
 use Rattle.homes.specs.declared.Home.{Home}
-use Rattle.homes.specs.declared.HomeFound.TheVariants as homes
 use Rattle.homes.proofs.Homes.{home_bounds, home_below}
 use Rattle.slots.specs.Slots.{SmallHome}
 use Rattle.search.specs.Search.{SearchIs, DeclaredThere}
 use Rattle.search.specs.declared.Sought.{Sought}
-use Rattle.search.specs.declared.Declared.TheVariants as found'
 use Rattle.references.specs.Setting.{Loading, imports_of, setting_of, Judged, OfJudged}
 use Rattle.references.specs.Named.{ClassThere, ClassIs, RecordThere, NamedIs, named_from, MeantIs, NumbersName, ReferenceIs}
-use Rattle.references.specs.declared.Naming.{Naming}
-use Rattle.references.specs.declared.NamedFound.{NamedFound}
-use Rattle.references.specs.declared.NamedFound.TheVariants as found
-use Rattle.references.specs.declared.ClassNamed.TheVariants as named
+use Rattle.references.specs.declared.Meant.{Meant}
 use Rattle.references.specs.declared.NamedRecord.{NamedRecord}
 
 -- the file being judged reads, and lies at its own home
@@ -54,35 +50,35 @@ there_small {f} {s} h t z =
 
 -- the package that a number stands for in the file being judged
 module _ {f s : Bytes} {end : ℕ} where
-  pub numbered_at : (p : ℕ) (h : Home) → NumberedIs f s (own_home end) p (homes.At h) →
+  pub numbered_at : (p : ℕ) (h : Home) → NumberedIs f s (own_home end) p (Some h) →
       OfJudged f s end λ es self. (y : Installed) × (package_numbered (installed (store_limits s) es) self p ≡ some y) × HomeIs f s end es self h y
   numbered_at zero h q es self i = (self, refl, subst (λ (g : Home). HomeIs f s end es self g self) (same_home q) own)
     where
-      same_home : homes.At h ≡ homes.At (own_home end) → own_home end ≡ h
+      same_home : Some h ≡ Some (own_home end) → own_home end ≡ h
       same_home e = cc
   numbered_at (suc p) h q es self i = let z = q end es self (imports_of i) self own in (z.0, z.1, z.2)
 
-  pub numbered_there : (p : ℕ) (h : Home) → NumberedIs f s (own_home end) p (homes.At h) → Judged f s end → HomeThere f s h
+  pub numbered_there : (p : ℕ) (h : Home) → NumberedIs f s (own_home end) p (Some h) → Judged f s end → HomeThere f s h
   numbered_there p h q g = let z = numbered_at p h q g.0 g.1 g.2 in (end, g.0, g.1, imports_of g.2, z.0, z.2)
 
   -- where it stands for none no class is named
-  pub numbered_none : (p c : ℕ) → NumberedIs f s (own_home end) p homes.Nothing → ClassIs f s end p c named.Nothing
+  pub numbered_none : (p c : ℕ) → NumberedIs f s (own_home end) p None → ClassIs f s end p c None
   numbered_none zero c q es self i = absurd (clash q)
     where
-      clash : homes.Nothing ≡ homes.At (own_home end) → ⊥
+      clash : None ≡ Some (own_home end) → ⊥
       clash e = let z : ◌≡◌ {A = ℕ} 0 1 = cc in omega arith
   numbered_none (suc p) c q es self i = rw (q end es self (imports_of i) self own)
 
   -- the class named, where its record stands
-  pub class_found_lem : (p c : ℕ) (h : Home) (i : ℕ) → NumberedIs f s (own_home end) p (homes.At h) → ClassPlaced f s h c (At i) →
-      ClassIs f s end p c (named.At h i)
+  pub class_found_lem : (p c : ℕ) (h : Home) (i : ℕ) → NumberedIs f s (own_home end) p (Some h) → ClassPlaced f s h c (Some i) →
+      ClassIs f s end p c (Some (record { home = h; place = i }))
   class_found_lem p c h i q r es self m =
       let z = numbered_at p h q es self m in
       let w = placed_at (r end es self (imports_of m) z.0 z.2) in
       record { pack = z.0; numbered = z.1; lies = z.2; known = w.0; is = w.2; to = w.1; reads = w.3 }
 
-  pub class_missing : (p c : ℕ) (h : Home) → NumberedIs f s (own_home end) p (homes.At h) → ClassPlaced f s h c Nothing →
-      ClassIs f s end p c named.Nothing
+  pub class_missing : (p c : ℕ) (h : Home) → NumberedIs f s (own_home end) p (Some h) → ClassPlaced f s h c None →
+      ClassIs f s end p c None
   class_missing p c h q r es self m =
       let z = numbered_at p h q es self m in
       rw z.1 (placed_none (r end es self (imports_of m) z.0 z.2))
@@ -113,7 +109,7 @@ module _ {f s : Bytes} (x : Sought) (r : NamedRecord) (t : RecordThere f s x r) 
       rw z.is (ap not w)
 
   -- what is named by the class and the name sought
-  means : (q : NamedFound) → ((es : List Entry) (self : Installed) → Loading f s x.end es self →
+  means : (q : Optional Meant) → ((es : List Entry) (self : Installed) → Loading f s x.end es self →
       (z : ClassThere f s x.end es self r.pack x.number x.home r.place) →
       NamedIs f s x.end es self (named_from (store_limits s) (installed (store_limits s) es) (record { home = z.pack; number = x.number }) x.name) q) →
       MeantIs f s x r q
@@ -129,10 +125,10 @@ module _ {f s : Bytes} (x : Sought) (r : NamedRecord) (t : RecordThere f s x r) 
 
   -- its own declaration
   module _ (b : Bool) (h : InterfaceIs g r.place b) where
-    pub own_meant : (v : ℕ) → DeclaredPlaced g r.place x.name (At v) →
-        MeantIs f s x r (found.Method (record { home = x.home; class = r.place; method = v; kind0 = not b; pack = r.pack }))
-    own_meant v d = means (found.Method (record { home = x.home; class = r.place; method = v; kind0 = not b; pack = r.pack })) λ es self m z.
-        let u = subst (λ (w : Bytes). DeclaredPlaced w r.place x.name (At v)) e d in
+    pub own_meant : (v : ℕ) → DeclaredPlaced g r.place x.name (Some v) →
+        MeantIs f s x r (Some (record { home = x.home; class = r.place; method = v; kind0 = not b; pack = r.pack }))
+    own_meant v d = means (Some (record { home = x.home; class = r.place; method = v; kind0 = not b; pack = r.pack })) λ es self m z.
+        let u = subst (λ (w : Bytes). DeclaredPlaced w r.place x.name (Some v)) e d in
         let w = placed_at (u (store_limits s) z.pack.pack.domains z.known z.to z.reads) in
         let c : ClassAt = record { home = z.pack; number = x.number } in
         let y : MethodAt = record { class = c; method = w.0 } in
@@ -152,9 +148,9 @@ module _ {f s : Bytes} (x : Sought) (r : NamedRecord) (t : RecordThere f s x r) 
         (n, found, record { declared = there; kind0 = kind_is b h es self m z; numbered = λ l. z.numbered })
 
     -- that of a class above it, or none
-    pub above_meant : (h' : Home) (c m : ℕ) → SearchIs f s x (found'.At h' c m) →
-        MeantIs f s x r (found.Method (record { home = h'; class = c; method = m; kind0 = not b; pack = 16 }))
-    above_meant h' c m q = means (found.Method (record { home = h'; class = c; method = m; kind0 = not b; pack = 16 })) λ es self i z.
+    pub above_meant : (h' : Home) (c m : ℕ) → SearchIs f s x (Some (record { home = h'; class = c; method = m })) →
+        MeantIs f s x r (Some (record { home = h'; class = c; method = m; kind0 = not b; pack = 16 }))
+    above_meant h' c m q = means (Some (record { home = h'; class = c; method = m; kind0 = not b; pack = 16 })) λ es self i z.
         let w = q es self i.judged z.pack z.lies z.known z.is in
         let k : ClassAt = record { home = z.pack; number = x.number } in (
           record { class = k; means = w.0 },
@@ -162,8 +158,8 @@ module _ {f s : Bytes} (x : Sought) (r : NamedRecord) (t : RecordThere f s x r) 
           record { declared = w.2; kind0 = kind_is b h es self i z; numbered = λ l. absurd (omega arith) },
         )
 
-    pub none_meant : SearchIs f s x found'.Nothing → MeantIs f s x r found.Nothing
-    none_meant q = means found.Nothing λ es self i z. rw (q es self i.judged z.pack z.lies z.known z.is)
+    pub none_meant : SearchIs f s x None → MeantIs f s x r None
+    none_meant q = means None λ es self i z. rw (q es self i.judged z.pack z.lies z.known z.is)
 
 -- a reference's numbers and name
 abbrev pub naming : ℕ → ℕ → ℕ → Naming
@@ -176,7 +172,7 @@ nothing_declared is (suc k) c n e = rw e
 
 -- the class named, and the name
 module _ {f s : Bytes} {end : ℕ} (p c n : ℕ) where
-  pub numbers_missing : ClassIs f s end p c named.Nothing → NumbersName f s end (naming p c n) found.Nothing
+  pub numbers_missing : ClassIs f s end p c None → NumbersName f s end (naming p c n) None
   numbers_missing q es self m = unnamed (class_named (installed (store_limits s) es) self (record { pack = p; class = c })) (q es self m)
     where
       is : List Installed
@@ -186,7 +182,7 @@ module _ {f s : Bytes} {end : ℕ} (p c n : ℕ) where
       unnamed none e = refl
       unnamed (some d) e = rw (nothing_declared is (store_limits s).depth d n e)
 
-  pub numbers_named : (h : Home) (i : ℕ) → ClassIs f s end p c (named.At h i) → (q : NamedFound) →
+  pub numbers_named : (h : Home) (i : ℕ) → ClassIs f s end p c (Some (record { home = h; place = i })) → (q : Optional Meant) →
       MeantIs f s (record { end = end; home = h; number = c; name = n }) (record { pack = p; place = i }) q → NumbersName f s end (naming p c n) q
   numbers_named h i t q d es self m =
       let z = t es self m in
@@ -197,15 +193,15 @@ module _ {f s : Bytes} {end : ℕ} (p c n : ℕ) where
 
 -- the numbers and the name of a reference
 module _ {f s : Bytes} {end : ℕ} (i k : ℕ) (a : ReferencesAt f i) where
-  pub reference_is_lem : (r : Referenced) → ReferenceNth f i k r → OfJudged f s end λ es self. at self.pack.references k ≡ referenced r
+  pub reference_is_lem : (r : Optional Naming) → ReferenceNth f i k r → OfJudged f s end λ es self. at self.pack.references k ≡ referenced r
   reference_is_lem r q es self m = let z = references_read a (store_limits s) self.pack (setting_of m).reads in sym (q self.pack.references z.0 z.1)
 
-  pub reference_named_lem : (p c n : ℕ) → ReferenceNth f i k (referenced'.To p c n) → (r : NamedFound) → NumbersName f s end (naming p c n) r →
+  pub reference_named_lem : (p c n : ℕ) → ReferenceNth f i k (Some (naming p c n)) → (r : Optional Meant) → NumbersName f s end (naming p c n) r →
       ReferenceIs f s end k r
   reference_named_lem p c n q r d es self m =
-      let e = reference_is_lem (referenced'.To p c n) q es self m in
+      let e = reference_is_lem (Some (naming p c n)) q es self m in
       let is = installed (store_limits s) es in
       subst (λ (o : Option Reference). NamedIs f s end es self (o and_then reference_names (store_limits s) is self) r) (sym e) (d es self m)
 
-  pub reference_none : ReferenceNth f i k referenced'.Nothing → ReferenceIs f s end k found.Nothing
-  reference_none q es self m = rw (reference_is_lem referenced'.Nothing q es self m)
+  pub reference_none : ReferenceNth f i k None → ReferenceIs f s end k None
+  reference_none q es self m = rw (reference_is_lem None q es self m)

@@ -16,18 +16,10 @@ use Rattle.homes.specs.declared.Home.{Home}
 use Rattle.slots.specs.Slots.{home_in, with_home}
 use Rattle.slots.proofs.Slots.{home_is, home_length, home_other, home_written}
 use Rattle.rules.proofs.Lists.{same_or_not}
-use Rattle.references.specs.Kept.{row_of, bit_of, mark_of, no_mark, open_mark, meant_at, told_from, told_at, kept_meant, is_told, with_row, with_meant, with_nothing, with_open, KeptIs, SameTold}
+use Rattle.references.specs.Kept.{row_of, bit_of, mark_of, no_mark, open_mark, wanted_mark, meant_at, told_from, told_at, kept_meant, is_told, with_row, with_meant, with_nothing, with_open, KeptIs, SameTold}
 use Rattle.references.specs.declared.Meant.{Meant}
 use Rattle.references.specs.declared.Told.{Told}
 use Rattle.references.specs.declared.Told.TheVariants as told
-
--- a row is at most 16
-row_most : (p : ℕ) → row_of p ≤ 16
-row_most p = go (ltb p 16) refl
-  where
-    go : (b : Bool) → ltb p 16 ≡ b → pick b p 16 ≤ 16
-    go true e = omega (arith, borrow.Author.Tests.ltb-true p 16 e)
-    go false e = omega arith
 
 -- the mark of a declaration tells row and kind
 module _ (x : Meant) where
@@ -49,8 +41,8 @@ module _ (x : Meant) where
   mark_below = go x.kind0
     where
       go : (b : Bool) → 2 * row_of x.pack + bit_of b < no_mark
-      go true = omega (arith, row_most x.pack)
-      go false = omega (arith, row_most x.pack)
+      go true = omega arith
+      go false = omega arith
 
   mark_some : eqb (mark_of x) no_mark ≡ false
   mark_some = ne_eqb (mark_of x) no_mark (λ e. omega (arith, mark_below, e))
@@ -176,23 +168,23 @@ open_mark_lem t i n = go (eqb n no_mark) (ltb no_mark n)
     go false false e = let z : ◌≡◌ {A = ℕ} 0 1 = cc in absurd (omega arith)
 
 -- it is still open, and the same is told of it, where it is wanted
-pub still_open : (t u : List ℕ) (k : ℕ) → 6 * k + 5 < length t → is_told (told_at t k) ≡ false → u ≡ set t (6 * k + 5) 36 → SameTold t u
-still_open t u k room q e = rw e (record { size = length-set t (6 * k + 5) 36; told = λ j. which j (same_or_not j k) })
+pub still_open : (t u : List ℕ) (k : ℕ) → 6 * k + 5 < length t → is_told (told_at t k) ≡ false → u ≡ set t (6 * k + 5) wanted_mark → SameTold t u
+still_open t u k room q e = rw e (record { size = length-set t (6 * k + 5) wanted_mark; told = λ j. which j (same_or_not j k) })
   where
-    below : (d : ℕ) → d < 5 → get_or (set t (6 * k + 5) 36) (6 * k + d) 0 ≡ get_or t (6 * k + d) 0
-    below d l = get_or-set_other t (6 * k + 5) (6 * k + d) 36 0 (λ e. omega arith)
+    below : (d : ℕ) → d < 5 → get_or (set t (6 * k + 5) wanted_mark) (6 * k + d) 0 ≡ get_or t (6 * k + d) 0
+    below d l = get_or-set_other t (6 * k + 5) (6 * k + d) wanted_mark 0 (λ e. omega arith)
 
-    home : home_in (set t (6 * k + 5) 36) (6 * k) ≡ home_in t (6 * k)
+    home : home_in (set t (6 * k + 5) wanted_mark) (6 * k) ≡ home_in t (6 * k)
     home =
-        let from : get_or (set t (6 * k + 5) 36) (6 * k) 0 ≡ get_or t (6 * k) 0 = rw zero_on at (below 0 (omega arith)) in
-        home_is (home_in (set t (6 * k + 5) 36) (6 * k)) (home_in t (6 * k)) from (below 1 (omega arith)) (below 2 (omega arith))
+        let from : get_or (set t (6 * k + 5) wanted_mark) (6 * k) 0 ≡ get_or t (6 * k) 0 = rw zero_on at (below 0 (omega arith)) in
+        home_is (home_in (set t (6 * k + 5) wanted_mark) (6 * k)) (home_in t (6 * k)) from (below 1 (omega arith)) (below 2 (omega arith))
 
-    here : told_at (set t (6 * k + 5) 36) k ≡ told_at t k
-    here = rw (get_or-set_same t (6 * k + 5) 36 0 room, home, below 3 (omega arith)) (sym (open_mark_lem t (6 * k) (get_or t (6 * k + 5) 0) q))
+    here : told_at (set t (6 * k + 5) wanted_mark) k ≡ told_at t k
+    here = rw (get_or-set_same t (6 * k + 5) wanted_mark 0 room, home, below 3 (omega arith)) (sym (open_mark_lem t (6 * k) (get_or t (6 * k + 5) 0) q))
 
-    which : (j : ℕ) → (j ≡ k) ⊎ (j ≡ k → ⊥) → told_at (set t (6 * k + 5) 36) j ≡ told_at t j
-    which j (inl w) = subst (λ (i : ℕ). told_at (set t (6 * k + 5) 36) i ≡ told_at t i) (sym w) here
-    which j (inr w) = marked_others t (set t (6 * k + 5) 36) k room told.Nothing 36 j w
+    which : (j : ℕ) → (j ≡ k) ⊎ (j ≡ k → ⊥) → told_at (set t (6 * k + 5) wanted_mark) j ≡ told_at t j
+    which j (inl w) = subst (λ (i : ℕ). told_at (set t (6 * k + 5) wanted_mark) i ≡ told_at t i) (sym w) here
+    which j (inr w) = marked_others t (set t (6 * k + 5) wanted_mark) k room told.Nothing wanted_mark j w
 
 -- a declaration is its places and what else is told of it
 meant_of : Home → ℕ → ℕ → Bool → ℕ → Meant
@@ -212,14 +204,12 @@ module _ (t : List ℕ) (k n : ℕ) (mark : n ≡ get_or t (6 * k + 5) 0) where
   pub nothing_read : n ≡ no_mark → told.Nothing ≡ told_at t k
   nothing_read e = rw (← mark, eq-eqb n no_mark e)
 
-  pub open_read : no_mark < n → (h : Home) (c : ℕ) → h.from ≡ get_or t (6 * k) 0 → h.to ≡ get_or t (6 * k + 1) 0 → h.before ≡ get_or t (6 * k + 2) 0 →
-      c ≡ get_or t (6 * k + 3) 0 → told.Open h c ≡ told_at t k
-  open_read e h c from to before class =
-      rw (← mark, ne_eqb n no_mark (λ z. omega (arith, e, z)), lt-ltb no_mark n e, home_is h (home_in t (6 * k)) from to before, class)
+  pub open_read : no_mark < n → (h : Home) (c : ℕ) → h ≡ home_in t (6 * k) → c ≡ get_or t (6 * k + 3) 0 → told.Open h c ≡ told_at t k
+  open_read e h c home class =
+      rw (← mark, ne_eqb n no_mark (λ z. omega (arith, e, z)), lt-ltb no_mark n e, home, class)
 
-  pub meant_read : (n ≡ no_mark → ⊥) → n ≤ no_mark → (x : Meant) → x.home.from ≡ get_or t (6 * k) 0 → x.home.to ≡ get_or t (6 * k + 1) 0 →
-      x.home.before ≡ get_or t (6 * k + 2) 0 → x.class ≡ get_or t (6 * k + 3) 0 → x.method ≡ get_or t (6 * k + 4) 0 → x.kind0 ≡ eqb (n % 2) 1 →
+  pub meant_read : (n ≡ no_mark → ⊥) → n ≤ no_mark → (x : Meant) → x.home ≡ home_in t (6 * k) → x.class ≡ get_or t (6 * k + 3) 0 → x.method ≡ get_or t (6 * k + 4) 0 → x.kind0 ≡ eqb (n % 2) 1 →
       x.pack ≡ n / 2 → told.Method x ≡ told_at t k
-  meant_read e l x from to before class method kind0 pack =
+  meant_read e l x home class method kind0 pack =
       rw (← mark, ne_eqb n no_mark e, le-ltb no_mark n l)
-      (ap told.Method (meant_is x (meant_at t (6 * k) n) (home_is x.home (home_in t (6 * k)) from to before) class method kind0 pack))
+      (ap told.Method (meant_is x (meant_at t (6 * k) n) home class method kind0 pack))

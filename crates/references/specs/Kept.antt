@@ -1,6 +1,6 @@
 -- What references name, kept in a table for as many as it holds: six numbers for each. Assumes nothing.
 --
--- kept_count, kept_length == how many references the table holds, and its numbers in all
+-- kept_count, kept_length == how many references the table holds, and its numbers in all; held g == how many of the file it holds for the group
 -- row_of p              == the row of the domains of package number p: that number below 16, else 16
 -- mark_of x             == the mark of a declaration: twice the row, and one more where the class named is of kind 0
 -- told_at t k           == what the table t tells in place k
@@ -16,15 +16,15 @@
 -- AllTold g t          == none of these is open
 -- in_group g k          == calls of reference k are asked with the group
 -- told_in t g k         == what is told of reference k by the table of the group
-use Rattle.std.specs.Prelude.{ℕ, ◌+◌, ◌-◌, ◌*◌, ◌/◌, ◌%◌, ◌<◌, ◌≤◌, ◌≡◌, Bool, true, false, ◌&&◌, ◌||◌, List, eqb, leb, ltb, length, get_or, set}
+use Rattle.std.specs.Prelude.{Some, None}
+use Rattle.std.specs.Prelude.{Option as Optional}
+use Rattle.std.specs.Prelude.{ℕ, ◌+◌, ◌-◌, ◌*◌, ◌/◌, ◌%◌, ◌<◌, ◌≤◌, ◌≡◌, Bool, true, false, ◌&&◌, ◌||◌, List, eqb, leb, ltb, length, get_or, set, min}
 use Rattle.rules.specs.Bytes.{Bytes, pick}
 use Rattle.homes.specs.declared.Home.{Home}
 use Rattle.slots.specs.Slots.{home_in, with_home, SmallHome}
 use Rattle.references.specs.Named.{ToldIs}
 use Rattle.references.specs.declared.Group.{Group}
 use Rattle.references.specs.declared.Meant.{Meant}
-use Rattle.references.specs.declared.NamedFound.{NamedFound}
-use Rattle.references.specs.declared.NamedFound.TheVariants as found
 use Rattle.references.specs.declared.Told.{Told}
 use Rattle.references.specs.declared.Told.TheVariants as told
 
@@ -34,8 +34,11 @@ kept_count = 32
 abbrev pub kept_length : ℕ
 kept_length = 192
 
+abbrev pub held : Group → ℕ
+held g = min (g.count - g.first) kept_count
+
 abbrev pub row_of : ℕ → ℕ
-row_of p = pick (ltb p 16) p 16
+row_of p = min p 16
 
 abbrev pub bit_of : Bool → ℕ
 bit_of false = 0
@@ -44,12 +47,15 @@ bit_of true = 1
 abbrev pub mark_of : Meant → ℕ
 mark_of x = 2 * row_of x.pack + bit_of x.kind0
 
--- the marks where nothing is named, and where it is open
+-- the marks where nothing is named, where it is open, and where a call asked for it too
 abbrev pub no_mark : ℕ
 no_mark = 34
 
 abbrev pub open_mark : ℕ
 open_mark = 35
+
+abbrev pub wanted_mark : ℕ
+wanted_mark = 36
 
 -- the declaration that six numbers from number i on tell, the last of them being n
 abbrev pub meant_at : List ℕ → ℕ → ℕ → Meant
@@ -61,9 +67,9 @@ told_from t i n = pick (eqb n no_mark) told.Nothing (pick (ltb no_mark n) (told.
 abbrev pub told_at : List ℕ → ℕ → Told
 told_at t k = told_from t (6 * k) (get_or t (6 * k + 5) 0)
 
-abbrev pub told_of : NamedFound → Told
-told_of (found.Method x) = told.Method x
-told_of found.Nothing = told.Nothing
+abbrev pub told_of : Optional Meant → Told
+told_of (Some x) = told.Method x
+told_of None = told.Nothing
 
 abbrev pub kept_meant : Meant → Meant
 kept_meant x = record { home = x.home; class = x.class; method = x.method; kind0 = x.kind0; pack = row_of x.pack }
@@ -95,9 +101,9 @@ pub record SmallMeant (x : Meant) : Type 0 where
   pub class : x.class ≤ 65535
   pub method : x.method ≤ 65535
 
-abbrev pub SmallFound : NamedFound → Type 0
-SmallFound (found.Method x) = SmallMeant x
-SmallFound found.Nothing = Unit
+abbrev pub SmallFound : Optional Meant → Type 0
+SmallFound (Some x) = SmallMeant x
+SmallFound None = Unit
 
 abbrev pub SmallTold : Told → Type 0
 SmallTold (told.Method x) = SmallMeant x

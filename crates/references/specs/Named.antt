@@ -10,6 +10,8 @@
 -- OpenFrom f s end k h i == reference k of the file names a class of the package at home h, whose record stands at place i of the file there
 -- ToldOf q o r           == q holds of what r tells, or o of the class that it tells where it is open; OwnMeant, NumbersTell, ToldIs == so of
 --                           MeantIs, NumbersName, ReferenceIs
+use Rattle.std.specs.Prelude.{Some, None}
+use Rattle.std.specs.Prelude.{Option as Optional}
 use Rattle.std.specs.Prelude.{ℕ, ◌<◌, ◌≤◌, ◌≡◌, List, length}
 use Rattle.std.proofs.Math.Option.{Option, none, some}
 use Rattle.rules.specs.Bytes.{Bytes, at, ◌and_then◌}
@@ -30,13 +32,10 @@ use Rattle.search.specs.declared.Sought.{Sought}
 use Rattle.references.specs.Setting.{OfJudged}
 use Rattle.references.specs.declared.Group.{Group}
 use Rattle.references.specs.declared.Meant.{Meant}
-use Rattle.references.specs.declared.Naming.{Naming}
-use Rattle.references.specs.declared.NamedFound.{NamedFound}
-use Rattle.references.specs.declared.NamedFound.TheVariants as found
+use Rattle.files.specs.declared.Reference.{Reference as Naming}
 use Rattle.references.specs.declared.Told.{Told}
 use Rattle.references.specs.declared.Told.TheVariants as told
-use Rattle.references.specs.declared.ClassNamed.{ClassNamed}
-use Rattle.references.specs.declared.ClassNamed.TheVariants as named
+use Rattle.references.specs.declared.ClassRecord.{ClassRecord}
 use Rattle.references.specs.declared.NamedRecord.{NamedRecord}
 
 pub record GroupTrue (f : Bytes) (g : Group) : Type 0 where
@@ -63,11 +62,11 @@ pub record ClassThere (f s : Bytes) (end : ℕ) (es : List Entry) (self : Instal
 abbrev pub record_named : List Installed → Installed → ℕ → ℕ → Option Class
 record_named is self p c = class_named is self (record { pack = p; class = c }) and_then record_of
 
-abbrev pub ClassNamedIs : Bytes → Bytes → ℕ → List Entry → Installed → ℕ → ℕ → ClassNamed → Type 0
-ClassNamedIs f s end es self p c (named.At h i) = ClassThere f s end es self p c h i
-ClassNamedIs f s end es self p c named.Nothing = record_named (installed (store_limits s) es) self p c ≡ none
+abbrev pub ClassNamedIs : Bytes → Bytes → ℕ → List Entry → Installed → ℕ → ℕ → Optional ClassRecord → Type 0
+ClassNamedIs f s end es self p c (Some r) = ClassThere f s end es self p c r.home r.place
+ClassNamedIs f s end es self p c None = record_named (installed (store_limits s) es) self p c ≡ none
 
-abbrev pub ClassIs : Bytes → Bytes → ℕ → ℕ → ℕ → ClassNamed → Type 0
+abbrev pub ClassIs : Bytes → Bytes → ℕ → ℕ → ℕ → Optional ClassRecord → Type 0
 ClassIs f s end p c r = OfJudged f s end λ es self. ClassNamedIs f s end es self p c r
 
 -- the record of the class from which x is sought
@@ -81,16 +80,16 @@ pub record MeantAt (f s : Bytes) (end : ℕ) (es : List Entry) (self : Installed
   pub numbered : x.pack < 16 → package_numbered (installed (store_limits s) es) self x.pack ≡ some y.means.class.home
 
 -- what is named, if anything is
-abbrev pub NamedIs : Bytes → Bytes → ℕ → List Entry → Installed → Option Named → NamedFound → Type 0
-NamedIs f s end es self o (found.Method x) = (y : Named) × (o ≡ some y) × MeantAt f s end es self x y
-NamedIs f s end es self o found.Nothing = o ≡ none
+abbrev pub NamedIs : Bytes → Bytes → ℕ → List Entry → Installed → Option Named → Optional Meant → Type 0
+NamedIs f s end es self o (Some x) = (y : Named) × (o ≡ some y) × MeantAt f s end es self x y
+NamedIs f s end es self o None = o ≡ none
 
 -- what class c names by a name
 abbrev pub named_from : Limits → List Installed → ClassAt → ℕ → Option Named
 named_from l is c n = search_up_to is l.depth c n and_then λ m. some (record { class = c; means = m })
 
 -- what the class from which x is sought names by the name sought
-abbrev pub MeantIs : Bytes → Bytes → Sought → NamedRecord → NamedFound → Type 0
+abbrev pub MeantIs : Bytes → Bytes → Sought → NamedRecord → Optional Meant → Type 0
 MeantIs f s x r q = OfJudged f s x.end λ es self. (y : Installed) → HomeIs f s x.end es self x.home y →
     package_numbered (installed (store_limits s) es) self r.pack ≡ some y →
     NamedIs f s x.end es self (named_from (store_limits s) (installed (store_limits s) es) (record { home = y; number = x.number }) x.name) q
@@ -99,7 +98,7 @@ MeantIs f s x r q = OfJudged f s x.end λ es self. (y : Installed) → HomeIs f 
 abbrev pub reference_of : Naming → Reference
 reference_of x = record { class = record { pack = x.pack; class = x.class }; name = x.name }
 
-abbrev pub NumbersName : Bytes → Bytes → ℕ → Naming → NamedFound → Type 0
+abbrev pub NumbersName : Bytes → Bytes → ℕ → Naming → Optional Meant → Type 0
 NumbersName f s end x r = OfJudged f s end λ es self.
     NamedIs f s end es self (reference_names (store_limits s) (installed (store_limits s) es) self (reference_of x)) r
 
@@ -107,7 +106,7 @@ NumbersName f s end x r = OfJudged f s end λ es self.
 abbrev pub reference_named : Limits → List Installed → Installed → ℕ → Option Named
 reference_named l is self k = at self.pack.references k and_then reference_names l is self
 
-abbrev pub ReferenceIs : Bytes → Bytes → ℕ → ℕ → NamedFound → Type 0
+abbrev pub ReferenceIs : Bytes → Bytes → ℕ → ℕ → Optional Meant → Type 0
 ReferenceIs f s end k r = OfJudged f s end λ es self. NamedIs f s end es self (reference_named (store_limits s) (installed (store_limits s) es) self k) r
 
 -- the class that reference k names
@@ -116,16 +115,16 @@ OpenFrom f s end k h i = OfJudged f s end λ es self.
     (r : Reference) × (at self.pack.references k ≡ some r) × ClassThere f s end es self r.class.pack r.class.class h i
 
 -- what is told of a reference, or the class named where it is open
-abbrev pub ToldOf : (NamedFound → Type 0) → (Home → ℕ → Type 0) → Told → Type 0
-ToldOf q o (told.Method x) = q (found.Method x)
-ToldOf q o told.Nothing = q found.Nothing
+abbrev pub ToldOf : (Optional Meant → Type 0) → (Home → ℕ → Type 0) → Told → Type 0
+ToldOf q o (told.Method x) = q (Some x)
+ToldOf q o told.Nothing = q None
 ToldOf q o (told.Open h i) = o h i
 
 abbrev pub OwnMeant : Bytes → Bytes → Sought → NamedRecord → Told → Type 0
 OwnMeant f s x r q = ToldOf (MeantIs f s x r) (λ h i. (h ≡ x.home) × (i ≡ r.place)) q
 
 abbrev pub NumbersTell : Bytes → Bytes → ℕ → Naming → Told → Type 0
-NumbersTell f s end x r = ToldOf (NumbersName f s end x) (λ h i. ClassIs f s end x.pack x.class (named.At h i)) r
+NumbersTell f s end x r = ToldOf (NumbersName f s end x) (λ h i. ClassIs f s end x.pack x.class (Some (record { home = h; place = i }))) r
 
 abbrev pub ToldIs : Bytes → Bytes → ℕ → ℕ → Told → Type 0
 ToldIs f s end k r = ToldOf (ReferenceIs f s end k) (OpenFrom f s end k) r

@@ -4,7 +4,7 @@ ghost use Rattle.homes.specs.Found.{ImportPlaces};
 ghost use Rattle.slots.specs.Slots.{SlotsTrue};
 ghost use Rattle.references.specs.Setting.{Judged};
 ghost use Rattle.references.specs.Named.{GroupTrue, Lent};
-ghost use Rattle.references.specs.Kept.{kept_count, kept_length, is_told, KeptTrue, SearchedIn, AllTold, in_group, told_in, SameTold};
+ghost use Rattle.references.specs.Kept.{held, kept_count, kept_length, is_told, KeptTrue, SearchedIn, AllTold, in_group, told_in, SameTold};
 
 use super::{Group, OpenReference, Told, kept, search_reference, tell_reference};
 use homes::Places;
@@ -14,6 +14,20 @@ use homes::Places;
 pub struct PlaceIn {
     pub group: Group,
     pub k: usize,
+}
+
+// Which open references of a group are searched: all, or those that calls asked for.
+#[derive(Clone, Copy)]
+pub struct Asked {
+    pub group: Group,
+    pub all: bool,
+}
+
+// How many references of the file the table of the group holds.
+fn held(g: Group) -> usize
+    ensures { result ≡ held g }
+{
+    g.count.saturating_sub(g.first).min(32)
 }
 
 // What is told of the references of the group, in the table, by the places of the file's imports, where no class above the class named is
@@ -32,14 +46,9 @@ pub fn tell_group<'a>(
     ensures kept_true { KeptTrue f.now s.now g table.new }
     ensures slots_true_2 { SlotsTrue f.now s.now slots.new }
 {
-    let mut k = 0;
-    while k < 32 {
-        if g.count <= g.first + k {
-            return;
-        }
+    for k in 0..held(g) {
         let x = tell_reference(f, s, places, slots, g, g.first + k);
         kept::keep_told(table, k, x);
-        k += 1;
     }
 }
 
@@ -60,79 +69,38 @@ fn search_place<'a>(
     ensures slots_true_2 { SlotsTrue f.now s.now slots.new }
 {
     let g = x.group;
-    match kept::told_at(table, x.k) {
-        Told::Open(h, place) => {
-            let open = OpenReference {
-                number: g.first + x.k,
-                home: h,
-                place,
-            };
-            let found = search_reference(f, s, packages, slots, seen, g, open);
-            kept::keep(table, x.k, found);
-            return;
-        }
-        Told::Method(_) => {
-            return;
-        }
-        Told::Nothing => {
-            return;
-        }
+    if let Told::Open(h, place) = kept::told_at(table, x.k) {
+        let open = OpenReference {
+            number: g.first + x.k,
+            home: h,
+            place,
+        };
+        let found = search_reference(f, s, packages, slots, seen, g, open);
+        kept::keep(table, x.k, found);
     }
 }
 
-// The open ones that calls asked for are searched.
-pub fn search_group<'a>(
+// The open ones that calls asked for, or all that are open, are searched.
+pub fn search_open<'a>(
     f: &'a [u8],
     s: &'a [u8],
     packages: &[u16],
     slots: &mut [u16],
     seen: &mut [u8],
     table: &mut [u16],
-    g: Group,
+    x: Asked,
 )
-    requires judged { Judged f.now s.now g.end × GroupTrue f.now g × KeptTrue f.now s.now g table.old }
-    requires lent { Lent s.now g.end packages.now seen.old }
+    requires judged { Judged f.now s.now x.group.end × GroupTrue f.now x.group × KeptTrue f.now s.now x.group table.old }
+    requires lent { Lent s.now x.group.end packages.now seen.old }
     requires slots_true { SlotsTrue f.now s.now slots.old }
-    ensures kept_true { KeptTrue f.now s.now g table.new }
+    ensures kept_true { KeptTrue f.now s.now x.group table.new × (x.all ≡ true → AllTold x.group table.new) }
     ensures slots_true_2 { SlotsTrue f.now s.now slots.new }
 {
-    let mut k = 0;
-    while k < 32 {
-        if g.count <= g.first + k {
-            return;
+    let group = x.group;
+    for k in 0..held(group) {
+        if x.all || kept::is_wanted(table, k) {
+            search_place(f, s, packages, slots, seen, table, PlaceIn { group, k });
         }
-        if kept::is_wanted(table, k) {
-            search_place(f, s, packages, slots, seen, table, PlaceIn { group: g, k });
-            k += 1;
-        } else {
-            k += 1;
-        }
-    }
-}
-
-// All that are open are searched.
-pub fn search_all<'a>(
-    f: &'a [u8],
-    s: &'a [u8],
-    packages: &[u16],
-    slots: &mut [u16],
-    seen: &mut [u8],
-    table: &mut [u16],
-    g: Group,
-)
-    requires judged { Judged f.now s.now g.end × GroupTrue f.now g × KeptTrue f.now s.now g table.old }
-    requires lent { Lent s.now g.end packages.now seen.old }
-    requires slots_true { SlotsTrue f.now s.now slots.old }
-    ensures kept_true { KeptTrue f.now s.now g table.new × AllTold g table.new }
-    ensures slots_true_2 { SlotsTrue f.now s.now slots.new }
-{
-    let mut k = 0;
-    while k < 32 {
-        if g.count <= g.first + k {
-            return;
-        }
-        search_place(f, s, packages, slots, seen, table, PlaceIn { group: g, k });
-        k += 1;
     }
 }
 
@@ -140,16 +108,7 @@ pub fn search_all<'a>(
 pub fn in_group(g: Group, k: usize) -> bool
     ensures { result ≡ in_group g k }
 {
-    if g.count <= k {
-        return true;
-    }
-    if k < g.first {
-        return false;
-    }
-    if k - g.first < 32 {
-        return true;
-    }
-    false
+    g.count <= k || g.first <= k && k - g.first < 32
 }
 
 // What is told of reference k, by the table of the group with which it is asked.
@@ -168,8 +127,7 @@ pub fn want_in(table: &mut [u16], g: Group, k: usize)
     requires { (length table.old ≡ kept_length) × (in_group g k ≡ true) × (is_told (told_in table.old g k) ≡ false) }
     ensures { SameTold table.old table.new }
 {
-    if g.count <= k {
-        return;
+    if k < g.count {
+        kept::want(table, k - g.first);
     }
-    kept::want(table, k - g.first);
 }

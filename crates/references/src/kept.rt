@@ -1,48 +1,46 @@
 // A table of what references name: six numbers for each, the home of the declaration's package, the places of its class and of its method,
-// and a mark: 34 where nothing is named, 35 where it is open, 36 where it is open and a call asked for it. Where it is open home and place
-// are those of the class named.
+// and a mark. Where it is open home and place are those of the class named.
 ghost use Rattle.std.specs.Prelude.{◌≡◌, ◌*◌, ◌+◌, ◌<◌, ◌≤◌, false, length};
 ghost use Rattle.slots.specs.Slots.{SmallHome};
 ghost use Rattle.references.specs.Kept.{kept_count, kept_length, row_of, mark_of, told_of, told_at, is_told, SmallMeant, SmallFound, SmallTold};
 ghost use Rattle.references.specs.Kept.{with_row, with_meant, with_nothing, with_open, KeptIs, SameTold};
 
-use super::{Meant, NamedFound, Told};
-use fields::long;
+use super::{Meant, Told};
 use homes::Home;
+
+// The mark where nothing is named, behind those of declarations.
+const NOTHING: u16 = 34;
+
+// The mark where what is named is open.
+const OPEN: u16 = 35;
+
+// The mark where it is open, and a call asked for it.
+const WANTED: u16 = 36;
 
 // The row of a package's domains: its number below 16, else 16.
 fn row_of(pack: usize) -> usize
     ensures { (result ≡ row_of pack) × (result ≤ 16) }
 {
-    if pack < 16 {
-        return pack;
-    }
-    16
+    pack.min(16)
 }
 
 // The mark of a declaration: twice the row of its package, and one more where the class named is of kind 0.
 fn mark_of(x: Meant) -> usize
     ensures { (result ≡ mark_of x) × (result ≤ 33) }
 {
-    let row = row_of(x.pack);
-    if x.kind0 {
-        return 2 * row + 1;
-    }
-    2 * row
+    2 * row_of(x.pack) + usize::from(x.kind0)
 }
 
 // Writes six numbers in place k.
-fn keep_row(table: &mut [u16], k: usize, h: Home, class: usize, method: usize, mark: usize)
-    requires { (k < kept_count) × (length table.old ≡ kept_length) × SmallHome h × (class ≤ 65535) × (method ≤ 65535) × (mark ≤ 65535) }
+fn keep_row(table: &mut [u16], k: usize, h: Home, class: usize, method: usize, mark: u16)
+    requires { (k < kept_count) × (length table.old ≡ kept_length) × SmallHome h × (class ≤ 65535) × (method ≤ 65535) }
     ensures { table.new ≡ with_row table.old (6 * k) h class method mark }
 {
     let at = 6 * k;
-    table[at] = h.from as u16;
-    table[at + 1] = h.to as u16;
-    table[at + 2] = h.before as u16;
+    slots::put_home(table, at, h);
     table[at + 3] = class as u16;
     table[at + 4] = method as u16;
-    table[at + 5] = mark as u16;
+    table[at + 5] = mark;
 }
 
 // Writes a declaration there.
@@ -50,7 +48,7 @@ fn keep_meant(table: &mut [u16], k: usize, x: Meant)
     requires { (k < kept_count) × (length table.old ≡ kept_length) × SmallMeant x }
     ensures { table.new ≡ with_meant table.old (6 * k) x }
 {
-    keep_row(table, k, x.home, x.class, x.method, mark_of(x));
+    keep_row(table, k, x.home, x.class, x.method, mark_of(x) as u16);
 }
 
 // Writes there that nothing is named.
@@ -58,7 +56,7 @@ fn keep_nothing(table: &mut [u16], k: usize)
     requires { (k < kept_count) × (length table.old ≡ kept_length) }
     ensures { table.new ≡ with_nothing table.old (6 * k) }
 {
-    table[6 * k + 5] = 34;
+    table[6 * k + 5] = NOTHING;
 }
 
 // Writes there that it is open, and the class named.
@@ -66,7 +64,7 @@ fn keep_open(table: &mut [u16], k: usize, h: Home, place: usize)
     requires { (k < kept_count) × (length table.old ≡ kept_length) × SmallHome h × (place ≤ 65535) }
     ensures { table.new ≡ with_open table.old (6 * k) h place }
 {
-    keep_row(table, k, h, place, 0, 35);
+    keep_row(table, k, h, place, 0, OPEN);
 }
 
 // Writes in place k what is told of a reference.
@@ -75,18 +73,9 @@ pub fn keep_told(table: &mut [u16], k: usize, x: Told)
     ensures { KeptIs table.old table.new k x }
 {
     match x {
-        Told::Method(m) => {
-            keep_meant(table, k, m);
-            return;
-        }
-        Told::Nothing => {
-            keep_nothing(table, k);
-            return;
-        }
-        Told::Open(h, place) => {
-            keep_open(table, k, h, place);
-            return;
-        }
+        Told::Method(m) => keep_meant(table, k, m),
+        Told::Nothing => keep_nothing(table, k),
+        Told::Open(h, place) => keep_open(table, k, h, place),
     }
 }
 
@@ -95,30 +84,24 @@ pub fn want(table: &mut [u16], k: usize)
     requires { (k < kept_count) × (length table.old ≡ kept_length) × (is_told (told_at table.old k) ≡ false) }
     ensures { SameTold table.old table.new }
 {
-    table[6 * k + 5] = 36;
+    table[6 * k + 5] = WANTED;
 }
 
 // Has a call asked for what is open in place k?
 pub fn is_wanted(table: &[u16], k: usize) -> bool
     requires { (k < kept_count) × (length table.now ≡ kept_length) }
 {
-    long(table[6 * k + 5]) == 36
+    table[6 * k + 5] == WANTED
 }
 
 // Writes in place k what is named.
-pub fn keep(table: &mut [u16], k: usize, x: NamedFound)
+pub fn keep(table: &mut [u16], k: usize, x: Option<Meant>)
     requires { (k < kept_count) × (length table.old ≡ kept_length) × SmallFound x }
     ensures { KeptIs table.old table.new k (told_of x) }
 {
     match x {
-        NamedFound::Method(m) => {
-            keep_meant(table, k, m);
-            return;
-        }
-        NamedFound::Nothing => {
-            keep_nothing(table, k);
-            return;
-        }
+        Some(m) => keep_meant(table, k, m),
+        None => keep_nothing(table, k),
     }
 }
 
@@ -128,23 +111,19 @@ pub fn told_at(table: &[u16], k: usize) -> Told
     ensures { result ≡ told_at table.now k }
 {
     let at = 6 * k;
-    let mark = long(table[at + 5]);
-    if mark == 34 {
+    let mark = table[at + 5];
+    if mark == NOTHING {
         return Told::Nothing;
     }
-    let h = Home {
-        from: long(table[at]),
-        to: long(table[at + 1]),
-        before: long(table[at + 2]),
-    };
-    if 34 < mark {
-        return Told::Open(h, long(table[at + 3]));
+    let home = slots::home_in(table, at);
+    if NOTHING < mark {
+        return Told::Open(home, usize::from(table[at + 3]));
     }
     Told::Method(Meant {
-        home: h,
-        class: long(table[at + 3]),
-        method: long(table[at + 4]),
+        home,
+        class: usize::from(table[at + 3]),
+        method: usize::from(table[at + 4]),
         kind0: mark % 2 == 1,
-        pack: mark / 2,
+        pack: usize::from(mark / 2),
     })
 }

@@ -10,13 +10,14 @@ ghost use Rattle.slots.specs.Slots.{SlotsTrue};
 ghost use Rattle.references.specs.Setting.{Judged};
 ghost use Rattle.references.specs.Named.{GroupTrue, Lent, ClassIs, RecordThere, MeantIs, OwnMeant, NumbersTell, ReferenceIs, ToldIs, OpenFrom};
 
-use files::{Referenced, Spot};
-use homes::{Home, HomeFound, Places};
-use search::{Declared, Sought};
+use files::Reference;
+use homes::{Home, Places};
+use search::Sought;
 use slots::Site;
 
 // The declaration that a reference means: the home of its package, the places of its class record and of its method in the file there;
 // whether the class named is of kind 0; and the number of the package where the class named declares it itself, else 16.
+// Kept: 16 is the row of all other packages, as the table's mark holds it: an `Option` of a row is no plainer.
 #[derive(Clone, Copy)]
 pub struct Meant {
     pub home: Home,
@@ -26,28 +27,14 @@ pub struct Meant {
     pub pack: usize,
 }
 
-// What a reference names, or nothing.
-#[derive(Clone, Copy)]
-pub enum NamedFound {
-    Method(Meant),
-    Nothing,
-}
-
 // What is told of a reference: the declaration that it means; that it names nothing; or nothing yet but the class named: it is open. Of that
 // class the home of its package and the place of its record in the file there are told.
+// Kept: an `Option` around two of these three answers is no plainer.
 #[derive(Clone, Copy)]
 pub enum Told {
     Method(Meant),
     Nothing,
     Open(Home, usize),
-}
-
-// A package number, a class number and a name.
-#[derive(Clone, Copy)]
-pub struct Naming {
-    pub pack: usize,
-    pub class: usize,
-    pub name: usize,
 }
 
 // References of the file being judged, from one on as many as a table holds: where the earlier entries end, where the file's references
@@ -68,11 +55,11 @@ pub struct OpenReference {
     pub place: usize,
 }
 
-// The class that a reference names: the home of its package and the place of its record in the file there; or nothing.
+// The class that a reference names: the home of its package, and the place of its record in the file there.
 #[derive(Clone, Copy)]
-pub enum ClassNamed {
-    At(Home, usize),
-    Nothing,
+pub struct ClassRecord {
+    pub home: Home,
+    pub place: usize,
 }
 
 // The record of the class named: the number of its package, and the record's place in the file there.
@@ -92,23 +79,17 @@ fn class_named<'a>(
     slots: &mut [u16],
     p: usize,
     c: usize,
-) -> ClassNamed
+) -> Option<ClassRecord>
     requires judged { Judged f.now s.now end × ImportPlaces f.now s.now end places.now × (length s.now ≤ 65535) }
     requires slots_true { SlotsTrue f.now s.now slots.old }
     ensures class_is { ClassIs f.now s.now end p c result }
     ensures slots_true_2 { SlotsTrue f.now s.now slots.new }
 {
-    match homes::placed(s, end, places, p) {
-        HomeFound::At(g) => {
-            let k = slots::slot_for(slots, g);
-            let x = Site { home: g, slot: k };
-            match slots::class_in(f, s, slots, x, c) {
-                Spot::At(place) => ClassNamed::At(g, place),
-                Spot::Nothing => ClassNamed::Nothing,
-            }
-        }
-        HomeFound::Nothing => ClassNamed::Nothing,
-    }
+    let home = homes::placed(s, end, places, p)?;
+    let k = slots::slot_for(slots, home);
+    let x = Site { home, slot: k };
+    let place = slots::class_in(f, s, slots, x, c)?;
+    Some(ClassRecord { home, place })
 }
 
 // The declaration that a class and a name mean, where it is the class's own; else it is open.
@@ -120,14 +101,14 @@ fn own_declared<'a>(f: &'a [u8], s: &'a [u8], x: Sought, r: NamedRecord) -> Told
     let g = homes::file_of(f, s, h);
     let place = r.place;
     match files::find_method(g, place, x.name) {
-        Spot::At(m) => Told::Method(Meant {
+        Some(m) => Told::Method(Meant {
             home: h,
             class: place,
             method: m,
             kind0: !files::is_interface(g, place),
             pack: r.pack,
         }),
-        Spot::Nothing => Told::Open(h, place),
+        None => Told::Open(h, place),
     }
 }
 
@@ -138,7 +119,7 @@ fn told_by<'a>(
     places: &Places,
     slots: &mut [u16],
     end: usize,
-    x: Naming,
+    x: Reference,
 ) -> Told
     requires judged { Judged f.now s.now end × ImportPlaces f.now s.now end places.now × (length s.now ≤ 65535) }
     requires slots_true { SlotsTrue f.now s.now slots.old }
@@ -146,20 +127,20 @@ fn told_by<'a>(
     ensures slots_true_2 { SlotsTrue f.now s.now slots.new }
 {
     match class_named(f, s, end, places, slots, x.pack, x.class) {
-        ClassNamed::At(h, place) => {
+        Some(c) => {
             let sought = Sought {
                 end,
-                home: h,
+                home: c.home,
                 number: x.class,
                 name: x.name,
             };
             let r = NamedRecord {
                 pack: x.pack,
-                place,
+                place: c.place,
             };
             own_declared(f, s, sought, r)
         }
-        ClassNamed::Nothing => Told::Nothing,
+        None => Told::Nothing,
     }
 }
 
@@ -179,15 +160,8 @@ fn tell_reference<'a>(
     ensures slots_true_2 { SlotsTrue f.now s.now slots.new }
 {
     match files::reference_at(f, g.at, k) {
-        Referenced::To(p, c, n) => {
-            let x = Naming {
-                pack: p,
-                class: c,
-                name: n,
-            };
-            told_by(f, s, places, slots, g.end, x)
-        }
-        Referenced::Nothing => Told::Nothing,
+        Some(named) => told_by(f, s, places, slots, g.end, named),
+        None => Told::Nothing,
     }
 }
 
@@ -200,7 +174,7 @@ fn found_from<'a>(
     seen: &mut [u8],
     x: Sought,
     r: NamedRecord,
-) -> NamedFound
+) -> Option<Meant>
     requires judged { Judged f.now s.now x.end × RecordThere f.now s.now x r }
     requires lent { Lent s.now x.end packages.now seen.old }
     requires slots_true { SlotsTrue f.now s.now slots.old }
@@ -209,16 +183,14 @@ fn found_from<'a>(
 {
     let g = homes::file_of(f, s, x.home);
     let kind0 = !files::is_interface(g, r.place);
-    match search::find(f, s, packages, slots, seen, x) {
-        Declared::At(d, c, m) => NamedFound::Method(Meant {
-            home: d,
-            class: c,
-            method: m,
-            kind0,
-            pack: 16,
-        }),
-        Declared::Nothing => NamedFound::Nothing,
-    }
+    let d = search::find(f, s, packages, slots, seen, x)?;
+    Some(Meant {
+        home: d.home,
+        class: d.class,
+        method: d.method,
+        kind0,
+        pack: 16,
+    })
 }
 
 // What a reference that is open names: it is searched from the class named.
@@ -230,28 +202,23 @@ fn search_reference<'a>(
     seen: &mut [u8],
     g: Group,
     x: OpenReference,
-) -> NamedFound
+) -> Option<Meant>
     requires judged { Judged f.now s.now g.end × GroupTrue f.now g × OpenFrom f.now s.now g.end x.number x.home x.place }
     requires lent { Lent s.now g.end packages.now seen.old }
     requires slots_true { SlotsTrue f.now s.now slots.old }
     ensures reference_is { ReferenceIs f.now s.now g.end x.number result }
     ensures slots_true_2 { SlotsTrue f.now s.now slots.new }
 {
-    match files::reference_at(f, g.at, x.number) {
-        Referenced::To(p, c, n) => {
-            let h = x.home;
-            let sought = Sought {
-                end: g.end,
-                home: h,
-                number: c,
-                name: n,
-            };
-            let r = NamedRecord {
-                pack: p,
-                place: x.place,
-            };
-            found_from(f, s, packages, slots, seen, sought, r)
-        }
-        Referenced::Nothing => NamedFound::Nothing,
-    }
+    let named = files::reference_at(f, g.at, x.number)?;
+    let sought = Sought {
+        end: g.end,
+        home: x.home,
+        number: named.class,
+        name: named.name,
+    };
+    let r = NamedRecord {
+        pack: named.pack,
+        place: x.place,
+    };
+    found_from(f, s, packages, slots, seen, sought, r)
 }

@@ -1,6 +1,7 @@
 -- A loop that keeps the first no over the elements of a list that a reader reads: the start, a turn, the end. Assumes nothing.
-use Prim.Native.Nat.{ℕ, ◌+◌, ◌-◌, ◌≤◌, ◌<◌}
-use mathlib.Core.Path.{◌≡◌, sym, ◌∙◌, ap}
+use Prim.Native.Nat.{ℕ, suc, ◌+◌, ◌≤◌, ◌<◌}
+use native.Mathlib.Omega.{arith}
+use mathlib.Core.Path.{◌≡◌, sym, ◌∙◌, ap, subst}
 use mathlib.Core.List.{List}
 use lib.Dec.{T}
 use lib.ListN.{get_or}
@@ -32,13 +33,14 @@ module _ {A W : Type 0} (R : W → Reader A) (steady : (w : W) → Steady (R w))
     numbers_here h w e = track_ends (R w) (steady w) s (counted most u1 (R w)) i (no_of_all (qs w)) (after (qs w) past) left c (t w) h e
 
     -- its answer n, and the first m of the earlier one and n
-    pub numbers_on : (n : ℕ) → 0 < left → ((w : W) (x : A) (j : ℕ) → Reads (R w) s c x j → n ≡ no_of (qs w) x) → (m d : ℕ) → m ≡ first_of past n →
-        ((w : W) → EndsAt (R w) s c d) → NumberLoop R most qs s i m (left - 1) d
-    numbers_on n h e m d q k w =
-        track_more (R w) (steady w) s (counted most u1 (R w)) i (no_of_all (qs w)) (after (qs w) past) left c (t w) (after (qs w) m) d h (k w) λ x j g ys.
+    pub numbers_on : (n rest : ℕ) → left ≡ suc rest → ((w : W) (x : A) (j : ℕ) → Reads (R w) s c x j → n ≡ no_of (qs w) x) → (m d : ℕ) → m ≡ first_of past n →
+        ((w : W) → EndsAt (R w) s c d) → NumberLoop R most qs s i m rest d
+    numbers_on n rest h e m d q k w =
+        subst (λ (z : ℕ). Tracks (R w) s (counted most u1 (R w)) i (no_of_all (qs w)) (after (qs w) m) z d) (omega arith)
+        (track_more (R w) (steady w) s (counted most u1 (R w)) i (no_of_all (qs w)) (after (qs w) past) left c (t w) (after (qs w) m) d (omega arith) (k w) λ x j g ys.
         ap (first_of past) (first_more (qs w) (order w) x ys)
         ∙ first_assoc past (no_of (qs w) x) (no_of_all (qs w) ys)
-        ∙ ap (λ (b : ℕ). first_of b (no_of_all (qs w) ys)) (sym (q ∙ ap (first_of past) (e w x j g)))
+        ∙ ap (λ (b : ℕ). first_of b (no_of_all (qs w) ys)) (sym (q ∙ ap (first_of past) (e w x j g))))
 
     pub numbers_done : left ≤ 0 → (w : W) (xs : List A) (j : ℕ) → Reads (counted most u1 (R w)) s i xs j → past ≡ no_of_all (qs w) xs
     numbers_done h w xs j r =

@@ -1,10 +1,31 @@
 // Refusals: of two answers the one that a load gives first.
 #![tactic(auto)]
 
-ghost use Rattle.std.specs.Prelude.{◌≡◌};
-ghost use Rattle.refusals.specs.Order.{rank, first_of};
+pub mod refusal;
 
-// How many questions stand before one in the list; of 0 all of them.
+ghost use Rattle.std.specs.Prelude.{◌≡◌};
+ghost use Rattle.refusals.specs.Order.{rank, first_of, first_said};
+
+use refusal::Refusal;
+
+// Of two answers the one that stands first in the list: a refusal stands before a yes, and of two refusals the one that is asked first; of
+// two that are yes the greater.
+pub fn first_said<A: Ord + Drop>(a: Result<A, Refusal>, b: Result<A, Refusal>) -> Result<A, Refusal>
+    ensures { result ≡ first_said A.Ord.cmp a b }
+{
+    match a {
+        Ok(x) => match b {
+            Ok(y) => Ok(x.max(y)),
+            Err(f) => Err(f),
+        },
+        Err(e) => match b {
+            Ok(_) => Err(e),
+            Err(f) => Err(e.min(f)),
+        },
+    }
+}
+
+// Kept: numbers, as docs/DECISIONS.md names `first_no`, which takes every byte: how many questions stand before one in the list; of 0 all.
 fn rank(n: u8) -> u8
     ensures { result ≡ rank n }
 {
@@ -26,7 +47,7 @@ fn rank(n: u8) -> u8
     5
 }
 
-// Of two answers the one that stands first in the list; 0 is no refusal.
+// Of two answers as numbers the one that stands first in the list; 0 is no refusal.
 pub fn first_no(a: u8, b: u8) -> u8
     ensures { result ≡ first_of a b }
 {

@@ -27,9 +27,9 @@ use Rattle.homes.proofs.Domains.{domain_there, domain_is}
 use Rattle.chains.specs.Say.{MethodIn, RunningThere, RunsIs}
 use Rattle.running.specs.Rows.{BesideIs}
 use Rattle.running.specs.Say.{BothThere, AllowsAllOf, method_passes, MethodThere, MethodPasses}
-use Rattle.running.specs.declared.allowed.MethodSpot.{MethodSpot}
-use Rattle.chains.specs.declared.RunsFound.{RunsFound}
-use Rattle.chains.specs.declared.RunsFound.TheVariants.{At, Nothing}
+use Rattle.chains.specs.declared.MethodSpot.{MethodSpot}
+use Rattle.std.specs.Prelude.{Some, None}
+use Rattle.std.specs.Prelude.{Option as Optional}
 
 -- a method in its file g
 module _ (f s : Bytes) (h : Home) (i : ℕ) (g : Bytes) (z : g ≡ file_of f s h) (end : ℕ) (es : List Entry) (self : Installed) (o : MethodAt) (m : MethodIn f
@@ -125,7 +125,7 @@ module _ (f s : Bytes) (end b : ℕ) (h : Home) (i : ℕ) where
     pub here_method : MethodThere f s end b h i → say.MethodThere g i
     here_method t = method_there f s h i g z end t.0 t.1 t.3 t.4
 
-    pub method_static : StaticIs g i true → BesideIs f s end b h i Nothing
+    pub method_static : StaticIs g i true → BesideIs f s end b h i None
     method_static q es self r o m =
         passes_static (store_limits s) (installed (store_limits s) es) (own self b) o (sym (q (store_limits s) o.class.home.pack.domains o.method m.ends (file_method f s h i g z end es self o m)))
 
@@ -136,7 +136,7 @@ module _ (f s : Bytes) (end b : ℕ) (h : Home) (i : ℕ) where
         let r = q (store_limits s) o.class.home.pack.domains o.method t.4.ends (file_method f s h i g z end t.0 t.1 o t.4) in
         policy_in (o.class.home.pack.domains, (o.method.policy, r.0, r.1))
 
-    pub method_nothing : (p : ℕ) → PolicyAt g i p → (w : ℕ) → w ≡ get_or g p 0 → w ≡ 0 → BesideIs f s end b h i Nothing
+    pub method_nothing : (p : ℕ) → PolicyAt g i p → (w : ℕ) → w ≡ get_or g p 0 → w ≡ 0 → BesideIs f s end b h i None
     method_nothing p q w v u es self r o m =
         let y = q (store_limits s) o.class.home.pack.domains o.method m.ends (file_method f s h i g z end es self o m) in
         passes_nothing (store_limits s) (installed (store_limits s) es) (own self b) o (list_empty o.class.home.pack.domains g p o.method.policy y.0 y.1 (sym v ∙ u))
@@ -149,11 +149,11 @@ module _ (f s : Bytes) (end b : ℕ) (h : Home) (i : ℕ) where
       name_is es self o m = n (store_limits s) o.class.home.pack.domains o.method m.ends (file_method f s h i g z end es self o m)
 
       -- what is asked beside what runs
-      pub beside_is : (r : RunsFound) → RunsIs f s end b name r → BesideIs f s end b h i r
-      beside_is Nothing w es self r o m =
+      pub beside_is : (r : Optional MethodSpot) → RunsIs f s end b name r → BesideIs f s end b h i r
+      beside_is None w es self r o m =
           passes_none (store_limits s) (installed (store_limits s) es) (own self b) o (static_not es self o m)
           (subst (λ (v : ℕ). runs_up_to (installed (store_limits s) es) (store_limits s).depth (own self b) v ≡ none) (name_is es self o m) (w es self r))
-      beside_is (At x k) w es self r o m =
+      beside_is (Some x) w es self r o m =
           let u = w es self r in
           let runs =
           subst (λ (v : ℕ). runs_up_to (installed (store_limits s) es) (store_limits s).depth (own self b) v ≡ some u.0) (name_is es self o m) u.1
@@ -162,16 +162,16 @@ module _ (f s : Bytes) (end b : ℕ) (h : Home) (i : ℕ) where
 
 -- what is told of the method beside another, where the domain of the file being judged stands at d
 module _ {f s : Bytes} {end : ℕ} (d : ℕ) {b : ℕ} {h : Home} {i : ℕ} where
-  pub beside_none : BesideIs f s end b h i Nothing → MethodPasses f s end d b h i true
+  pub beside_none : BesideIs f s end b h i None → MethodPasses f s end d b h i true
   beside_none w es self r o m = w es self r.running o m
 
-  module _ (x : Home) (k : ℕ) (w : BesideIs f s end b h i (At x k)) where
-    pub beside_both : (t : MethodThere f s end b h i) → DomainAt s d t.1 → BothThere f s d (record { home = x; place = k }) (record { home = h; place = i })
+  module _ (x : MethodSpot) (w : BesideIs f s end b h i (Some x)) where
+    pub beside_both : (t : MethodThere f s end b h i) → DomainAt s d t.1 → BothThere f s d x (record { home = h; place = i })
     beside_both t l =
         let u = w t.0 t.1 t.2 t.3 t.4 in
         (end, t.0, t.1, t.2.judged.parents.imported, l, u.0, u.1, t.3, t.4)
 
-    pub beside_passes : (v : Bool) → AllowsAllOf f s d (record { home = x; place = k }) (record { home = h; place = i }) v → MethodPasses f s end d b h i v
+    pub beside_passes : (v : Bool) → AllowsAllOf f s d x (record { home = h; place = i }) v → MethodPasses f s end d b h i v
     beside_passes v y es self r o m =
         let u = w es self r.running o m in
         y end es self r.running.judged.parents.imported r.loads u.0 u.1 o m ∙ u.2

@@ -104,15 +104,15 @@ module _ (f s : Bytes) (end d b : ℕ) (h : Home) (n : ℕ) where
             (λ m a p. sym (q es self r (record { class = record { home = x; number = n }; method = m }) (record { home = o; ends = a; reads = p }))) k.methods y.0 y.1 in
             sym (rw e w)
 
-        pub methods_miss : (g : Bytes) (j : ℕ) → g ≡ file_of f s h → MethodPasses f s end d b h c true → AfterMethod g c j →
-            MethodsLeft f s end d b h n start (left - 1) j
-        methods_miss g j z q a es self r x o k e =
-            each_miss (method (format_at s (file_of f s h)) x.pack.domains) (steady_method (format_at s (file_of f s h)) x.pack.domains)
+        pub methods_miss : (g : Bytes) (j rest : ℕ) → rest ≡ left - 1 → g ≡ file_of f s h → MethodPasses f s end d b h c true → AfterMethod g c j →
+            MethodsLeft f s end d b h n start rest j
+        methods_miss g j rest y z q a es self r x o k e =
+            rw y (each_miss (method (format_at s (file_of f s h)) x.pack.domains) (steady_method (format_at s (file_of f s h)) x.pack.domains)
             (file_of f s h) (counted most_methods u1
             (method (format_at s (file_of f s h)) x.pack.domains)) start left c
             (passes_in s es self b (record { home = x; number = n })) (inv es self r x o k e) j more
             (λ m i p. sym (q es self r (record { class = record { home = x; number = n }; method = m }) (record { home = o; ends = i; reads = p })))
-            (λ m i p. a (store_limits s) x.pack.domains m i (subst (λ (v : Bytes). Reads (method (format_at s v) x.pack.domains) v c m i) (sym z) p))
+            (λ m i p. a (store_limits s) x.pack.domains m i (subst (λ (v : Bytes). Reads (method (format_at s v) x.pack.domains) v c m i) (sym z) p)))
 
       pub methods_done : left ≤ 0 → MethodsPass f s end d b h n true
       methods_done z es self r x o k e =

@@ -19,7 +19,7 @@ use Rattle.classes.proofs.Keys.{key_small}
 use Rattle.chains.specs.Say.{Running, RunsIs}
 use Rattle.chains.specs.Names.{Kept, AsStored, RunAlike}
 use Rattle.chains.specs.declared.Names.{Names}
-use Rattle.chains.specs.declared.RunsFound.TheVariants.{Nothing}
+use Rattle.std.specs.Prelude.{None}
 use Rattle.chains.proofs.Alike.{runs_alike}
 use Rattle.running.specs.Walk.{SeenPass, BitsFor}
 use Rattle.running.specs.declared.OwnClass.{OwnClass}
@@ -64,7 +64,7 @@ module _ (f s : Bytes) (end d b : ℕ) where
   bits_for x y false w t z = seen_none y z w
 
   -- where nothing runs any bits hold
-  pub seen_nothing : (seen : Bytes) → seen_length s ≤ length seen → ((x : ℕ) → RunsIs f s end b x Nothing) → SeenPass f s end d b seen
+  pub seen_nothing : (seen : Bytes) → seen_length s ≤ length seen → ((x : ℕ) → RunsIs f s end b x None) → SeenPass f s end d b seen
   seen_nothing seen z w = record {
     room = z;
     hold = λ h n e es self r x o k q a i.

@@ -17,7 +17,7 @@ use Rattle.homes.specs.Homes.{file_of, aid_at, domain_place}
 use Rattle.homes.specs.declared.Home.{Home}
 use Rattle.running.specs.Say.{BothThere}
 use Rattle.running.specs.Rows.{RowFor, RowTurned}
-use Rattle.running.specs.declared.allowed.MethodSpot.{MethodSpot}
+use Rattle.chains.specs.declared.MethodSpot.{MethodSpot}
 use Rattle.running.proofs.Allows.{file_reads}
 
 pub turn_same : (x : List ℕ) (g h : Home) → length x ≡ row_length → g ≡ h → RowTurned x x g h

@@ -1,4 +1,5 @@
 -- A class that is visited, where it stands: its record, its parents. Assumes nothing.
+use Rattle.std.specs.Prelude.{Some}
 use Prim.Native.Nat.{ℕ, ◌≤◌, ◌<◌}
 use native.Mathlib.Omega.{arith}
 use mathlib.Core.Bool.{Bool}
@@ -9,7 +10,6 @@ use Rattle.rules.specs.Store.{first_entry, store_limits}
 use Rattle.store.proofs.Stand.{entries_to}
 use Rattle.files.specs.Say.{Readable}
 use Rattle.files.specs.Say as say
-use Rattle.files.specs.declared.Spot.TheVariants as spots
 use Rattle.homes.specs.Homes.{file_of, HomeThere, RecordIs}
 use Rattle.homes.specs.declared.Home.{Home}
 use Rattle.homes.proofs.Homes.{home_bounds, home_below}
@@ -76,7 +76,7 @@ module _ (f s : Bytes) (v : Visit) where
     record_inside = let y = record_there.2.2 in y.from
 
     pub record_part : (r : Bytes) → r ≡ drop v.place g → RecordIs f s (visit_home v) v.number r
-    record_part r z end es self m x o = (spots.At v.place, p.place end es self m x o, z ∙ ap (drop v.place) e)
+    record_part r z end es self m x o = (Some v.place, p.place end es self m x o, z ∙ ap (drop v.place) e)
 
   -- by the names and the home that stand for it
   module _ (w : Names) (h : Home) (a : w ≡ visit_names v) (b : h ≡ visit_home v) where

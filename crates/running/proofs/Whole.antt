@@ -33,7 +33,7 @@ use Rattle.named.proofs.Rows.{file_size, classes_few}
 use Rattle.chains.specs.Say.{Running, RunningThere, RunsIs}
 use Rattle.chains.specs.Names.{names_length, NamesIs, Room}
 use Rattle.chains.specs.declared.Names.{Names}
-use Rattle.chains.specs.declared.RunsFound.TheVariants.{Nothing}
+use Rattle.std.specs.Prelude.{None}
 use Rattle.running.specs.Say.{WalkThere, Passes, Fails, Answers, ClassPasses, OwnClassThere, OwnPasses, JudgedThere, RunningIs}
 use Rattle.running.specs.Walk.{visit_for, SmallNames, WalkFrom}
 use Rattle.running.specs.declared.OwnClass.{OwnClass}
@@ -90,7 +90,7 @@ module _ (f s : Bytes) (end d b : ℕ) where
     own_running es self j k e = record { judged = j; kind0 = of_true (sym (q end es self j self homes.own k e)) }
 
     -- the chain has no method
-    pub own_nothing : ((x : ℕ) → RunsIs f s end b x Nothing) → OwnPasses f s end d b true
+    pub own_nothing : ((x : ℕ) → RunsIs f s end b x None) → OwnPasses f s end d b true
     own_nothing w es self j l k e =
         sym (all_true (running_allows (store_limits s) (installed (store_limits s) es) (own self b)) (ancestors_up_to (installed (store_limits s) es)
         (store_limits s).depth (own self b))

@@ -19,7 +19,7 @@ use Rattle.homes.specs.declared.Home.{Home}
 use Rattle.classes.specs.Say.{Judged, OwnThere, ClassIn, OfClass}
 use Rattle.chains.specs.Say.{Running, MethodIn}
 use Rattle.running.specs.declared.OwnClass.{OwnClass}
-use Rattle.running.specs.declared.allowed.MethodSpot.{MethodSpot}
+use Rattle.chains.specs.declared.MethodSpot.{MethodSpot}
 
 -- a running own class, and the domain of its package
 pub record RunningIn (f s : Bytes) (end d b : ℕ) (es : List Entry) (self : Installed) : Type 0 where

@@ -12,6 +12,7 @@
 -- BitsFor x y end alike  == the bits y are x where the answer is yes, else none is set
 -- ParentsPass f s end d b h n r == so do all parents of class n, and their ancestors, or not
 use Rattle.std.specs.Prelude.{ℕ, ◌+◌, ◌*◌, ◌/◌, ◌≤◌, ◌<◌, ◌≡◌, Bool, true, false, List, length}
+use Rattle.std.specs.Prelude.{Some, None}
 use Rattle.std.proofs.Math.Option.{some}
 use Rattle.rules.specs.Bytes.{Bytes, at}
 use Rattle.rules.specs.Package.{ClassNumber}
@@ -21,7 +22,6 @@ use Rattle.bits.specs.Bits.{bit_at}
 use Rattle.homes.specs.Homes.{own_home, NumberedIs}
 use Rattle.homes.specs.Found.{Indexed}
 use Rattle.homes.specs.declared.Home.{Home}
-use Rattle.homes.specs.declared.HomeFound.TheVariants.{At, Nothing}
 use Rattle.classes.specs.Say.{ParentIs, RecordAt}
 use Rattle.classes.specs.Keys.{key}
 pub use Rattle.classes.specs.Keys.{seen_length}
@@ -91,10 +91,10 @@ PlacedIs f s v w = (w ≡ at_place v w.slot w.place) × RecordAt f s (visit_home
 
 -- the package that a number stands for in its file: it is not missing, and lies at a home
 abbrev pub NumberedThere : Bytes → Bytes → Visit → ℕ → Type 0
-NumberedThere f s v p = NumberedIs f s (visit_home v) p Nothing → ⊥
+NumberedThere f s v p = NumberedIs f s (visit_home v) p None → ⊥
 
 abbrev pub NumberedAt : Bytes → Bytes → Visit → ℕ → Home → Type 0
-NumberedAt f s v p g = NumberedIs f s (visit_home v) p (At g)
+NumberedAt f s v p g = NumberedIs f s (visit_home v) p (Some g)
 
 -- its parent with number i
 pub record ParentPlaced (f s : Bytes) (v : Visit) (i : ℕ) : Type 0 where

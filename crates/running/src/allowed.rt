@@ -5,17 +5,10 @@ ghost use Rattle.chains.specs.Names.{NamesIs};
 ghost use Rattle.running.specs.Say.{BothThere, AllowsAllOf, MethodThere};
 ghost use Rattle.running.specs.Rows.{RowFor, RowTurned, BesideIs};
 
-use chains::{Names, RunsFound};
+use chains::{MethodSpot, Names};
 use fields::wide;
 use homes::Home;
 use policies::RightsPlace;
-
-// A method where it stands: the home of its file, and its place there.
-#[derive(Clone, Copy)]
-pub struct MethodSpot {
-    pub home: Home,
-    pub place: usize,
-}
 
 // Does the method x allow all that the method y allows? The domain of the file being judged stands at place d of the store.
 pub fn allows_all_of<'a>(
@@ -51,17 +44,8 @@ pub fn turn_row(row: &mut [u8; 33], g: Home, h: Home)
     requires { length row.old ≡ row_length }
     ensures { RowTurned row.old row.new g h }
 {
-    if g.from != h.from {
+    if g != h {
         inclusion::empty_row(row);
-        return;
-    }
-    if g.to != h.to {
-        inclusion::empty_row(row);
-        return;
-    }
-    if g.before != h.before {
-        inclusion::empty_row(row);
-        return;
     }
 }
 
@@ -74,17 +58,17 @@ pub fn method_beside<'a>(
     w: Names,
     h: Home,
     at: usize,
-) -> RunsFound
+) -> Option<MethodSpot>
     requires method_there { MethodThere f.now s.now w.end w.own h at }
     requires names_is { NamesIs f.now s.now names.now w }
     ensures { BesideIs f.now s.now w.end w.own h at result }
 {
     let g = homes::file_of(f, s, h);
     if files::is_static(g, at) {
-        return RunsFound::Nothing;
+        return None;
     }
     if wide(g[files::policy_of(g, at)]) == 0 {
-        return RunsFound::Nothing;
+        return None;
     }
     chains::running_method(f, s, names, w, files::name_of(g, at))
 }

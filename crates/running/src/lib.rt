@@ -17,8 +17,7 @@ ghost use Rattle.slots.specs.Slots.{SlotsTrue};
 ghost use Rattle.running.specs.Say.{MethodsPass, ClassPasses, OwnClassThere, OwnPasses, JudgedThere, RunningIs};
 ghost use Rattle.running.specs.Walk.{visit_home, visit_names, VisitPlaced, WalkFrom, SeenPass, SeenIf, BitsFor, ParentsPass};
 
-use allowed::MethodSpot;
-use chains::{Names, RunsFound};
+use chains::{MethodSpot, Names};
 use classes::ClassSpot;
 use fields::wide;
 use homes::{Loaded, Places};
@@ -44,33 +43,25 @@ fn methods_pass<'a>(f: &'a [u8], s: &'a [u8], names: &[u16], v: Visit) -> bool
     let h = home_of(v);
     let g = homes::file_of(f, s, h);
     let start = files::methods_of(g, v.place as usize);
-    let mut left = wide(g[start]);
     let mut c = start + 1;
     let mut row = [255u8; 33];
     let mut last = h;
-    while 0 < left {
-        match allowed::method_beside(f, s, names, w, h, c) {
-            RunsFound::At(x, m) => {
-                allowed::turn_row(&mut row, last, x);
-                let runs = MethodSpot { home: x, place: m };
-                let asked = MethodSpot { home: h, place: c };
-                if !allowed::allows_all_of(f, s, v.domain as usize, runs, asked, &mut row) {
-                    return false;
-                }
-                last = x;
-                c = files::after_method(g, c);
-                left -= 1;
+    for _ in 0..wide(g[start]) {
+        if let Some(runs) = allowed::method_beside(f, s, names, w, h, c) {
+            allowed::turn_row(&mut row, last, runs.home);
+            let asked = MethodSpot { home: h, place: c };
+            if !allowed::allows_all_of(f, s, v.domain as usize, runs, asked, &mut row) {
+                return false;
             }
-            RunsFound::Nothing => {
-                c = files::after_method(g, c);
-                left -= 1;
-            }
+            last = runs.home;
         }
+        c = files::after_method(g, c);
     }
     true
 }
 
 // The same in a frame of its own.
+// Kept: it calls itself so that it stays apart: the header gives bounds of the stack.
 #[inline(never)]
 fn methods_apart<'a>(f: &'a [u8], s: &'a [u8], names: &[u16], v: Visit) -> bool
     requires visit_placed { VisitPlaced f.now s.now v × (length s.now ≤ 65535) }
@@ -130,14 +121,12 @@ fn parents_pass<'a>(
     ensures slots_true_2 { SlotsTrue f.now s.now slots.new }
 {
     let count = visited::parents_in(f, s, v);
-    let mut i = 0;
-    while i < count {
+    for i in 0..count {
         let p = visited::parent_apart(f, s, index, slots, v, i);
         if !class_passes(f, s, index, names, seen, slots, p) {
             return false;
         }
         bits::set(seen, visited::bit_of(p));
-        i += 1;
     }
     true
 }
@@ -182,17 +171,8 @@ fn own_class_passes<'a>(
     class_passes(f, s, index, names, seen, slots, v)
 }
 
-// Is the class of kind 0?
-fn is_kind0<'a>(f: &'a [u8], s: &'a [u8], slots: &mut [u16; 640], x: ClassSpot) -> bool
-    requires class_there { ClassThere f.now s.now x.home x.number × (length s.now ≤ 65535) }
-    requires slots_true { SlotsTrue f.now s.now slots.old }
-    ensures kind0is { Kind0Is f.now s.now x.home x.number result }
-    ensures slots_true_2 { SlotsTrue f.now s.now slots.new }
-{
-    parents::is_kind0(f, s, slots, x)
-}
-
 // The names of own class b, found in a frame of its own.
+// Kept: it calls itself so that it stays apart: the header gives bounds of the stack.
 #[inline(never)]
 fn names_apart<'a>(
     f: &'a [u8],
@@ -240,23 +220,19 @@ pub fn running_ok<'a>(
     let h = homes::own_home(end);
     let mut kept = chains::no_names(end);
     let count = wide(f[files::classes_at(f)]);
-    let mut b = 0;
-    while b < count {
+    for b in 0..count {
         let c = ClassSpot { home: h, number: b };
-        if is_kind0(f, s, &mut slots, c) {
+        if parents::is_kind0(f, s, &mut slots, c) {
             let w = names_apart(f, s, index, &mut *names, &mut slots, kept, b);
             let o = OwnClass {
                 names: w,
-                domain: domain,
+                domain,
                 alike: chains::run_alike(kept, w),
             };
             kept = w;
             if !own_class_passes(f, s, index, names, seen, &mut slots, o) {
                 return false;
             }
-            b += 1;
-        } else {
-            b += 1;
         }
     }
     true

@@ -11,12 +11,13 @@ ghost use Rattle.running.specs.Walk.{NumberedThere, NumberedAt, ParentPlaced, Pa
 
 use chains::Names;
 use fields::wide;
-use homes::{Home, HomeFound};
+use homes::Home;
 use slots::Site;
 
 // A class that is visited for own class `own` over the entries that end at `end`, whose names end at `stored` and at `all`, and whose
 // package's domain stands at place `domain` of the store: its home and number, and the slot of its package and the place of its record
 // once these are found.
+// Kept: `as usize` on these numbers. With usize::from six proofs did not close, as each use then has an equation of its own.
 #[derive(Clone, Copy)]
 pub struct Visit {
     pub end: u16,
@@ -101,17 +102,9 @@ pub fn placed<'a>(f: &'a [u8], s: &'a [u8], slots: &mut [u16; 640], v: Visit) ->
     let x = Site { home: h, slot: k };
     let c = slots::record_in(f, s, slots, x, v.number as usize);
     Visit {
-        end: v.end,
-        domain: v.domain,
-        own: v.own,
-        stored: v.stored,
-        all: v.all,
-        from: v.from,
-        to: v.to,
-        before: v.before,
-        number: v.number,
         slot: k as u8,
         place: c as u16,
+        ..v
     }
 }
 
@@ -155,8 +148,8 @@ fn package_home<'a>(
         slot: v.slot as usize,
     };
     match slots::import_in(f, s, v.end as usize, index, slots, x, p) {
-        HomeFound::At(g) => g,
-        HomeFound::Nothing => h,
+        Some(g) => g,
+        None => h,
     }
 }
 
@@ -182,6 +175,7 @@ fn parent_visit<'a>(
 }
 
 // The same in a frame of its own.
+// Kept: it calls itself so that it stays apart: the header gives bounds of the stack.
 #[inline(never)]
 pub fn parent_apart<'a>(
     f: &'a [u8],

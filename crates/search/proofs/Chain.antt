@@ -1,9 +1,12 @@
 -- The walk along the kind-0 parents of a class: start, turn and end; and both walks together. Assumes nothing.
-use Prim.Native.Nat.{ℕ}
+use Rattle.std.specs.Prelude.{Some, None}
+use Prim.Native.Nat.{ℕ, suc, ◌<◌}
+use native.Mathlib.Omega.{arith}
 use mathlib.Core.Path.{◌≡◌, refl, sym, ◌∙◌, ap, subst}
 use mathlib.Core.Bool.{true, false}
 use mathlib.Core.List.{List}
 use mathlib.Core.Option.{Option, none, some}
+use Rattle.std.specs.Prelude.{Option as Optional}
 use Rattle.rules.specs.Bytes.{Bytes, at, or_else, ◌and_then◌}
 use Rattle.rules.specs.Package.{Class}
 use Rattle.rules.specs.Store.{Entry, store_limits}
@@ -11,12 +14,12 @@ use Rattle.rules.specs.Classes.{Installed, installed, ClassAt, kind0_parent, Met
 use Rattle.rules.proofs.Tests.{of_true}
 use Rattle.rules.proofs.Lists.{some_is}
 use Rattle.homes.specs.Homes.{HomeIs}
-use Rattle.classes.specs.Say.{Judged, OfClass, Kind0ParentIs}
+use Rattle.homes.specs.declared.Home.{Home}
+use Rattle.classes.specs.Say.{Judged, OfClass, Kind0ParentIs, FoundBefore, rank}
 use Rattle.classes.specs.declared.ClassSpot.{ClassSpot}
-use Rattle.classes.specs.declared.ClassFound.TheVariants as classes
 use Rattle.search.specs.Search.{DeclaredIs}
 use Rattle.search.specs.Walk.{SpotThere, Seeking, above, along_up, itself, searched, MeantAt, MeantIs, DeclaredHere, DeclaresIs}
-use Rattle.search.specs.declared.Declared.{Declared}
+use Rattle.search.specs.declared.Declaration.{Declaration}
 use Rattle.rules.proofs.Searched.{along_one, search_one}
 use Rattle.search.proofs.Within.{class_depth}
 use Rattle.search.proofs.Firsts.{first_there, second_there}
@@ -33,6 +36,27 @@ pub record Along (f s : Bytes) (end : ℕ) (a : ClassSpot) (n : ℕ) (g : Seekin
 
 abbrev pub AlongFrom : Bytes → Bytes → ℕ → ClassSpot → ℕ → Seeking → ClassSpot → Type 0
 AlongFrom f s end a n g c = OfClass (Judged f s end) f s end a.home a.number λ es self x k. Along f s end a n g es self x c
+
+-- the walk is at a class that is there, or is over, and what is sought is nothing
+abbrev pub AlongTo : Bytes → Bytes → ℕ → ClassSpot → ℕ → Seeking → Optional ClassSpot → Type 0
+AlongTo f s end a n g (Some c) = AlongFrom f s end a n g c × SpotThere f s end c
+AlongTo f s end a n g None = MeantIs f s end a n (along_up g) none
+
+-- how many turns are ahead at most
+abbrev pub ahead : Optional ClassSpot → ℕ
+ahead (Some c) = suc (rank c.home c.number)
+ahead None = 0
+
+pub ahead_less : (h : Home) (n : ℕ) (r : Optional ClassSpot) → FoundBefore h n r → ahead r < suc (rank h n)
+ahead_less h n (Some c) z = omega arith
+ahead_less h n None z = omega arith
+
+-- the kind-0 parent is there
+pub parent_there : (f s : Bytes) (end : ℕ) (c d : ClassSpot) → Kind0ParentIs f s c.home c.number (Some d) → SpotThere f s end c → SpotThere f s
+    end d
+parent_there f s end c d q t =
+    let u = q end t.entries t.self t.asked t.pack t.home t.class t.is in
+    record { entries = t.entries; self = t.self; asked = t.asked; pack = u.0; home = u.1; class = u.3; is = u.4 }
 
 -- the class itself gives it
 pub itself_there : (f s : Bytes) (end : ℕ) (c : ClassSpot) (n : ℕ) → DeclaresIs f s c n true → MeantIs f s end c n itself (some c)
@@ -73,7 +97,7 @@ module _ (f s : Bytes) (end : ℕ) (a : ClassSpot) (n : ℕ) (g : Seeking) where
 
     module _ (m : MeantIs f s end c n g none) where
       -- it gives nothing, and has no kind-0 parent
-      pub along_none : Kind0ParentIs f s c.home c.number classes.Nothing → MeantIs f s end a n (along_up g) none
+      pub along_none : Kind0ParentIs f s c.home c.number None → MeantIs f s end a n (along_up g) none
       along_none q es self j x o k e =
           let u = along_gives es self j x o k e in
           let t = u.0 in
@@ -82,7 +106,7 @@ module _ (f s : Bytes) (end : ℕ) (a : ClassSpot) (n : ℕ) (g : Seeking) where
           (λ (b : Option ClassAt). b and_then along_up g (installed (store_limits s) es) (store_limits s).depth n) up
 
       -- or has one
-      pub along_more : (d : ClassSpot) → Kind0ParentIs f s c.home c.number (classes.At d) → AlongFrom f s end a n g d
+      pub along_more : (d : ClassSpot) → Kind0ParentIs f s c.home c.number (Some d) → AlongFrom f s end a n g d
       along_more d q es self j x o k e =
           let u = along_gives es self j x o k e in
           let t = u.0 in
@@ -96,12 +120,10 @@ module _ (f s : Bytes) (end : ℕ) (a : ClassSpot) (n : ℕ) (g : Seeking) where
                 (λ (b : Option ClassAt). b and_then along_up g (installed (store_limits s) es) (store_limits s).depth n) up.2;
           }
 
--- the kind-0 parent is there
-pub parent_there : (f s : Bytes) (end : ℕ) (c d : ClassSpot) → Kind0ParentIs f s c.home c.number (classes.At d) → SpotThere f s end c → SpotThere f s
-    end d
-parent_there f s end c d q t =
-    let u = q end t.entries t.self t.asked t.pack t.home t.class t.is in
-    record { entries = t.entries; self = t.self; asked = t.asked; pack = u.0; home = u.1; class = u.3; is = u.4 }
+      -- either way
+      pub along_turn : SpotThere f s end c → (r : Optional ClassSpot) → Kind0ParentIs f s c.home c.number r → AlongTo f s end a n g r
+      along_turn t (Some d) q = (along_more d q, parent_there f s end c d q t)
+      along_turn t None q = along_none q
 
 -- the class told is there
 pub meant_there : (f s : Bytes) (end : ℕ) (c d : ClassSpot) (n : ℕ) (g : Seeking) → MeantIs f s end c n g (some d) → SpotThere f s end c → SpotThere f s end d
@@ -132,7 +154,7 @@ module _ (f s : Bytes) (end : ℕ) (c : ClassSpot) (n : ℕ) where
       (m es self j x o k e))) (p es self j x o k e)
 
   -- the declaration of the class told is the one that is meant
-  pub declared_meant : (d : ClassSpot) (r : Declared) → MeantIs f s end c n searched (some d) → DeclaredHere f s d n r → OfClass (Judged f s end) f s end
+  pub declared_meant : (d : ClassSpot) (r : Optional Declaration) → MeantIs f s end c n searched (some d) → DeclaredHere f s d n r → OfClass (Judged f s end) f s end
       c.home c.number λ es self x k. DeclaredIs f s end es self
       (searched (installed (store_limits s) es) (store_limits s).depth n (record { home = x; number = c.number })) r
   declared_meant d r m q es self j x o k e =

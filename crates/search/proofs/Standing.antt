@@ -1,4 +1,5 @@
 -- A class where it stands: its numbers fit a visit, its record is a part of its file, and its declaration of a name is found there. Assumes nothing.
+use Rattle.std.specs.Prelude.{Some, None}
 use Prim.Native.Nat.{ℕ, ◌+◌, ◌≤◌, ◌<◌}
 use native.Mathlib.Omega.{arith}
 use mathlib.Core.Path.{◌≡◌, refl, sym, ◌∙◌, subst}
@@ -7,6 +8,7 @@ use mathlib.Core.Option.{none, some}
 use lib.Dec.{eqb}
 use lib.ListN.{length, drop, get_or, length-drop}
 use lib.Seq.{get_or-drop}
+use Rattle.std.specs.Prelude.{Some, None}
 use Rattle.rules.specs.Bytes.{Bytes, pick}
 use Rattle.rules.specs.Package.{Method, Class}
 use Rattle.rules.specs.Store.{store_limits}
@@ -17,7 +19,6 @@ use Rattle.places.proofs.Track.{placed_at, placed_none}
 use Rattle.store.specs.Entries.{part}
 use Rattle.store.proofs.Parts.{part_length}
 use Rattle.files.specs.Say.{DeclaredPlaced}
-use Rattle.files.specs.declared.Spot.TheVariants as spots
 use Rattle.homes.specs.Homes.{file_of, RecordIs}
 use Rattle.homes.proofs.Homes.{home_reads, home_below}
 use Rattle.classes.specs.Say.{ClassThere, CountIs, RecordAt}
@@ -28,7 +29,6 @@ use Rattle.classes.proofs.Records as records
 use Rattle.slots.specs.Slots.{SmallHome}
 use Rattle.slots.proofs.Standing.{class_small, record_inside, record_part}
 use Rattle.search.specs.Walk.{SpotThere, DeclaredHere}
-use Rattle.search.specs.declared.Declared.TheVariants.{At, Nothing}
 
 module _ (f s : Bytes) (end : ℕ) (c : ClassSpot) (t : SpotThere f s end c) where
   pub spot_class : ClassThere f s c.home c.number
@@ -90,19 +90,19 @@ declared_nothing c k n e d = rw (e, d)
 
 -- found where the record stands
 module _ (f s : Bytes) (c : ClassSpot) (n : ℕ) (i : ℕ) (p : RecordAt f s c.home c.number i) (g : Bytes) (eg : g ≡ file_of f s c.home) where
-  pub declared_at_lem : (m : ℕ) → DeclaredPlaced g i n (spots.At m) → DeclaredHere f s c n (At c.home i m)
+  pub declared_at_lem : (m : ℕ) → DeclaredPlaced g i n (Some m) → DeclaredHere f s c n (Some (record { home = c.home; class = i; method = m }))
   declared_at_lem m q end es self j x o k e =
       let y = class_at f s c.home c.number i p end es self j x o k e in
-      let q' : DeclaredPlaced (file_of f s c.home) i n (spots.At m) = subst (λ (b : Bytes). DeclaredPlaced b i n (spots.At m)) eg q in
+      let q' : DeclaredPlaced (file_of f s c.home) i n (Some m) = subst (λ (b : Bytes). DeclaredPlaced b i n (Some m)) eg q in
       let w = placed_at (q' (store_limits s) x.pack.domains k y.0 y.1) in (
         record { class = record { home = x; number = c.number }; method = w.0 },
         declared_some (record { home = x; number = c.number }) k n w.0 e w.2,
         record { lies = o; class = k; is = e; class_end = y.0; stands = y.1; method_end = w.1; method = w.3 },
       )
 
-  pub declared_none : DeclaredPlaced g i n spots.Nothing → DeclaredHere f s c n Nothing
+  pub declared_none : DeclaredPlaced g i n None → DeclaredHere f s c n None
   declared_none q end es self j x o k e =
       let y = class_at f s c.home c.number i p end es self j x o k e in
-      let q' : DeclaredPlaced (file_of f s c.home) i n spots.Nothing = subst (λ (b : Bytes). DeclaredPlaced b i n spots.Nothing) eg q in
+      let q' : DeclaredPlaced (file_of f s c.home) i n None = subst (λ (b : Bytes). DeclaredPlaced b i n None) eg q in
       let w = placed_none (q' (store_limits s) x.pack.domains k y.0 y.1) in
       declared_nothing (record { home = x; number = c.number }) k n e w

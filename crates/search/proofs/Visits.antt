@@ -1,19 +1,19 @@
 -- A class that is visited, where it stands: its record, its parents, whether it declares the name; and what is told of its visit is told of
 -- the class. Assumes nothing.
+use Rattle.std.specs.Prelude.{Some, None}
+use Rattle.std.specs.Prelude.{Option as Optional, is_some as is_there}
 use Prim.Native.Nat.{ℕ, ◌≤◌, ◌<◌}
 use mathlib.Core.Path.{◌≡◌, sym, ap, subst}
-use mathlib.Core.Bool.{Bool, true, false}
+use mathlib.Core.Bool.{Bool}
 use mathlib.Core.List.{List}
 use mathlib.Core.Option.{Option}
 use lib.ListN.{length, drop}
 use Rattle.rules.specs.Bytes.{Bytes, is_some}
 use Rattle.files.specs.Say.{DeclaredPlaced}
 use Rattle.files.specs.Say as say
-use Rattle.files.specs.declared.Spot.TheVariants as spots
 use Rattle.homes.specs.Homes.{file_of, RecordIs, NumberedIs}
 use Rattle.homes.specs.Found.{Indexed}
 use Rattle.homes.specs.declared.Home.{Home}
-use Rattle.homes.specs.declared.HomeFound.TheVariants as found
 use Rattle.classes.specs.Say.{ClassThere, CountIs, ParentThere, ParentIs, RecordAt, rank}
 use Rattle.classes.specs.declared.ClassSpot.{ClassSpot}
 use Rattle.classes.proofs.Places.{class_there}
@@ -79,11 +79,11 @@ module _ (f s : Bytes) (v : Visit) (i : ℕ) (u : ParentInside f s v i) where
 
   -- by the numbers that name it, in the package that its number stands for
   module _ (z : length s ≤ 65535) (r : Named) (m : NamedBy f s v i r) where
-    pub parent_never : NumberedIs f s (visit_spot v).home r.pack found.Nothing → ⊥
+    pub parent_never : NumberedIs f s (visit_spot v).home r.pack None → ⊥
     parent_never q =
         parents.parent_none f s (visit_spot v).home (visit_spot v).number i m.bytes m.is r.pack r.number m.pack m.number parent_inside q
 
-    module _ (g : Home) (q : NumberedIs f s (visit_spot v).home r.pack (found.At g)) where
+    module _ (g : Home) (q : NumberedIs f s (visit_spot v).home r.pack (Some g)) where
       abbrev spot : ClassSpot
       spot = record { home = g; number = r.number }
 
@@ -102,12 +102,10 @@ module _ (f s : Bytes) (v : Visit) (i : ℕ) (u : ParentInside f s v i) where
 
 -- whether it declares the name
 module _ (f s : Bytes) (v : Visit) (p : VisitPlaced f s v) (g : Bytes) (e : g ≡ file_of f s (visit_spot v).home) where
-  pub declares_yes : (m : ℕ) → DeclaredPlaced g v.place v.name (spots.At m) → DeclaresIs f s (visit_spot v) v.name true
-  declares_yes m q end es self j x o k z =
+  pub declares_is : (o : Optional ℕ) → DeclaredPlaced g v.place v.name o → DeclaresIs f s (visit_spot v) v.name (is_there o)
+  declares_is (Some m) q end es self j x o k z =
       sym (ap is_some (declared_at_lem f s (visit_spot v) v.name v.place p.place g e m q end es self j x o k z).1)
-
-  pub declares_no : DeclaredPlaced g v.place v.name spots.Nothing → DeclaresIs f s (visit_spot v) v.name false
-  declares_no q end es self j x o k z =
+  declares_is None q end es self j x o k z =
       sym (ap is_some (declared_none f s (visit_spot v) v.name v.place p.place g e q end es self j x o k z))
 
 -- what is told of the visit of a class is told of the class

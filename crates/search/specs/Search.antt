@@ -4,7 +4,8 @@
 -- DeclaredThere f s end es self h c m y == the declaration y is told: its class's record and its method stand at places c and m of the file at home h
 -- DeclaredIs            == the declaration told, if one is told
 -- SearchIs f s x r      == r tells the declaration that the class and the name mean
-use Rattle.std.specs.Prelude.{ℕ, ◌≡◌, List}
+use Rattle.std.specs.Prelude.{ℕ, ◌≡◌, List, Some, None}
+use Rattle.std.specs.Prelude.{Option as Optional}
 use Rattle.std.proofs.Math.Option.{Option, none, some}
 use Rattle.rules.specs.Bytes.{Bytes}
 use Rattle.rules.specs.Package.{Class, method}
@@ -17,8 +18,7 @@ use Rattle.homes.specs.Homes.{file_of, format_at, HomeIs}
 use Rattle.homes.specs.declared.Home.{Home}
 use Rattle.classes.specs.Say.{Judged, ClassIn, OfClass}
 use Rattle.search.specs.declared.Sought.{Sought}
-use Rattle.search.specs.declared.Declared.{Declared}
-use Rattle.search.specs.declared.Declared.TheVariants.{At, Nothing}
+use Rattle.search.specs.declared.Declaration.{Declaration}
 
 -- the class from which a name is sought
 abbrev pub SoughtThere : Bytes → Bytes → Sought → Type 0
@@ -35,10 +35,10 @@ pub record DeclaredThere (f s : Bytes) (end : ℕ) (es : List Entry) (self : Ins
   pub method : Reads (method (format_at s (file_of f s h)) y.class.home.pack.domains) (file_of f s h) m y.method method_end
 
 -- the declaration told, if one is told
-abbrev pub DeclaredIs : Bytes → Bytes → ℕ → List Entry → Installed → Option MethodAt → Declared → Type 0
-DeclaredIs f s end es self o (At h c m) = (y : MethodAt) × (o ≡ some y) × DeclaredThere f s end es self h c m y
-DeclaredIs f s end es self o Nothing = o ≡ none
+abbrev pub DeclaredIs : Bytes → Bytes → ℕ → List Entry → Installed → Option MethodAt → Optional Declaration → Type 0
+DeclaredIs f s end es self o (Some d) = (y : MethodAt) × (o ≡ some y) × DeclaredThere f s end es self d.home d.class d.method y
+DeclaredIs f s end es self o None = o ≡ none
 
-abbrev pub SearchIs : Bytes → Bytes → Sought → Declared → Type 0
+abbrev pub SearchIs : Bytes → Bytes → Sought → Optional Declaration → Type 0
 SearchIs f s x r = OfClass (Judged f s x.end) f s x.end x.home x.number λ es self p k. DeclaredIs f s x.end es self
     (search_up_to (installed (store_limits s) es) (store_limits s).depth (record { home = p; number = x.number }) x.name) r

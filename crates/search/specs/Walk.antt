@@ -13,6 +13,7 @@
 -- InterfaceIs f s v c w n == w is the visit of the class told by c, an interface, for the name that v seeks; n is 0 where it is of kind 0
 -- SeenNone f s end n seen == there is a bit for each class, and where it is set neither the class nor an interface of it declares the name
 use Rattle.std.specs.Prelude.{ℕ, zero, suc, ◌+◌, ◌*◌, ◌/◌, ◌%◌, ◌≤◌, ◌<◌, ◌≡◌, Bool, true, false, List, length, get_or}
+use Rattle.std.specs.Prelude.{Option as Optional}
 use Rattle.std.proofs.Math.Option.{Option, none, some}
 use Rattle.rules.specs.Bytes.{Bytes, at, is_some, first_of, or_else}
 use Rattle.rules.specs.Package.{Class}
@@ -25,11 +26,9 @@ use Rattle.homes.specs.Found.{Indexed}
 use Rattle.classes.specs.Say.{Judged, ClassIn, OfClass, AtClass, RecordAt, CountIs, Kind0Is}
 use Rattle.classes.specs.Keys.{key, seen_length}
 use Rattle.classes.specs.declared.ClassSpot.{ClassSpot}
-use Rattle.classes.specs.declared.ClassFound.{ClassFound}
-use Rattle.classes.specs.declared.ClassFound.TheVariants as classes
 use Rattle.search.specs.Search.{SoughtThere, DeclaredIs}
 use Rattle.search.specs.declared.Sought.{Sought}
-use Rattle.search.specs.declared.Declared.{Declared}
+use Rattle.search.specs.declared.Declaration.{Declaration}
 use Rattle.search.specs.declared.visited.Visit.{Visit}
 use Rattle.search.specs.declared.visited.Named.{Named}
 
@@ -107,12 +106,8 @@ abbrev pub MeantIs : Bytes → Bytes → ℕ → ClassSpot → ℕ → Seeking �
 MeantIs f s end c n g r = OfClass (Judged f s end) f s end c.home c.number λ es self x k. MeantAt f s end es self n
     (g (installed (store_limits s) es) (store_limits s).depth n (record { home = x; number = c.number })) r
 
-abbrev pub class_found : ClassFound → Option ClassSpot
-class_found (classes.At c) = some c
-class_found classes.Nothing = none
-
 -- the declaration of a class itself
-abbrev pub DeclaredHere : Bytes → Bytes → ClassSpot → ℕ → Declared → Type 0
+abbrev pub DeclaredHere : Bytes → Bytes → ClassSpot → ℕ → Optional Declaration → Type 0
 DeclaredHere f s c n r = AtClass f s c.home c.number λ end es self x k. DeclaredIs f s end es self
     (declared_at n (record { home = x; number = c.number })) r
 

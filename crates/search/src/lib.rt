@@ -8,16 +8,16 @@ pub mod visited;
 
 ghost use Rattle.std.specs.Prelude.{◌≡◌, false, ℕ, ◌+◌, ◌*◌, ◌/◌, ◌<◌, ◌≤◌, length};
 ghost use Rattle.bits.specs.Bits.{bit_at};
+ghost use Rattle.fields.specs.Told.{told};
 ghost use Rattle.homes.specs.Found.{Indexed};
 ghost use Rattle.classes.specs.Say.{ClassThere};
 ghost use Rattle.classes.specs.Keys.{seen_length};
 ghost use Rattle.slots.specs.Slots.{SlotsTrue};
 ghost use Rattle.search.specs.Search.{SoughtThere, SearchIs};
 ghost use Rattle.search.specs.Walk.{visit_spot, VisitPlaced, above, whole, along_up, itself, searched, MeantIs};
-ghost use Rattle.search.specs.Walk.{class_found, class_in, DeclaredHere, DeclaresIs, SeenNone, sought_spot, SoughtFrom};
+ghost use Rattle.search.specs.Walk.{class_in, DeclaredHere, DeclaresIs, SeenNone, sought_spot, SoughtFrom};
 
-use classes::{ClassFound, ClassSpot};
-use files::Spot;
+use classes::ClassSpot;
 use homes::Home;
 use slots::parents;
 use visited::Visit;
@@ -31,12 +31,12 @@ pub struct Sought {
     pub name: usize,
 }
 
-// Where the declaration found stands: the home of its package, the places of its class record and of its method in the file there; or
-// that there is none.
+// Where a declaration stands: the home of its package, the places of its class record and of its method in the file there.
 #[derive(Clone, Copy)]
-pub enum Declared {
-    At(Home, usize, usize),
-    Nothing,
+pub struct Declaration {
+    pub home: Home,
+    pub class: usize,
+    pub method: usize,
 }
 
 // The declaration of a name by a class itself.
@@ -46,23 +46,26 @@ fn declared_in<'a>(
     slots: &mut [u16],
     c: ClassSpot,
     name: usize,
-) -> Declared
+) -> Option<Declaration>
     requires class_there { ClassThere f.now s.now c.home c.number × (length s.now ≤ 65535) }
     requires slots_true { SlotsTrue f.now s.now slots.old }
     ensures declared_here { DeclaredHere f.now s.now c name result }
     ensures slots_true_2 { SlotsTrue f.now s.now slots.new }
 {
-    let h = c.home;
-    let at = parents::place_of(f, s, slots, c);
-    let g = homes::file_of(f, s, h);
-    match files::find_method(g, at, name) {
-        Spot::At(m) => Declared::At(h, at, m),
-        Spot::Nothing => Declared::Nothing,
-    }
+    let home = c.home;
+    let class = parents::place_of(f, s, slots, c);
+    let g = homes::file_of(f, s, home);
+    let method = files::find_method(g, class, name)?;
+    Some(Declaration {
+        home,
+        class,
+        method,
+    })
 }
 
 // The first class that declares the name, as one number, 0 for none: an interface, those among its parents and theirs. None is above one
 // without parents, so that the walks nest once less than classes lie above each other.
+// Kept: the stack bound: the class in one register, with 0 for none.
 #[cycle(class_declares_parents_declare)]
 fn class_declares<'a>(
     f: &'a [u8],
@@ -90,6 +93,7 @@ fn class_declares<'a>(
 
 // The first of the interfaces among the class's parents, and theirs. One that leads to none is seen from then on, and passed over before
 // its record is looked for.
+// Kept: the stack bound: the class in one register, with 0 for none.
 #[cycle(class_declares_parents_declare)]
 fn parents_declare<'a>(
     f: &'a [u8],
@@ -106,25 +110,20 @@ fn parents_declare<'a>(
     ensures seen_none_2 { SeenNone f.now s.now v.end v.name seen.new }
     ensures slots_true_2 { SlotsTrue f.now s.now slots.new }
 {
-    let count = v.parents as usize;
-    let mut i = 0;
-    while i < count {
+    for i in 0..usize::from(v.parents) {
         let c = visited::parent_apart(f, s, index, slots, v, i);
         if bits::get(seen, visited::bit_of(c)) {
-            i += 1;
-        } else {
-            let w = visited::interface_apart(f, s, slots, v, c);
-            if w.class == 0 {
-                i += 1;
-            } else {
-                let r = class_declares(f, s, index, slots, seen, w);
-                if r != 0 {
-                    return r;
-                }
-                bits::set(seen, visited::bit_of(c));
-                i += 1;
-            }
+            continue;
         }
+        let w = visited::interface_apart(f, s, slots, v, c);
+        if w.class == 0 {
+            continue;
+        }
+        let r = class_declares(f, s, index, slots, seen, w);
+        if r != 0 {
+            return r;
+        }
+        bits::set(seen, visited::bit_of(c));
     }
     0
 }
@@ -136,31 +135,24 @@ fn chain_declares<'a>(
     index: &[u16],
     slots: &mut [u16],
     x: Sought,
-) -> ClassFound
+) -> Option<ClassSpot>
     requires sought_from { SoughtFrom f.now s.now index.now x }
     requires slots_true { SlotsTrue f.now s.now slots.old }
-    ensures meant_is { MeantIs f.now s.now x.end (sought_spot x) x.name (along_up itself) (class_found result) }
+    ensures meant_is { MeantIs f.now s.now x.end (sought_spot x) x.name (along_up itself) (told result) }
     ensures slots_true_2 { SlotsTrue f.now s.now slots.new }
 {
-    let h = x.home;
-    let mut c = ClassSpot {
-        home: h,
+    let mut at = Some(ClassSpot {
+        home: x.home,
         number: x.number,
-    };
-    loop {
+    });
+    while let Some(c) = at {
         let v = visited::visit_of(f, s, slots, x.end, x.name, c);
         if visited::declares(f, s, v) {
-            return ClassFound::At(c);
+            return Some(c);
         }
-        match parents::kind0_parent(f, s, x.end, index, slots, c) {
-            ClassFound::At(d) => {
-                c = d;
-            }
-            ClassFound::Nothing => {
-                return ClassFound::Nothing;
-            }
-        }
+        at = parents::kind0_parent(f, s, x.end, index, slots, c);
     }
+    None
 }
 
 // No class is seen yet, over the entries that end at a place.
@@ -179,33 +171,26 @@ fn interfaces_declare<'a>(
     slots: &mut [u16],
     seen: &mut [u8],
     x: Sought,
-) -> ClassFound
+) -> Option<ClassSpot>
     requires sought_from { SoughtFrom f.now s.now index.now x × (seen_length s.now ≤ length seen.old) }
     requires slots_true { SlotsTrue f.now s.now slots.old }
-    ensures meant_is { MeantIs f.now s.now x.end (sought_spot x) x.name (along_up above) (class_found result) }
+    ensures meant_is { MeantIs f.now s.now x.end (sought_spot x) x.name (along_up above) (told result) }
     ensures slots_true_2 { SlotsTrue f.now s.now slots.new }
 {
     clear_seen(seen, x.end);
-    let h = x.home;
-    let mut c = ClassSpot {
-        home: h,
+    let mut at = Some(ClassSpot {
+        home: x.home,
         number: x.number,
-    };
-    loop {
+    });
+    while let Some(c) = at {
         let v = visited::visit_of(f, s, slots, x.end, x.name, c);
         let r = parents_declare(f, s, index, slots, seen, v);
         if r != 0 {
-            return ClassFound::At(visited::spot_of(r));
+            return Some(visited::spot_of(r));
         }
-        match parents::kind0_parent(f, s, x.end, index, slots, c) {
-            ClassFound::At(up) => {
-                c = up;
-            }
-            ClassFound::Nothing => {
-                return ClassFound::Nothing;
-            }
-        }
+        at = parents::kind0_parent(f, s, x.end, index, slots, c);
     }
+    None
 }
 
 // The class whose declaration is meant.
@@ -216,15 +201,15 @@ fn class_meant<'a>(
     slots: &mut [u16],
     seen: &mut [u8],
     x: Sought,
-) -> ClassFound
+) -> Option<ClassSpot>
     requires sought_from { SoughtFrom f.now s.now index.now x × (seen_length s.now ≤ length seen.old) }
     requires slots_true { SlotsTrue f.now s.now slots.old }
-    ensures meant_is { MeantIs f.now s.now x.end (sought_spot x) x.name searched (class_found result) }
+    ensures meant_is { MeantIs f.now s.now x.end (sought_spot x) x.name searched (told result) }
     ensures slots_true_2 { SlotsTrue f.now s.now slots.new }
 {
     match chain_declares(f, s, index, slots, x) {
-        ClassFound::At(c) => ClassFound::At(c),
-        ClassFound::Nothing => interfaces_declare(f, s, index, slots, seen, x),
+        Some(c) => Some(c),
+        None => interfaces_declare(f, s, index, slots, seen, x),
     }
 }
 
@@ -236,15 +221,13 @@ pub fn find<'a>(
     slots: &mut [u16],
     seen: &mut [u8],
     x: Sought,
-) -> Declared
+) -> Option<Declaration>
     requires sought_there { SoughtThere f.now s.now x × (length s.now ≤ 65535) }
     requires indexed { Indexed s.now x.end index.now × (seen_length s.now ≤ length seen.old) }
     requires slots_true { SlotsTrue f.now s.now slots.old }
     ensures search_is { SearchIs f.now s.now x result }
     ensures slots_true_2 { SlotsTrue f.now s.now slots.new }
 {
-    match class_meant(f, s, index, slots, seen, x) {
-        ClassFound::At(c) => declared_in(f, s, slots, c, x.name),
-        ClassFound::Nothing => Declared::Nothing,
-    }
+    let c = class_meant(f, s, index, slots, seen, x)?;
+    declared_in(f, s, slots, c, x.name)
 }

@@ -10,13 +10,12 @@ ghost use Rattle.search.specs.Walk.{class_code, spot_in, SpotThere, visit_spot, 
 ghost use Rattle.search.specs.Walk.{DeclaresIs, ParentInside, NamedBy, InterfaceIs};
 
 use classes::ClassSpot;
-use fields::wide;
-use files::Spot;
-use homes::{Home, HomeFound};
+use homes::Home;
 use slots::{Site, parents};
 
 // A class that is visited over the entries that end at `end`, as one number, with the place of its record in its file and the number of
 // its parents, and the name sought. Class 0 is none.
+// Kept: the stack bound: an `Option` of a visit has a tag beside it, eight bytes more at each level of the walk.
 #[derive(Clone, Copy)]
 pub struct Visit {
     pub class: usize,
@@ -34,6 +33,7 @@ pub struct Named {
 }
 
 // A class as one number: 1, then the places of its home in two bytes each, then its number in one. 0 stands for none.
+// Kept: the stack bound: one number stands in a register at each level of the walk, a `ClassSpot` or an `Option` of one in four or five.
 fn class_of(c: ClassSpot) -> usize
     requires { SmallHome c.home × (c.number ≤ 255) }
     ensures { result ≡ class_code c }
@@ -110,10 +110,7 @@ pub fn declares<'a>(f: &'a [u8], s: &'a [u8], v: Visit) -> bool
 {
     let c = spot_of(v.class);
     let g = homes::file_of(f, s, c.home);
-    match files::find_method(g, v.place as usize, v.name) {
-        Spot::At(m) => true,
-        Spot::Nothing => false,
-    }
+    files::find_method(g, v.place as usize, v.name).is_some()
 }
 
 // The same in a frame of its own.
@@ -135,8 +132,8 @@ fn named_in<'a>(f: &'a [u8], s: &'a [u8], v: Visit, i: usize) -> Named
 {
     let c = record_of(f, s, v);
     Named {
-        pack: wide(c[2 + 2 * i]),
-        number: wide(c[3 + 2 * i]),
+        pack: usize::from(c[2 + 2 * i]),
+        number: usize::from(c[3 + 2 * i]),
     }
 }
 
@@ -171,16 +168,17 @@ pub fn parent_apart<'a>(
     }
     let k = slots::slot_for(slots, h);
     let x = Site { home: h, slot: k };
-    match slots::import_in(f, s, v.end as usize, index, slots, x, p.pack) {
-        HomeFound::At(g) => class_of(ClassSpot {
-            home: g,
-            number: p.number,
-        }),
-        HomeFound::Nothing => 0,
-    }
+    let Some(g) = slots::import_in(f, s, v.end as usize, index, slots, x, p.pack) else {
+        unreachable!()
+    };
+    class_of(ClassSpot {
+        home: g,
+        number: p.number,
+    })
 }
 
 // The visit of a class that is told, for the same name; none where it is of kind 0.
+// Kept: the stack bound: a visit of class 0 stands for none, as beside `Visit`.
 fn interface_at<'a>(f: &'a [u8], s: &'a [u8], slots: &mut [u16], v: Visit, c: usize) -> Visit
     requires spot_there { SpotThere f.now s.now v.end (spot_in c) × (length s.now ≤ 65535) }
     requires slots_true { SlotsTrue f.now s.now slots.old }
@@ -189,7 +187,7 @@ fn interface_at<'a>(f: &'a [u8], s: &'a [u8], slots: &mut [u16], v: Visit, c: us
 {
     let mut w = visit_of(f, s, slots, v.end as usize, v.name, spot_of(c));
     let k = record_of(f, s, w);
-    if wide(k[0]) == 1 {
+    if k[0] == 1 {
         return w;
     }
     w.class = 0;

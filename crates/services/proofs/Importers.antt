@@ -1,6 +1,7 @@
 -- Question 8: the walk over a file's imports, and over the installed packages. Assumes nothing.
-use Prim.Native.Nat.{ℕ, ◌-◌, ◌≤◌, ◌<◌}
-use mathlib.Core.Path.{◌≡◌, refl, sym, ◌∙◌, ap}
+use Prim.Native.Nat.{ℕ, ◌+◌, ◌≤◌, ◌<◌}
+use native.Mathlib.Omega.{arith}
+use mathlib.Core.Path.{◌≡◌, refl, sym, ◌∙◌, ap, subst}
 use mathlib.Core.Bool.{Bool, true, false, ◌&&◌, ◌||◌, not}
 use mathlib.Core.List.{List, [], ◌∷◌}
 use mathlib.Core.Option.{some}
@@ -9,7 +10,7 @@ use Rattle.rules.specs.Package.{Limits, Package, most_imports, read_file}
 use Rattle.rules.specs.Store.{Entry, domain, loaded, store_limits, first_entry}
 use Rattle.rules.specs.Classes.{Installed, installed, has_aid}
 use Rattle.rules.specs.Questions.{q8_unused}
-use Rattle.places.specs.Reads.{EndsAt}
+use Rattle.places.specs.Reads.{EndsAt, Tracks}
 use Rattle.places.proofs.Steady.{steady_aid}
 use Rattle.places.proofs.Search.{some_hit, some_miss, some_none}
 use Rattle.places.proofs.Parts.{file_parts}
@@ -18,7 +19,8 @@ use Rattle.files.proofs.Loops.{AidLoop}
 use Rattle.files.proofs.Walks.{imports_read}
 use Rattle.store.specs.Entries.{part, AllRead}
 use Rattle.store.specs.Answers.{PartAt}
-use Rattle.store.specs.declared.EntryPart.TheVariants.{Package as PackagePart, AtEnd}
+use Rattle.store.specs.declared.EntryPart.TheVariants.{Package as PackagePart}
+use Rattle.std.specs.Prelude.{Some, None}
 use Rattle.store.proofs.Walk.{place_any}
 use Rattle.store.proofs.Find.{Walks, found_package, found_none}
 use Rattle.services.specs.Answers.{ImportsSays, OtherSays, importer, ImportedSays}
@@ -33,8 +35,10 @@ module _ (a : Aid) (g : Bytes) (i left c : ℕ) (t : Seeks a g i left c) where
       let r = imports_read at l p e in
       sym (some_hit aid steady_aid g (counted most_imports u1 aid) i left c (same a) (t most_imports) h (λ x m k. sym (q x m k)) p.imports r.0 r.1)
 
-  pub imports_miss : (d : ℕ) → 0 < left → AidIs g c a false → EndsAt aid g c d → Seeks a g i (left - 1) d
-  imports_miss d h q e most = some_miss aid steady_aid g (counted most u1 aid) i left c (same a) (t most) d h (λ x m k. sym (q x m k)) e
+  pub imports_miss : (d rest : ℕ) → left ≡ rest + 1 → AidIs g c a false → EndsAt aid g c d → Seeks a g i rest d
+  imports_miss d rest m q e most =
+      let next = some_miss aid steady_aid g (counted most u1 aid) i left c (same a) (t most) d (omega (arith, m)) (λ x m k. sym (q x m k)) e in
+      subst (λ (n : ℕ). Tracks aid g (counted most u1 aid) i (any (same a)) (any (same a)) n d) (omega (arith, m)) next
 
   pub imports_none : left ≤ 0 → ImportsAt g i → ImportsSays g a false
   imports_none h at l p e =
@@ -68,10 +72,10 @@ used_any l (loaded d f ∷ es) a h = rw h.0.1 (go (same a h.0.0.aid) (any (same 
     go false false e = e
 
 module _ (a : Aid) (s : Bytes) (k i : ℕ) (w : Walks (importer (store_limits s) a) s k i) where
-  pub imported_yes : (d m j : ℕ) → PartAt s i k (PackagePart d m j) → importer (store_limits s) a (loaded (part s d m) (part s m j)) ≡ true → ImportedSays
+  pub imported_yes : (d m j : ℕ) → PartAt s i k (Some (PackagePart d m j)) → importer (store_limits s) a (loaded (part s d m) (part s m j)) ≡ true → ImportedSays
       s k a true
   imported_yes d m j p h es r reads = sym (used_any (store_limits s) es a reads ∙ sym (place_any (importer (store_limits s) a) (first_entry s) es) ∙ ap is_some
       (found_package w p h es r))
 
-  pub imported_no : PartAt s i k AtEnd → ImportedSays s k a false
+  pub imported_no : PartAt s i k None → ImportedSays s k a false
   imported_no p es r reads = sym (used_any (store_limits s) es a reads ∙ found_none w p es r)

@@ -1,33 +1,18 @@
 // The questions of a creation, a deletion, a removal and a query on a sound store, from 3 on.
 #![tactic(auto)]
 
-ghost use Rattle.std.specs.Prelude.{◌≡◌, ◌+◌, ◌*◌};
-ghost use Rattle.rules.specs.Bytes.{pick};
+ghost use Rattle.std.specs.Prelude.{◌≡◌};
 ghost use Rattle.rules.specs.Store.{DomainKind, store_limits};
 ghost use Rattle.rules.specs.Operations.{create, delete, remove, is_domain, is_package, query_number, query_yes};
+ghost use Rattle.refusals.specs.Refusals.{number_said};
 ghost use Rattle.files.specs.Say.{Readable};
 ghost use Rattle.store.specs.Entries.{FilesStand};
 ghost use Rattle.store.specs.Sound.{SoundAt, Asked};
-ghost use Rattle.services.specs.Answers.{CutSays, ImportsSays, OtherSays, ImportedSays, ClassOf, ClassAllows, FileAllows};
+ghost use Rattle.services.specs.Answers.{CutSays, ImportsSays, OtherSays, ImportedSays, ClassOf, ClassAllows, FileAllows, yes_said};
 
-use files::Spot;
 use policies::RightsPlace;
-use store::{EntryPart, FileSpot, Spot as Place};
-
-// A deletion or a removal: the number of the first no, or from where up to where the entry stands that goes.
-#[derive(Clone, Copy)]
-pub enum Cut {
-    Refused(u32),
-    Entry(usize, usize),
-}
-
-// Does a method allow a domain, or is there no such method?
-#[derive(Clone, Copy)]
-enum Allowed {
-    Yes,
-    No,
-    Undeclared,
-}
+use refusals::refusal::Refusal;
+use store::{EntryPart, EntryPlace};
 
 // Does a file import an AID?
 fn imports(g: &[u8], aid: &[u8]) -> bool
@@ -35,14 +20,12 @@ fn imports(g: &[u8], aid: &[u8]) -> bool
     ensures { ImportsSays g.now aid.now result }
 {
     let start = files::imports_at(g);
-    let mut left = fields::wide(g[start]);
     let mut c = start + 1;
-    while 0 < left {
+    for _ in 0..fields::wide(g[start]) {
         if files::aid_is(g, c, aid) {
             return true;
         }
         c = files::after_aid(g, c);
-        left -= 1;
     }
     false
 }
@@ -64,113 +47,100 @@ fn imported(s: &[u8], end: usize, aid: &[u8]) -> bool
     ensures { ImportedSays s.now end aid.now result }
 {
     let mut at = store::openings::first_entry(s);
-    loop {
-        match store::entry_at(s, at, end) {
-            EntryPart::Domain(_, next) => {
+    while let Some(part) = store::entry_at(s, at, end) {
+        match part {
+            EntryPart::Domain { next, .. } => {
                 at = next;
             }
-            EntryPart::Package(_, file, next) => {
+            EntryPart::Package { file, next, .. } => {
                 if other_imports(&s[file..next], aid) {
                     return true;
                 }
                 at = next;
             }
-            EntryPart::AtEnd => {
-                return false;
-            }
         }
     }
+    false
 }
 
-// Does the method of a name of the class at a place allow a domain, in a file of domain `own`?
-fn class_allows(g: &[u8], own: &[u8], c: usize, name: usize, domain: &[u8]) -> Allowed
+// Does the method of a name of the class at a place allow a domain, in a file of domain `own`? Nothing where there is no such method.
+fn class_allows(g: &[u8], own: &[u8], c: usize, name: usize, domain: &[u8]) -> Option<bool>
     requires { ClassOf g.now c }
     ensures { ClassAllows g.now own.now c name domain.now result }
 {
-    match files::find_method(g, c, name) {
-        Spot::At(m) => {
-            let p = RightsPlace {
-                domains: files::domains_at(g),
-                policy: files::policy_of(g, m),
-            };
-            if policies::admits(g, own, p, domain) {
-                return Allowed::Yes;
-            }
-            Allowed::No
-        }
-        Spot::Nothing => Allowed::Undeclared,
-    }
+    let m = files::find_method(g, c, name)?;
+    let p = RightsPlace {
+        domains: files::domains_at(g),
+        policy: files::policy_of(g, m),
+    };
+    Some(policies::admits(g, own, p, domain))
 }
 
-// Does the method of a class and a name of a file allow a domain, where its package lies in domain `own`?
-fn file_allows(g: &[u8], own: &[u8], class: usize, name: usize, domain: &[u8]) -> Allowed
+// Does the method of a class and a name of a file allow a domain, where its package lies in domain `own`? Nothing where there is none.
+fn file_allows(g: &[u8], own: &[u8], class: usize, name: usize, domain: &[u8]) -> Option<bool>
     requires { Readable g.now }
     ensures { FileAllows g.now own.now class name domain.now result }
 {
-    match files::class_place(g, class) {
-        Spot::At(c) => class_allows(g, own, c, name, domain),
-        Spot::Nothing => Allowed::Undeclared,
-    }
+    let c = files::class_place(g, class)?;
+    class_allows(g, own, c, name, domain)
 }
 
-// Create, a domain of either kind: 3, 4, 21.
-pub fn create_answer(s: &[u8], used: usize, domain: &[u8]) -> u32
+// Create, a domain of either kind: the first refusal of 3, 4 and 21.
+pub fn create_answer(s: &[u8], used: usize, domain: &[u8]) -> Result<(), Refusal>
     requires { SoundAt s.now used }
-    ensures { (k : DomainKind) → Asked s.now used (create k domain.now) result }
+    ensures { (k : DomainKind) → Asked s.now used (create k domain.now) (number_said result) }
 {
     if !cursor::length_ok(domain) {
-        return 3;
+        return Err(Refusal::AidLength);
     }
-    match store::find_domain(s, used, domain) {
-        Place::At(_, _) => 4,
-        Place::Nothing => {
-            if !store::domain_fits(s, used, domain) {
-                return 21;
-            }
-            0
-        }
+    if store::find_domain(s, used, domain).is_some() {
+        return Err(Refusal::DomainExists);
     }
+    if !store::domain_fits(s, used, domain) {
+        return Err(Refusal::StoreFull);
+    }
+    Ok(())
 }
 
-// Delete: 3, 5, 6, and the place of the domain's entry.
-pub fn delete_answer(s: &[u8], used: usize, domain: &[u8]) -> Cut
+// Delete: the first refusal of 3, 5 and 6, or the place of the domain's entry.
+pub fn delete_answer(s: &[u8], used: usize, domain: &[u8]) -> Result<EntryPlace, Refusal>
     requires { SoundAt s.now used }
     ensures { CutSays s.now used (delete domain.now) (is_domain domain.now) result }
 {
     if !cursor::length_ok(domain) {
-        return Cut::Refused(3);
+        return Err(Refusal::AidLength);
     }
-    match store::find_domain(s, used, domain) {
-        Place::At(at, next) => {
-            if store::domain_in_use(s, used, domain) {
-                return Cut::Refused(6);
-            }
-            Cut::Entry(at, next)
-        }
-        Place::Nothing => Cut::Refused(5),
+    let Some(place) = store::find_domain(s, used, domain) else {
+        return Err(Refusal::DomainUnknown);
+    };
+    if store::domain_in_use(s, used, domain) {
+        return Err(Refusal::DomainOccupied);
     }
+    Ok(place)
 }
 
-// Remove: 3, 7, 8, and the place of the package's entry.
-pub fn remove_answer(s: &[u8], used: usize, package: &[u8]) -> Cut
+// Remove: the first refusal of 3, 7 and 8, or the place of the package's entry.
+// Kept: one function with the deletion would take its two questions and two refusals as arguments, longer than the three questions here.
+pub fn remove_answer(s: &[u8], used: usize, package: &[u8]) -> Result<EntryPlace, Refusal>
     requires { SoundAt s.now used }
     ensures { CutSays s.now used (remove «package».now) (is_package (store_limits s.now) «package».now) result }
 {
     if !cursor::length_ok(package) {
-        return Cut::Refused(3);
+        return Err(Refusal::AidLength);
     }
-    match store::find_package(s, used, package) {
-        FileSpot::File(at, _, next) => {
-            if imported(s, used, package) {
-                return Cut::Refused(8);
-            }
-            Cut::Entry(at, next)
-        }
-        FileSpot::Missing => Cut::Refused(7),
+    let Some(b) = store::find_package(s, used, package) else {
+        return Err(Refusal::PackageUnknown);
+    };
+    if imported(s, used, package) {
+        return Err(Refusal::PackageImported);
     }
+    Ok(EntryPlace {
+        at: b.at,
+        next: b.to,
+    })
 }
 
-// A query of a sound store: 3, 7, 9, then yes or no.
+// A query of a sound store: the first refusal of 3, 7 and 9, or whether the method allows the domain.
 pub fn query_on(
     s: &[u8],
     used: usize,
@@ -178,25 +148,24 @@ pub fn query_on(
     package: &[u8],
     class: usize,
     name: usize,
-) -> u32
+) -> Result<bool, Refusal>
     requires { SoundAt s.now used }
-    ensures { result ≡ query_number s.now domain.now «package».now class name
-        + 256 * pick (query_yes s.now domain.now «package».now class name) 1 0 }
+    ensures { (number_said result ≡ query_number s.now domain.now «package».now class name)
+        × (yes_said result ≡ query_yes s.now domain.now «package».now class name) }
 {
     if !cursor::length_ok(domain) {
-        return 3;
+        return Err(Refusal::AidLength);
     }
     if !cursor::length_ok(package) {
-        return 3;
+        return Err(Refusal::AidLength);
     }
     match store::find_package(s, used, package) {
-        FileSpot::File(at, from, to) => {
-            match file_allows(&s[from..to], &s[at + 4..from], class, name, domain) {
-                Allowed::Yes => 256,
-                Allowed::No => 0,
-                Allowed::Undeclared => 9,
+        Some(b) => {
+            match file_allows(&s[b.from..b.to], &s[b.at + 4..b.from], class, name, domain) {
+                Some(yes) => Ok(yes),
+                None => Err(Refusal::MethodUnknown),
             }
         }
-        FileSpot::Missing => 7,
+        None => Err(Refusal::PackageUnknown),
     }
 }

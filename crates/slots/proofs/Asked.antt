@@ -1,51 +1,18 @@
--- A slot emptied number by number, and what is asked of a slot: class places and imports. Assumes nothing.
+-- What is asked of a slot: class places and imports; slots of zeros know nothing. Assumes nothing.
+use Rattle.std.specs.Prelude.{Some}
 use Prim.Native.Nat.{ℕ, zero, suc, ◌+◌, ◌*◌, ◌≤◌, ◌<◌}
 use native.Mathlib.Omega.{arith}
 use mathlib.Core.Path.{◌≡◌, refl, sym, ◌∙◌, ap, subst}
 use mathlib.Core.List.{List}
-use mathlib.Core.Logic.{◌⊎◌, inl, inr}
-use lib.ListN.{length, get_or, set, length-set}
-use lib.Seq.{get_or-set_same, get_or-set_other}
+use lib.ListN.{length, get_or}
 use Rattle.rules.specs.Bytes.{Bytes}
-use Rattle.rules.proofs.Lists.{same_or_not}
 use Rattle.homes.specs.Homes.{file_of, HomeThere, NumberedIs}
 use Rattle.homes.specs.declared.Home.{Home}
-use Rattle.homes.specs.declared.HomeFound.TheVariants.{At}
 use Rattle.homes.proofs.Homes.{home_bounds}
 use Rattle.named.specs.Named.{RowTrue, Beside}
-use Rattle.slots.specs.Slots.{slot_count, slot_length, slots_length, with_home, slot_home, import_home, SmallHome, SlotsTrue, Emptied}
+use Rattle.slots.specs.Slots.{slot_count, slot_length, slots_length, with_home, slot_home, import_home, SmallHome, SlotsTrue}
 use Rattle.slots.proofs.Slots.{slots_filled}
 use Rattle.slots.proofs.Imports.{import_kept}
-
--- the first i numbers of slot k are 0, and all others as they were
-pub record Emptying (t u : List ℕ) (k i : ℕ) : Type 0 where
-  pub few : i ≤ slot_length
-  pub size : length u ≡ length t
-  pub zeros : (j : ℕ) → slot_length * k ≤ j → j < slot_length * k + i → get_or u j 0 ≡ 0
-  pub others : (j : ℕ) → (slot_length * k ≤ j → j < slot_length * k + i → ⊥) → get_or u j 0 ≡ get_or t j 0
-
-pub empty_start : (t : List ℕ) (k : ℕ) → Emptying t t k 0
-empty_start t k = record { few = omega arith; size = refl; zeros = λ j p q. absurd (omega arith); others = λ j n. refl }
-
-pub empty_more : (t u : List ℕ) (k i : ℕ) → i < slot_length → k < slot_count → slots_length ≤ length t → Emptying t u k i → Emptying t
-    (set u (slot_length * k + i) 0) k (i + 1)
-empty_more t u k i b c z e = record {
-  few = omega arith;
-  size = length-set u (slot_length * k + i) 0 ∙ e.size;
-  zeros = λ j p q. zeros j p q (same_or_not j (slot_length * k + i));
-  others = λ j n. get_or-set_other u (slot_length * k + i) j 0 0 (λ w. n (omega arith) (omega arith)) ∙ e.others j (λ p q. n p (omega arith));
-}
-  where
-    zeros : (j : ℕ) → slot_length * k ≤ j → j < slot_length * k + (i + 1) → (j ≡ slot_length * k + i) ⊎ (j ≡ slot_length * k + i → ⊥) → get_or
-        (set u (slot_length * k + i) 0) j 0 ≡ 0
-    zeros j p q (inl w) = rw w (get_or-set_same u (slot_length * k + i) 0 0 (omega (arith, e.size)))
-    zeros j p q (inr w) = get_or-set_other u (slot_length * k + i) j 0 0 w ∙ e.zeros j p (omega (arith, w))
-
-pub empty_done : (t u : List ℕ) (k i : ℕ) → slot_length ≤ i → Emptying t u k i → Emptied t u k
-empty_done t u k i z e = record {
-  zeros = λ j p q. e.zeros j p (omega arith);
-  others = λ j n i p q. e.others i (λ x y. n (omega (arith, e.few)));
-}
 
 module _ (f s : Bytes) (t : List ℕ) (h : Home) (k : ℕ) (q : SlotsTrue f s t) (b : k < slot_count) (e : slot_home t k ≡ h) where
   -- the class places of the package at home h
@@ -57,20 +24,20 @@ module _ (f s : Bytes) (t : List ℕ) (h : Home) (k : ℕ) (q : SlotsTrue f s t)
   row_kept g z u y r w = slots_filled f s t u k b y w (subst (λ (x : Bytes). RowTrue x u (slot_length * k)) (z ∙ ap (file_of f s) (sym e)) r) q
 
   -- the home of an import that is known
-  pub import_told : (p : ℕ) → (p ≡ 0 → ⊥) → p ≤ 15 → (x : Home) → x ≡ import_home t k p → (x.to ≡ 0 → ⊥) → NumberedIs f s h p (At x)
+  pub import_told : (p : ℕ) → (p ≡ 0 → ⊥) → p ≤ 15 → (x : Home) → x ≡ import_home t k p → (x.to ≡ 0 → ⊥) → NumberedIs f s h p (Some x)
   import_told zero n l x z m = absurd (n refl)
   import_told (suc p) n l x z m =
-      subst (λ (a : Home). NumberedIs f s a (suc p) (At x)) e
-      (subst (λ (a : Home). NumberedIs f s (slot_home t k) (suc p) (At a)) (sym z) ((q.slot k b).imports p l (λ w. m (ap (λ (a : Home). a.to) z ∙ w))))
+      subst (λ (a : Home). NumberedIs f s a (suc p) (Some x)) e
+      (subst (λ (a : Home). NumberedIs f s (slot_home t k) (suc p) (Some a)) (sym z) ((q.slot k b).imports p l (λ w. m (ap (λ (a : Home). a.to) z ∙ w))))
 
   -- one that was found is written
-  pub import_put : (p : ℕ) → (p ≡ 0 → ⊥) → p ≤ 15 → (g : Home) → NumberedIs f s h p (At g) → SlotsTrue f s (with_home t (slot_length * k + 32 + 3 * p) g)
+  pub import_put : (p : ℕ) → (p ≡ 0 → ⊥) → p ≤ 15 → (g : Home) → NumberedIs f s h p (Some g) → SlotsTrue f s (with_home t (slot_length * k + 32 + 3 * p) g)
   import_put zero n l g m = absurd (n refl)
-  import_put (suc p) n l g m = import_kept f s t k p b l q g (subst (λ (a : Home). NumberedIs f s a (suc p) (At g)) (sym e) m)
+  import_put (suc p) n l g m = import_kept f s t k p b l q g (subst (λ (a : Home). NumberedIs f s a (suc p) (Some g)) (sym e) m)
 
 -- its places fit two bytes
 pub import_small : (f s : Bytes) (h : Home) (p : ℕ) → (p ≡ 0 → ⊥) → HomeThere f s h → length s ≤ 65535 → SmallHome h → (g : Home) → NumberedIs f s h p
-    (At g) → SmallHome g
+    (Some g) → SmallHome g
 import_small f s h zero n t z y g m = absurd (n refl)
 import_small f s h (suc p) n t z y g m =
     let u = m t.0 t.1 t.2 t.3 t.4 t.5 in
@@ -86,15 +53,3 @@ slots_none f s t z e = record {
     imports = λ p l n. absurd (n (e (slot_length * k + 32 + 3 * suc p + 1) (omega arith)));
   };
 }
-
--- so do slots in which the first numbers were set to 0, one by one
-pub record Clearing (t u : List ℕ) (i : ℕ) : Type 0 where
-  pub size : length u ≡ length t
-  pub zeros : (j : ℕ) → j < i → get_or u j 0 ≡ 0
-
-pub clear_more : (t u : List ℕ) (i : ℕ) → i < length t → Clearing t u i → Clearing t (set u i 0) (i + 1)
-clear_more t u i b c = record { size = length-set u i 0 ∙ c.size; zeros = λ j q. zeros j q (same_or_not j i) }
-  where
-    zeros : (j : ℕ) → j < i + 1 → (j ≡ i) ⊎ (j ≡ i → ⊥) → get_or (set u i 0) j 0 ≡ 0
-    zeros j q (inl w) = rw w (get_or-set_same u i 0 0 (omega (arith, c.size)))
-    zeros j q (inr w) = get_or-set_other u i j 0 0 w ∙ c.zeros j (omega (arith, w))

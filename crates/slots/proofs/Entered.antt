@@ -1,4 +1,5 @@
 -- The homes of the own file's imports, entered into slot 0 one by one by their places. Assumes nothing.
+use Rattle.std.specs.Prelude.{Some}
 use Prim.Native.Nat.{ℕ, suc, zero, ◌+◌, ◌-◌, ◌*◌, ◌≤◌, ◌<◌}
 use native.Mathlib.Omega.{arith}
 use mathlib.Core.Path.{◌≡◌, refl, sym, ◌∙◌, subst}
@@ -8,7 +9,6 @@ use Rattle.rules.specs.Bytes.{Bytes}
 use Rattle.homes.specs.Homes.{own_home, home_of, PackageFrom, NumberedIs}
 use Rattle.homes.specs.Found.{home_numbered, ImportPlaces}
 use Rattle.homes.specs.declared.Home.{Home}
-use Rattle.homes.specs.declared.HomeFound.TheVariants.{At}
 use Rattle.homes.proofs.Places.{home_by}
 use Rattle.homes.proofs.Imported.{numbered_placed, placed_at}
 use Rattle.slots.specs.Slots.{with_home, slot_home, SmallHome, SlotsTrue, SlotFor}
@@ -38,8 +38,8 @@ module _ (s : Bytes) (end : ℕ) (places : List ℕ) where
   entered_more t zero h n l m e q = absurd (n refl)
   entered_more t (suc p) h n l m e q = λ f i.
       let told = q f i in
-      let told_at : At h ≡ home_numbered s end places (suc p) = placed_at s end places (suc p) h n m e in
-      let own : NumberedIs f s (own_home end) (suc p) (At h) =
+      let told_at : Some h ≡ home_numbered s end places (suc p) = placed_at s end places (suc p) h n m e in
+      let own : NumberedIs f s (own_home end) (suc p) (Some h) =
       subst (NumberedIs f s (own_home end) (suc p)) (sym told_at) (numbered_placed f s end places i (suc p)) in
-      let here = subst (λ (g : Home). NumberedIs f s g (suc p) (At h)) (sym told.1) own in
+      let here = subst (λ (g : Home). NumberedIs f s g (suc p) (Some h)) (sym told.1) own in
       (import_kept f s t 0 p (omega arith) (omega arith) told.0 h here, same_slot f s t 0 p (omega arith) (omega arith) told.0 h here ∙ told.1)

@@ -1,4 +1,5 @@
 -- The home of an import, written in a slot: what the slots tell stays true. Assumes nothing.
+use Rattle.std.specs.Prelude.{Some}
 use Prim.Native.Nat.{ℕ, suc, ◌+◌, ◌*◌, ◌≤◌, ◌<◌}
 use native.Mathlib.Omega.{arith}
 use native.Mathlib.Decide.{dec_le}
@@ -10,14 +11,13 @@ use Rattle.rules.specs.Bytes.{Bytes}
 use Rattle.rules.proofs.Lists.{same_or_not}
 use Rattle.homes.specs.Homes.{file_of, NumberedIs}
 use Rattle.homes.specs.declared.Home.{Home}
-use Rattle.homes.specs.declared.HomeFound.TheVariants.{At}
 use Rattle.named.specs.Named.{ClassFrom}
 use Rattle.slots.specs.Slots.{slot_count, slot_length, home_in, with_home, slot_home, import_home, SlotsTrue, SlotSame}
 use Rattle.slots.proofs.Slots.{home_is, home_length, home_other, home_written, apart, slots_but}
 
 -- the home of an import was written
 module _ (f s : Bytes) (t : List ℕ) (k p : ℕ) (b : k < slot_count) (small : suc p ≤ 15) (q : SlotsTrue f s t) (g : Home)
-    (n : NumberedIs f s (slot_home t k) (suc p) (At g)) where
+    (n : NumberedIs f s (slot_home t k) (suc p) (Some g)) where
   abbrev kept : List ℕ
   kept = with_home t (slot_length * k + 32 + 3 * suc p) g
 
@@ -53,7 +53,7 @@ module _ (f s : Bytes) (t : List ℕ) (k p : ℕ) (b : k < slot_count) (small : 
           subst (λ (h : Home). ClassFrom (file_of f s h) c (get_or kept (slot_length * k + c) 0)) (sym same_slot)
           (subst (λ (i : ℕ). ClassFrom (file_of f s (slot_home t k)) c i) (sym w) ((q.slot k b).places.told c l (omega (arith, w))));
     };
-    imports = λ r l m. subst (λ (h : Home). NumberedIs f s h (suc r) (At (import_home kept k (suc r)))) (sym same_slot) (which r l m (same_or_not r p));
+    imports = λ r l m. subst (λ (h : Home). NumberedIs f s h (suc r) (Some (import_home kept k (suc r)))) (sym same_slot) (which r l m (same_or_not r p));
   })
     where
       others : (j : ℕ) → (slot_length * j + slot_length ≤ slot_length * k) ⊎ (slot_length * k + slot_length ≤ slot_length * j) → SlotSame t kept j
@@ -61,11 +61,11 @@ module _ (f s : Bytes) (t : List ℕ) (k p : ℕ) (b : k < slot_count) (small : 
       others j (inr w) i x y = kept_other i (inr (omega arith))
 
       which : (r : ℕ) → suc r ≤ 15 → ((import_home kept k (suc r)).to ≡ 0 → ⊥) → (r ≡ p) ⊎ (r ≡ p → ⊥) → NumberedIs f s (slot_home t k) (suc r)
-          (At (import_home kept k (suc r)))
+          (Some (import_home kept k (suc r)))
       which r l m (inl w) =
           let a : import_home kept k (suc p) ≡ g = home_written t (slot_length * k + 32 + 3 * suc p) g (omega (arith, q.size)) in
-          subst (λ (i : ℕ). NumberedIs f s (slot_home t k) (suc i) (At (import_home kept k (suc i)))) (sym w)
-          (subst (λ (h : Home). NumberedIs f s (slot_home t k) (suc p) (At h)) (sym a) n)
+          subst (λ (i : ℕ). NumberedIs f s (slot_home t k) (suc i) (Some (import_home kept k (suc i)))) (sym w)
+          (subst (λ (h : Home). NumberedIs f s (slot_home t k) (suc p) (Some h)) (sym a) n)
       which r l m (inr w) =
           let a : import_home kept k (suc r) ≡ import_home t k (suc r) = kept_same (slot_length * k + 32 + 3 * suc r) (side r w) in
-          subst (λ (h : Home). NumberedIs f s (slot_home t k) (suc r) (At h)) (sym a) ((q.slot k b).imports r l (λ v. m (ap (λ (h : Home). h.to) a ∙ v)))
+          subst (λ (h : Home). NumberedIs f s (slot_home t k) (suc r) (Some h)) (sym a) ((q.slot k b).imports r l (λ v. m (ap (λ (h : Home). h.to) a ∙ v)))

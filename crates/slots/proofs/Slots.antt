@@ -1,4 +1,5 @@
 -- Slots: what is written in one leaves the others as they are, and what each tells stays true. Assumes nothing.
+use Rattle.std.specs.Prelude.{Some}
 use Prim.Native.Nat.{ℕ, suc, ◌+◌, ◌*◌, ◌≤◌, ◌<◌}
 use native.Mathlib.Omega.{arith}
 use native.Mathlib.Decide.{dec_le}
@@ -11,7 +12,6 @@ use Rattle.rules.specs.Bytes.{Bytes}
 use Rattle.rules.proofs.Lists.{same_or_not}
 use Rattle.homes.specs.Homes.{file_of, NumberedIs}
 use Rattle.homes.specs.declared.Home.{Home}
-use Rattle.homes.specs.declared.HomeFound.TheVariants.{At}
 use Rattle.named.specs.Named.{ClassFrom, RowTrue, Beside}
 use Rattle.slots.specs.Slots.{slot_count, slot_length, slots_length, home_in, with_home, slot_home, import_home, SlotTrue, SlotsTrue, SlotSame, Emptied, SlotFor}
 
@@ -52,13 +52,13 @@ module _ (f s : Bytes) (t u : List ℕ) (k : ℕ) (z : length u ≡ length t) wh
 
   -- the imports, where the homes behind the class places are the same
   imports_same : ((i : ℕ) → slot_length * k + 32 ≤ i → i < slot_length * k + slot_length → get_or u i 0 ≡ get_or t i 0) → SlotTrue f s t k →
-      (p : ℕ) → suc p ≤ 15 → ((import_home u k (suc p)).to ≡ 0 → ⊥) → NumberedIs f s (slot_home u k) (suc p) (At (import_home u k (suc p)))
+      (p : ℕ) → suc p ≤ 15 → ((import_home u k (suc p)).to ≡ 0 → ⊥) → NumberedIs f s (slot_home u k) (suc p) (Some (import_home u k (suc p)))
   imports_same e q p small n =
       let a : slot_home u k ≡ slot_home t k = home_same (slot_length * k + 32) (λ j x y. e j (omega arith) (omega arith)) in
       let b : import_home u k (suc p) ≡ import_home t k (suc p) = home_same (slot_length * k + 32 + 3 * suc p) (λ j x y. e j (omega arith) (omega arith)) in
       let c = q.imports p small (λ w. n (ap (λ (h : Home). h.to) b ∙ w)) in
-      subst (λ (h : Home). NumberedIs f s h (suc p) (At (import_home u k (suc p)))) (sym a)
-      (subst (λ (h : Home). NumberedIs f s (slot_home t k) (suc p) (At h)) (sym b) c)
+      subst (λ (h : Home). NumberedIs f s h (suc p) (Some (import_home u k (suc p)))) (sym a)
+      (subst (λ (h : Home). NumberedIs f s (slot_home t k) (suc p) (Some h)) (sym b) c)
 
   pub slot_same : SlotSame t u k → SlotTrue f s t k → SlotTrue f s u k
   slot_same e q =

@@ -1,4 +1,5 @@
 -- A class that is there: the places of its home fit two bytes, and its record is a part of the file there. Assumes nothing.
+use Rattle.std.specs.Prelude.{Some}
 use Prim.Native.Nat.{ℕ, ◌≤◌}
 use native.Mathlib.Omega.{arith}
 use mathlib.Core.Path.{◌≡◌, ◌∙◌, ap}
@@ -6,7 +7,6 @@ use lib.ListN.{length, drop}
 use Rattle.rules.specs.Bytes.{Bytes}
 use Rattle.rules.specs.Store.{first_entry}
 use Rattle.store.proofs.Stand.{entries_to}
-use Rattle.files.specs.declared.Spot.TheVariants as spots
 use Rattle.homes.specs.Homes.{file_of, RecordIs}
 use Rattle.homes.specs.declared.Home.{Home}
 use Rattle.homes.proofs.Homes.{home_bounds, home_below}
@@ -30,4 +30,4 @@ module _ (f s : Bytes) (h : Home) (n : ℕ) (t : ClassThere f s h n) where
     record_inside = let y = (class_there f s h n g i e p t).2.2 in y.from
 
     pub record_part : (r : Bytes) → r ≡ drop i g → RecordIs f s h n r
-    record_part r z end es self m x o = (spots.At i, p end es self m x o, z ∙ ap (drop i) e)
+    record_part r z end es self m x o = (Some i, p end es self m x o, z ∙ ap (drop i) e)

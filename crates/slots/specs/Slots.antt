@@ -8,10 +8,10 @@
 -- Emptied t u k        == the table u is t with slot k emptied
 -- SlotFor t u h k      == where all slots of t are true, so are those of u, and slot k stands for the package at home h
 use Rattle.std.specs.Prelude.{ℕ, suc, ◌+◌, ◌*◌, ◌<◌, ◌≤◌, ◌≡◌, List, length, get_or, set}
+use Rattle.std.specs.Prelude.{Some}
 use Rattle.rules.specs.Bytes.{Bytes}
 use Rattle.homes.specs.Homes.{file_of, NumberedIs}
 use Rattle.homes.specs.declared.Home.{Home}
-use Rattle.homes.specs.declared.HomeFound.TheVariants.{At}
 use Rattle.named.specs.Named.{RowTrue}
 
 abbrev pub slot_count : ℕ
@@ -43,7 +43,7 @@ pub record SmallHome (h : Home) : Type 0 where
 -- what a slot tells
 pub record SlotTrue (f s : Bytes) (t : List ℕ) (k : ℕ) : Type 0 where
   pub places : RowTrue (file_of f s (slot_home t k)) t (slot_length * k)
-  pub imports : (p : ℕ) → suc p ≤ 15 → ((import_home t k (suc p)).to ≡ 0 → ⊥) → NumberedIs f s (slot_home t k) (suc p) (At (import_home t k (suc p)))
+  pub imports : (p : ℕ) → suc p ≤ 15 → ((import_home t k (suc p)).to ≡ 0 → ⊥) → NumberedIs f s (slot_home t k) (suc p) (Some (import_home t k (suc p)))
 
 pub record SlotsTrue (f s : Bytes) (t : List ℕ) : Type 0 where
   pub size : slots_length ≤ length t

@@ -11,9 +11,7 @@ ghost use Rattle.homes.specs.Found.{places_length, Indexed, ImportPlaces, Places
 ghost use Rattle.classes.specs.Say.{ClassThere, RecordAt};
 ghost use Rattle.slots.specs.Slots.{slot_count, slot_length, slots_length, home_in, with_home, slot_home, SmallHome, Emptied, SlotsTrue, SlotFor};
 
-use fields::long;
-use files::Spot;
-use homes::{Home, HomeFound, Places};
+use homes::{Home, Places};
 
 // A package whose classes and imports are asked for: its home, and the slot for it.
 #[derive(Clone, Copy)]
@@ -22,22 +20,21 @@ pub struct Site {
     pub slot: usize,
 }
 
-// The home that stands in three numbers of the table.
-fn home_in(slots: &[u16], at: usize) -> Home
-    requires at_in_bounds { at + 2 < length slots.now }
-    requires slots_length_in_bounds { slots_length ≤ length slots.now }
+// The home that stands in three numbers of a table.
+pub fn home_in(slots: &[u16], at: usize) -> Home
+    requires { at + 2 < length slots.now }
     ensures { result ≡ home_in slots.now at }
 {
     Home {
-        from: long(slots[at]),
-        to: long(slots[at + 1]),
-        before: long(slots[at + 2]),
+        from: usize::from(slots[at]),
+        to: usize::from(slots[at + 1]),
+        before: usize::from(slots[at + 2]),
     }
 }
 
 // Writes it there.
-fn put_home(slots: &mut [u16], at: usize, h: Home)
-    requires at_in_bounds { (at + 2 < length slots.old) × (slots_length ≤ length slots.old) }
+pub fn put_home(slots: &mut [u16], at: usize, h: Home)
+    requires at_in_bounds { at + 2 < length slots.old }
     requires small_home { SmallHome h }
     ensures { slots.new ≡ with_home slots.old at h }
 {
@@ -46,30 +43,12 @@ fn put_home(slots: &mut [u16], at: usize, h: Home)
     slots[at + 2] = h.before as u16;
 }
 
-// Are two homes the same?
-fn same_home(g: Home, h: Home) -> bool
-    ensures { result ≡ true → g ≡ h }
-{
-    if g.from != h.from {
-        return false;
-    }
-    if g.to != h.to {
-        return false;
-    }
-    g.before == h.before
-}
-
 // Nothing is known in slot k.
 fn empty_slot(slots: &mut [u16], k: usize)
     requires { (k < slot_count) × (slots_length ≤ length slots.old) }
     ensures { Emptied slots.old slots.new k }
 {
-    let base = 80 * k;
-    let mut i = 0;
-    while i < 80 {
-        slots[base + i] = 0;
-        i += 1;
-    }
+    slots[80 * k..80 * k + 80].fill(0);
 }
 
 // Nothing is known in any slot.
@@ -77,11 +56,7 @@ pub fn clear(slots: &mut [u16])
     requires { slots_length ≤ length slots.old }
     ensures { (f s : Bytes) → SlotsTrue f s slots.new }
 {
-    let mut i = 0;
-    while i < 640 {
-        slots[i] = 0;
-        i += 1;
-    }
+    slots[..640].fill(0);
 }
 
 // Slot k is that of the package at a home: it is emptied where it was another's.
@@ -91,7 +66,7 @@ fn take_slot(slots: &mut [u16], h: Home, k: usize)
     ensures { SlotFor slots.old slots.new h k }
 {
     let g = home_in(slots, 80 * k + 32);
-    if same_home(g, h) {
+    if g == h {
         return;
     }
     empty_slot(slots, k);
@@ -106,14 +81,12 @@ pub fn enter_imports(s: &[u8], slots: &mut [u16], end: usize, places: &Places)
 {
     clear(slots);
     take_slot(slots, homes::own_home(end), 0);
-    let mut p = 1;
-    while p < 16 {
-        let place = long(places[p - 1]);
+    for p in 1..16 {
+        let place = usize::from(places[p - 1]);
         if place == 0 {
             return;
         }
         put_home(slots, 32 + 3 * p, homes::home_at(s, place));
-        p += 1;
     }
 }
 
@@ -125,22 +98,17 @@ pub fn slot_for(slots: &[u16], h: Home) -> usize
     if h.from == 0 {
         return 0;
     }
-    let mut k = 1;
-    while k < 8 {
-        let to = long(slots[80 * k + 33]);
-        if to == h.to {
+    for k in 1..8 {
+        let to = usize::from(slots[80 * k + 33]);
+        if to == h.to || to == 0 {
             return k;
         }
-        if to == 0 {
-            return k;
-        }
-        k += 1;
     }
     1 + h.before / 16 % 7
 }
 
 // The place of the record of class n of a package, if it has that class.
-pub fn class_in<'a>(f: &'a [u8], s: &'a [u8], slots: &mut [u16], x: Site, n: usize) -> Spot
+pub fn class_in<'a>(f: &'a [u8], s: &'a [u8], slots: &mut [u16], x: Site, n: usize) -> Option<usize>
     requires home_there { HomeThere f.now s.now x.home × (x.slot < slot_count) }
     requires small_home { SmallHome x.home }
     requires slots_true { SlotsTrue f.now s.now slots.old }
@@ -163,8 +131,8 @@ pub fn record_in<'a>(f: &'a [u8], s: &'a [u8], slots: &mut [u16], x: Site, n: us
     ensures slots_true_2 { SlotsTrue f.now s.now slots.new }
 {
     match class_in(f, s, slots, x, n) {
-        Spot::At(c) => c,
-        Spot::Nothing => 0,
+        Some(c) => c,
+        None => 0,
     }
 }
 
@@ -177,7 +145,7 @@ pub fn import_in<'a>(
     slots: &mut [u16],
     x: Site,
     p: usize,
-) -> HomeFound
+) -> Option<Home>
     requires home_there { HomeThere f.now s.now x.home × (x.slot < slot_count) }
     requires indexed { Indexed s.now end index.now × (x.home.before ≤ end) }
     requires small_home { SmallHome x.home × (length s.now ≤ 65535) }
@@ -188,7 +156,7 @@ pub fn import_in<'a>(
     let h = x.home;
     let k = x.slot;
     if p == 0 {
-        return HomeFound::At(h);
+        return Some(h);
     }
     if 15 < p {
         return homes::numbered(f, s, end, index, h, p);
@@ -197,13 +165,9 @@ pub fn import_in<'a>(
     let at = 80 * k + 32 + 3 * p;
     let kept = home_in(slots, at);
     if kept.to != 0 {
-        return HomeFound::At(kept);
+        return Some(kept);
     }
-    match homes::numbered(f, s, end, index, h, p) {
-        HomeFound::At(g) => {
-            put_home(slots, at, g);
-            HomeFound::At(g)
-        }
-        HomeFound::Nothing => HomeFound::Nothing,
-    }
+    let g = homes::numbered(f, s, end, index, h, p)?;
+    put_home(slots, at, g);
+    Some(g)
 }

@@ -6,9 +6,8 @@ ghost use Rattle.classes.specs.Say.{ClassThere, CountIs, ParentThere, ParentIs, 
 ghost use Rattle.slots.specs.Slots.{SlotsTrue};
 
 use super::{Site, import_in, record_in, slot_for};
-use classes::{ClassFound, ClassSpot};
+use classes::ClassSpot;
 use fields::wide;
-use homes::HomeFound;
 
 // The place of the record of a class.
 pub fn place_of<'a>(f: &'a [u8], s: &'a [u8], slots: &mut [u16], x: ClassSpot) -> usize
@@ -42,10 +41,7 @@ pub fn is_kind0<'a>(f: &'a [u8], s: &'a [u8], slots: &mut [u16], x: ClassSpot) -
     ensures slots_true_2 { SlotsTrue f.now s.now slots.new }
 {
     let c = record_of(f, s, slots, x);
-    if wide(c[0]) == 1 {
-        return false;
-    }
-    true
+    c[0] != 1
 }
 
 // How many parents it has.
@@ -81,11 +77,8 @@ pub fn parent_at<'a>(
     let p = wide(c[2 + 2 * i]);
     let k = slot_for(slots, h);
     match import_in(f, s, end, index, slots, Site { home: h, slot: k }, p) {
-        HomeFound::At(g) => ClassSpot {
-            home: g,
-            number: number,
-        },
-        HomeFound::Nothing => x,
+        Some(g) => ClassSpot { home: g, number },
+        None => x,
     }
 }
 
@@ -97,7 +90,7 @@ pub fn kind0_parent<'a>(
     index: &[u16],
     slots: &mut [u16],
     x: ClassSpot,
-) -> ClassFound
+) -> Option<ClassSpot>
     requires class_there { ClassThere f.now s.now x.home x.number × (length s.now ≤ 65535) }
     requires indexed { Indexed s.now end index.now × (x.home.before ≤ end) }
     requires slots_true { SlotsTrue f.now s.now slots.old }
@@ -105,13 +98,11 @@ pub fn kind0_parent<'a>(
     ensures slots_true_2 { SlotsTrue f.now s.now slots.new }
 {
     let count = parent_count(f, s, slots, x);
-    let mut i = 0;
-    while i < count {
+    for i in 0..count {
         let p = parent_at(f, s, end, index, slots, x, i);
         if is_kind0(f, s, slots, p) {
-            return ClassFound::At(p);
+            return Some(p);
         }
-        i += 1;
     }
-    ClassFound::Nothing
+    None
 }

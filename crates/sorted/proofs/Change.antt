@@ -5,53 +5,12 @@ use mathlib.Core.Path.{◌≡◌, refl, sym, ap, ◌∙◌}
 use mathlib.Core.Bool.{Bool, true, false}
 use mathlib.Core.List.{List}
 use mathlib.Core.Logic.{◌⊎◌, inl, inr, ⊎_elim}
-use lib.ListN.{length, get_or, set, length-set}
+use lib.ListN.{length, set, length-set}
 use lib.Seq.{get_or-set_same, get_or-set_other}
 use Rattle.rules.specs.Bytes.{Bytes, Aid}
 use Rattle.sorted.specs.Sorted.{below, key_at, Keyed, count, place_at, Has, Sorted, Lower, HereIs, Opened, EnteredNew, Entered}
 use Rattle.sorted.proofs.Order.{below_same}
-use Rattle.sorted.proofs.Table.{less_or, equal_or, lower_fresh}
-
--- the places from k on up to n have been moved up
-pub record Moved (l m : List ℕ) (n r k : ℕ) : Type 0 where
-  pub size : length m ≡ length l
-  pub top : k ≤ n
-  pub bottom : r ≤ k
-  pub low : (j : ℕ) → j < k → place_at m j ≡ place_at l j
-  pub high : (j : ℕ) → k < j → j ≤ n → place_at m j ≡ place_at l (j - 1)
-
-module _ (l : List ℕ) (n r : ℕ) (room : n + 1 < length l) where
-  pub moved_start : r ≤ n → Moved l l n r n
-  moved_start h = record { size = refl; top = omega arith; bottom = h; low = λ j g. refl; high = λ j g f. absurd (omega arith) }
-
-  module _ (m : List ℕ) (k : ℕ) (v : Moved l m n r k) where
-    pub moved_step : r < k → Moved l (set m (k + 1) (get_or m k 0)) n r (k - 1)
-    moved_step h = record {
-      size = length-set m (k + 1) (get_or m k 0) ∙ v.size;
-      top = omega (arith, v.top);
-      bottom = omega arith;
-      low = λ j g. get_or-set_other m (k + 1) (j + 1) (get_or m k 0) 0 (λ e. omega arith) ∙ v.low j (omega arith);
-      high = λ j g f. ⊎_elim (at j) (past j g f) (equal_or j k);
-    }
-      where
-        here : k - 1 + 1 ≡ k
-        here = omega arith
-
-        at : (j : ℕ) → j ≡ k → place_at (set m (k + 1) (get_or m k 0)) j ≡ place_at l (j - 1)
-        at j e =
-            rw e
-            (get_or-set_same m (k + 1) (get_or m k 0) 0 (omega (arith, v.size, v.top)) ∙ ap (λ (i : ℕ). get_or m i 0) (sym here) ∙ v.low (k - 1) (omega arith))
-
-        past : (j : ℕ) → k - 1 < j → j ≤ n → (j ≡ k → ⊥) → place_at (set m (k + 1) (get_or m k 0)) j ≡ place_at l (j - 1)
-        past j g f e = get_or-set_other m (k + 1) (j + 1) (get_or m k 0) 0 (λ d. e (omega arith)) ∙ v.high j (omega (arith, e)) f
-
-    pub moved_end : (p : ℕ) → k ≤ r → Opened l (set m (k + 1) p) n r p
-    moved_end p h = let e : k ≡ r = omega (arith, v.bottom) in record {
-      size = length-set m (k + 1) p ∙ v.size;
-      low = λ j g. get_or-set_other m (k + 1) (j + 1) p 0 (λ t. omega arith) ∙ v.low j (omega arith);
-      new = rw e (get_or-set_same m (r + 1) p 0 (omega (arith, v.size, v.top)));
-      high = λ j g f. get_or-set_other m (k + 1) (j + 1) p 0 (λ t. omega arith) ∙ v.high j (omega arith) f;
-    }
+use Rattle.sorted.proofs.Table.{less_or, lower_fresh}
 
 -- the place entered: p at number r, those from there on one up, one more
 pub record Inserted (l m : List ℕ) (r p : ℕ) : Type 0 where

@@ -8,6 +8,7 @@ use mathlib.Core.Logic.{◌⊎◌, inl, inr, ⊎_elim}
 use lib.Dec.{eqb, ltb}
 use lib.ListN.{length, get_or}
 use borrow.Author.Tests.{ltb-true, ltb-false, eqb-true, eqb-false, eq-eqb, ne_eqb}
+use Rattle.std.specs.Prelude.{Some, None}
 use Rattle.rules.specs.Bytes.{Bytes, Aid, same}
 use Rattle.rules.proofs.Tests.{of_true, is_true, same_eq, same_refl}
 use Rattle.store.specs.Entries.{part}
@@ -50,13 +51,6 @@ pub told : (s : Bytes) (l : List ℕ) (k q : ℕ) (x a : Aid) (b c : Bool) → q
     below (key_at s (place_at l k)) a ≡ c
 told s l k q x a b c d e f g = cc
 
--- the search by halves: what is known of the places before lo and from hi on
-pub record Between (s : Bytes) (l : List ℕ) (a : Aid) (lo hi : ℕ) : Type 0 where
-  pub low : lo ≤ hi
-  pub high : hi ≤ count l
-  pub under : (k : ℕ) → k < lo → below (key_at s (place_at l k)) a ≡ true
-  pub over : (k : ℕ) → hi ≤ k → k < count l → below (key_at s (place_at l k)) a ≡ false
-
 module _ (s : Bytes) (l : List ℕ) (t : Sorted s l) where
   -- no later place has an earlier AID
   pub not_after : (i j : ℕ) → i ≤ j → j < count l → below (key_at s (place_at l j)) (key_at s (place_at l i)) ≡ false
@@ -82,27 +76,15 @@ module _ (s : Bytes) (l : List ℕ) (t : Sorted s l) where
           (λ h. ⊎_elim (λ w. absurd (apart j i w f (sym d))) (λ w. let z : i ≡ j = omega arith in sym u ∙ ap (place_at l) z ∙ v) (less_or j i)) (less_or i j)
 
   module _ (a : Aid) where
-    pub between_start : (n : ℕ) → n ≡ count l → Between s l a 0 n
-    between_start n e = record { low = omega arith; high = omega arith; under = λ k h. absurd (omega arith); over = λ k h g. absurd (omega arith) }
-
-    pub between_up : (lo hi m : ℕ) → Between s l a lo hi → lo ≤ m → m < hi → below (key_at s (place_at l m)) a ≡ true → Between s l a (m + 1) hi
-    between_up lo hi m b h g e = record {
-      low = omega arith;
-      high = b.high;
-      under = λ k u. below_up (key_at s (place_at l k)) (key_at s (place_at l m)) a (not_after k m (omega arith) (omega (arith, b.high))) e;
-      over = b.over;
+    -- the place right before number r has an AID before a, and the one at r not
+    pub lower_parted : (r : ℕ) → r ≤ count l → (0 < r → below (key_at s (place_at l (r - 1))) a ≡ true) →
+        (r < count l → below (key_at s (place_at l r)) a ≡ false) → Lower s l a r
+    lower_parted r high before there = record {
+      within = high;
+      under = λ k u.
+          below_up (key_at s (place_at l k)) (key_at s (place_at l (r - 1))) a (not_after k (r - 1) (omega arith) (omega arith)) (before (omega arith));
+      over = λ k u v. below_down a (key_at s (place_at l r)) (key_at s (place_at l k)) (there (omega arith)) (not_after r k u v);
     }
-
-    pub between_down : (lo hi m : ℕ) → Between s l a lo hi → lo ≤ m → m < hi → below (key_at s (place_at l m)) a ≡ false → Between s l a lo m
-    between_down lo hi m b h g e = record {
-      low = h;
-      high = omega (arith, b.high);
-      under = b.under;
-      over = λ k u v. below_down a (key_at s (place_at l m)) (key_at s (place_at l k)) e (not_after m k u v);
-    }
-
-    pub between_end : (lo hi : ℕ) → Between s l a lo hi → hi ≤ lo → Lower s l a lo
-    between_end lo hi b h = record { within = omega (arith, b.low, b.high); under = b.under; over = λ k u v. b.over k (omega (arith, b.low)) v }
 
     -- the last place tried first
     pub lower_empty : (n : ℕ) → n ≡ count l → n ≡ 0 → Lower s l a 0
@@ -127,11 +109,11 @@ module _ (s : Bytes) (l : List ℕ) (t : Sorted s l) where
             ⊎_elim (λ u. clash (sym (w.under k u) ∙ rw d (below_self a)))
             (λ u. ⊎_elim (past k g d) (λ v. let z : k ≡ r = omega arith in h (omega arith) (rw (← z) d)) (less_or r k)) (less_or k r)
 
-    pub found_none : (r : ℕ) → Lower s l a r → HereIs s l r a false → Found s l a 0
-    found_none r w h = record { there = λ g. absurd (omega arith); missing = λ e. lower_fresh r w h }
+    pub found_none : (r : ℕ) → Lower s l a r → HereIs s l r a false → Found s l a None
+    found_none r w h = lower_fresh r w h
 
-    pub found_here : (r q : ℕ) → HereIs s l r a true → q ≡ place_at l r → Found s l a q
-    found_here r q h e = record { there = λ g. ((r, h.0, sym e), rw e h.1); missing = λ z. absurd (omega (arith, (t.keyed r h.0).real)) }
+    pub found_here : (r q : ℕ) → HereIs s l r a true → q ≡ place_at l r → Found s l a (Some q)
+    found_here r q h e = ((r, h.0, sym e), rw e h.1)
 
 -- the test of one place
 pub here_not : (s : Bytes) (l : List ℕ) (k n : ℕ) (a : Aid) → n ≡ count l → n ≤ k → HereIs s l k a false

@@ -10,10 +10,11 @@
 -- Sorted s l        == its places have AIDs, each before the next
 -- Lower s l a r     == the first r places have AIDs before a, and no other has
 -- HereIs s l k a b  == whether there is a place with number k, and it has the AID a
--- Found s l a q     == q is the place with the AID a; where q is 0, none has it
+-- Found s l a r     == r is the place with the AID a; where it is none, no place has it
 -- Opened l m n r p  == m is l with p put at number r, and the places from there up to n moved one up
 -- Entered s l m p b == where b is true, m is l with the place p too, whose AID no other has; else m is l, and one has it
-use Rattle.std.specs.Prelude.{ℕ, ◌+◌, ◌-◌, ◌<◌, ◌≤◌, ◌≡◌, Bool, true, false, List, [], ◌∷◌, ◌⊎◌, eqb, ltb, length, get_or}
+use Rattle.std.specs.Prelude.{ℕ, ◌+◌, ◌-◌, ◌<◌, ◌≤◌, ◌≡◌, Bool, true, false, List, [], ◌∷◌, ◌⊎◌, eqb, ltb, length, get_or, Some, None}
+use Rattle.std.specs.Prelude.{Option as Optional}
 use Rattle.rules.specs.Bytes.{Bytes, Aid, pick}
 use Rattle.store.specs.Entries.{part}
 
@@ -71,10 +72,10 @@ abbrev pub HereIs : Bytes → List ℕ → ℕ → Aid → Bool → Type 0
 HereIs s l k a true = (k < count l) × (key_at s (place_at l k) ≡ a)
 HereIs s l k a false = k < count l → key_at s (place_at l k) ≡ a → ⊥
 
--- the place with the AID a, 0 where none has it
-pub record Found (s : Bytes) (l : List ℕ) (a : Aid) (q : ℕ) : Type 0 where
-  pub there : 0 < q → Has l q × (key_at s q ≡ a)
-  pub missing : q ≡ 0 → (p : ℕ) → Has l p → key_at s p ≡ a → ⊥
+-- the place with the AID a, or none has it
+abbrev pub Found : Bytes → List ℕ → Aid → Optional ℕ → Type 0
+Found s l a (Some q) = Has l q × (key_at s q ≡ a)
+Found s l a None = (p : ℕ) → Has l p → key_at s p ≡ a → ⊥
 
 -- p put at number r, and the places from there up to n moved one up; the count stays
 pub record Opened (l m : List ℕ) (n r p : ℕ) : Type 0 where

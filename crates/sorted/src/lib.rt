@@ -6,6 +6,7 @@ ghost use Rattle.std.specs.Prelude.{◌≡◌, ◌+◌, ◌<◌, ◌≤◌, leng
 ghost use Rattle.sorted.specs.Sorted.{below, key_place, key_at, Keyed, count, Sorted, Lower, HereIs, Found, Opened, Entered};
 
 use fields::{same_bytes, wide};
+use halving::partition_point;
 
 // A number of a table.
 fn place(x: u16) -> usize
@@ -18,17 +19,15 @@ fn place(x: u16) -> usize
 fn before(a: &[u8], b: &[u8]) -> bool
     ensures { result ≡ below a.now b.now }
 {
-    let mut i = 0;
-    while i < a.len() {
+    for i in 0..a.len() {
         if b.len() <= i {
             return false;
         }
         if a[i] != b[i] {
             return a[i] < b[i];
         }
-        i += 1;
     }
-    i < b.len()
+    a.len() < b.len()
 }
 
 // Where the length stands of the AID that the entry at a place is known by: a domain's own, a package's in its file.
@@ -58,18 +57,11 @@ fn lower(s: &[u8], table: &[u16], aid: &[u8]) -> usize
     requires { Sorted s.now table.now }
     ensures { Lower s.now table.now aid.now result }
 {
-    let mut lo: usize = 0;
-    let mut hi = place(table[0]);
-    while lo < hi {
-        let mid = lo + (hi - lo) / 2;
-        let p = place(table[mid + 1]);
-        if before(key(s, p), aid) {
-            lo = mid + 1;
-        } else {
-            hi = mid;
-        }
-    }
-    lo
+    partition_point(
+        0,
+        place(table[0]),
+        |k| before(key(s, place(table[k + 1])), aid),
+    )
 }
 
 // The same with the last place tried first: AIDs that come in their order are entered at once.
@@ -100,16 +92,16 @@ fn here(s: &[u8], table: &[u16], k: usize, aid: &[u8]) -> bool
     same_bytes(aid, key(s, p))
 }
 
-// The place that has this AID, 0 where none has.
-pub fn find(s: &[u8], table: &[u16], aid: &[u8]) -> usize
+// The place that has this AID, if one has.
+pub fn find(s: &[u8], table: &[u16], aid: &[u8]) -> Option<usize>
     requires { Sorted s.now table.now }
     ensures { Found s.now table.now aid.now result }
 {
     let k = lower(s, table, aid);
-    if !here(s, table, k, aid) {
-        return 0;
+    if here(s, table, k, aid) {
+        return Some(place(table[k + 1]));
     }
-    place(table[k + 1])
+    None
 }
 
 // Moves the places from r up to n one up, and puts p at r.
@@ -117,12 +109,8 @@ fn open_at(table: &mut [u16], n: usize, r: usize, p: u16)
     requires { (r ≤ n) × (n + 1 < length table.old) }
     ensures { Opened table.old table.new n r p }
 {
-    let mut k = n;
-    while r < k {
-        table[k + 1] = table[k];
-        k -= 1;
-    }
-    table[k + 1] = p;
+    table.copy_within(r + 1..n + 1, r + 2);
+    table[r + 1] = p;
 }
 
 // Enters a place, unless another has its AID: then it says no.

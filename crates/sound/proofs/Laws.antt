@@ -16,19 +16,20 @@ use Rattle.rules.specs.Questions.{q1_size, q3_lengths, q5_created}
 use Rattle.rules.specs.Operations.{accepted_all, sound_entries, sound, entries, load, number, questions}
 use Rattle.rules.proofs.Tests.{and_l, and_r, of_true}
 use Rattle.store.specs.Entries.{Entries, StandFrom, Holds}
-use Rattle.store.specs.Answers.{usedTold}
 use Rattle.store.specs.Sound.{Over, SoundAt, Asked}
-use Rattle.store.specs.declared.Layout.{Layout}
-use Rattle.store.specs.declared.Layout.TheVariants as layouts
+use Rattle.std.specs.Prelude.{Some, None, Result, Ok, Err}
+use Rattle.std.specs.Prelude.{Option as Optional}
+use Rattle.fields.specs.Told.{told}
 use Rattle.store.proofs.Asked.{size_is}
-use Rattle.store.proofs.Sound.{over_some, asked_number}
+use Rattle.store.proofs.Sound.{asked_number}
 use Rattle.store.proofs.Stand.{entries_next}
 use Rattle.store.proofs.Laid.{laid_by}
 use Rattle.domains.specs.Domains.{domain_accepted, domains_accepted, AllSay}
 use Rattle.domains.proofs.Split.{all_domains, kept_reads, domains_append}
-use Rattle.judge.specs.Says.{DomainYes, DomainsYes, PackagesSay, LoadSays, number_of}
-use Rattle.judge.specs.declared.LoadAnswer.{LoadAnswer}
-use Rattle.judge.specs.declared.LoadAnswer.TheVariants as answers
+use Rattle.judge.specs.Says.{DomainYes, DomainsYes, PackagesSay, LoadSays}
+use Rattle.refusals.specs.declared.refusal.Refusal.{Refusal}
+use Rattle.refusals.specs.declared.refusal.Refusal.TheVariants as refused
+use Rattle.refusals.specs.Refusals.{number_of, number_said}
 use Rattle.sound.specs.Says.{LaidAt, Unopened, JudgedSays}
 
 -- the domains of entries that question 2 goes through
@@ -50,16 +51,16 @@ domains_yes s u h es pre post e r are =
         (and_l (q3_lengths (d ∷ [])) _ t, and_l (q5_created pre d) _ five, λ p e. kept_reads l pre d f p e (and_r (q5_created pre d) _ five))
 
 -- what the layout's answer says
-told_broken : (s : Bytes) (r : Layout) → r ≡ layouts.Broken → usedTold r ≡ (entries_of s and_then λ es. some (used (store_opening s) es)) → entries_of s ≡ none
-told_broken s r q e = go (entries_of s) (ap usedTold (sym q) ∙ e)
+told_broken : (s : Bytes) (r : Optional ℕ) → r ≡ None → told r ≡ (entries_of s and_then λ es. some (used (store_opening s) es)) → entries_of s ≡ none
+told_broken s r q e = go (entries_of s) (ap told (sym q) ∙ e)
   where
     go : (o : Option (List Entry)) → none ≡ (o and_then λ es. some (used (store_opening s) es)) → o ≡ none
     go none h = refl
     go (some es) h = let z : ◌≡◌ {A = ℕ} 0 1 = cc in absurd (omega arith)
 
-told_used : (s : Bytes) (r : Layout) (u : ℕ) → r ≡ layouts.Used u → usedTold r ≡ (entries_of s and_then λ es. some (used (store_opening s) es)) →
+told_used : (s : Bytes) (r : Optional ℕ) (u : ℕ) → r ≡ Some u → told r ≡ (entries_of s and_then λ es. some (used (store_opening s) es)) →
     (es : List Entry) × (entries_of s ≡ some es) × (used (store_opening s) es ≡ u)
-told_used s r u q e = go (entries_of s) refl (ap usedTold (sym q) ∙ e)
+told_used s r u q e = go (entries_of s) refl (ap told (sym q) ∙ e)
   where
     go : (o : Option (List Entry)) → entries_of s ≡ o → some u ≡ (o and_then λ es. some (used (store_opening s) es)) →
         (es : List Entry) × (entries_of s ≡ some es) × (used (store_opening s) es ≡ u)
@@ -67,35 +68,35 @@ told_used s r u q e = go (entries_of s) refl (ap usedTold (sym q) ∙ e)
     go (some es) h x = (es, h, sym (some-injective _ _ x))
 
 -- a refusal of 1 or 2 as a load's number
-pub unopened_load : (s : Bytes) (n : ℕ) (d : Aid) (f : Bytes) → Unopened s n → (n ≡ 0 → ⊥) × (n ≡ number s (load d f))
+pub unopened_load : (s : Bytes) (e : Refusal) (d : Aid) (f : Bytes) → Unopened s e → number_of e ≡ number s (load d f)
 unfolding number
-unopened_load s n d f p = (p.0, p.1 (questions (store_opening s) (length s) (entries s) (load d f)))
+unopened_load s e d f p = p (questions (store_opening s) (length s) (entries s) (load d f))
 
 module _ (s : Bytes) where
   -- 1 answered no
-  pub unopened_1 : q1_size s ≡ false → Unopened s 1
-  unopened_1 h = (λ e. omega (arith, e), λ qs. rw h)
+  pub unopened_1 : q1_size s ≡ false → Unopened s refused.StoreSize
+  unopened_1 h qs = rw h
 
   module _ (size : q1_size s ≡ true) where
     -- 2 answered no
-    unopened_2 : sound s ≡ false → Unopened s 2
-    unopened_2 k = (λ e. omega (arith, e), λ qs. rw (size, k))
+    unopened_2 : sound s ≡ false → Unopened s refused.StoreUnsound
+    unopened_2 k qs = rw (size, k)
 
-    module _ (r : Layout) (told : usedTold r ≡ (entries_of s and_then λ es. some (used (store_opening s) es))) where
-      pub unopened_broken : r ≡ layouts.Broken → Unopened s 2
+    module _ (r : Optional ℕ) (is : told r ≡ (entries_of s and_then λ es. some (used (store_opening s) es))) where
+      pub unopened_broken : r ≡ None → Unopened s refused.StoreUnsound
       unfolding sound
-      unopened_broken e = unopened_2 (rw (size, told_broken s r e told))
+      unopened_broken e = unopened_2 (rw (size, told_broken s r e is))
 
-      module _ (u : ℕ) (e : r ≡ layouts.Used u) (holds : (es : List Entry) → entries_of s ≡ some es → Holds s es) where
+      module _ (u : ℕ) (e : r ≡ Some u) (holds : (es : List Entry) → entries_of s ≡ some es → Holds s es) where
         -- the entries, and that they stand
         abbrev es : List Entry
-        es = (told_used s r u e told).0
+        es = (told_used s r u e is).0
 
         reads : entries_of s ≡ some es
-        reads = (told_used s r u e told).1
+        reads = (told_used s r u e is).1
 
         ends : used (store_opening s) es ≡ u
-        ends = (told_used s r u e told).2
+        ends = (told_used s r u e is).2
 
         stand : Entries s (first_entry s) es u
         stand = subst (Entries s (first_entry s) es) ends (holds es reads).stand
@@ -104,7 +105,7 @@ module _ (s : Bytes) where
         stand_from = (es, stand)
 
         -- the domains refused
-        pub unopened_domains : AllSay s u false → Unopened s 2
+        pub unopened_domains : AllSay s u false → Unopened s refused.StoreUnsound
         unfolding sound sound_entries
         unopened_domains h =
             let no : sound_entries (store_opening s) (length s) es ≡ false = go (accepted_all (store_opening s) (length s) [] es)
@@ -138,8 +139,8 @@ module _ (s : Bytes) (u : ℕ) (a : LaidAt s u) where
   unfolding sound
   sound_by b e = rw (a.size, a.reads) e
 
-  pub unopened_packages : PackagesSay s u false → Unopened s 2
-  unopened_packages h = (λ e. omega (arith, e), λ qs. rw (a.size, sound_by false (sym (h a.entries stands))))
+  pub unopened_packages : PackagesSay s u false → Unopened s refused.StoreUnsound
+  unopened_packages h qs = rw (a.size, sound_by false (sym (h a.entries stands)))
 
   pub sound_at : PackagesSay s u true → SoundAt s u
   unfolding sound_entries
@@ -154,29 +155,26 @@ module _ (s : Bytes) (u : ℕ) (a : LaidAt s u) where
       }
 
   -- a load
-  module _ (d : Aid) (f : Bytes) (r : LoadAnswer) (j : JudgedSays s u d f r) where
-    pub loading_refused : (n : ℕ) → r ≡ answers.Refused n → (n ≡ 0 → ⊥) × (n ≡ number s (load d f))
+  module _ (d : Aid) (f : Bytes) (r : Result ℕ Refusal) (j : JudgedSays s u d f r) where
+    pub loading_refused : (e : Refusal) → r ≡ Err e → number_of e ≡ number s (load d f)
     unfolding number
-    loading_refused n e = ⊎_elim unsound asked j
+    loading_refused e z = ⊎_elim unsound asked j
       where
-        unsound : PackagesSay s u false × (r ≡ answers.Refused 2) → (n ≡ 0 → ⊥) × (n ≡ number s (load d f))
+        unsound : PackagesSay s u false × (r ≡ Err refused.StoreUnsound) → number_of e ≡ number s (load d f)
         unsound x =
-            let t = unopened_packages x.0 in
-            let is : 2 ≡ n = ap number_of (sym x.1 ∙ e) in
-            (λ z. t.0 (is ∙ z), sym is ∙ t.1 (questions (store_opening s) (length s) (entries s) (load d f)))
+            let is : 2 ≡ number_of e = ap (number_said {A = ℕ}) (sym x.1 ∙ z) in
+            sym is ∙ unopened_packages x.0 (questions (store_opening s) (length s) (entries s) (load d f))
 
-        asked : PackagesSay s u true × LoadSays s u d f r → (n ≡ 0 → ⊥) × (n ≡ number s (load d f))
+        asked : PackagesSay s u true × LoadSays s u d f r → number_of e ≡ number s (load d f)
         asked x =
-            let h = sound_at x.0 in
-            let some = over_some s u h in
-            let is : Asked s u (load d f) n = λ es o. ap number_of (sym e) ∙ (x.1 es o).number in
-            (λ z. omega (arith, (x.1 some.0 some.1).real n e, z), asked_number s u h (load d f) n is)
+            let is : Asked s u (load d f) (number_of e) = λ es o. ap (number_said {A = ℕ}) (sym z) ∙ (x.1 es o).number in
+            asked_number s u (sound_at x.0) (load d f) (number_of e) is
 
-    pub loading_done : (depth : ℕ) → r ≡ answers.Accepted depth → SoundAt s u × LoadSays s u d f (answers.Accepted depth)
+    pub loading_done : (depth : ℕ) → r ≡ Ok depth → SoundAt s u × LoadSays s u d f (Ok depth)
     loading_done depth e = ⊎_elim unsound asked j
       where
-        unsound : PackagesSay s u false × (r ≡ answers.Refused 2) → SoundAt s u × LoadSays s u d f (answers.Accepted depth)
-        unsound x = let z : ◌≡◌ {A = ℕ} 0 2 = ap number_of (sym e ∙ x.1) in absurd (omega (arith, z))
+        unsound : PackagesSay s u false × (r ≡ Err refused.StoreUnsound) → SoundAt s u × LoadSays s u d f (Ok depth)
+        unsound x = let z : ◌≡◌ {A = ℕ} 0 2 = ap (number_said {A = ℕ}) (sym e ∙ x.1) in absurd (omega (arith, z))
 
-        asked : PackagesSay s u true × LoadSays s u d f r → SoundAt s u × LoadSays s u d f (answers.Accepted depth)
+        asked : PackagesSay s u true × LoadSays s u d f r → SoundAt s u × LoadSays s u d f (Ok depth)
         asked x = (sound_at x.0, subst (LoadSays s u d f) e x.1)

@@ -24,9 +24,10 @@ use Rattle.slots.specs.Slots.{slots_length}
 use Rattle.homes.specs.Found.{Indexed}
 use Rattle.judge.proofs.Entry.{indexed}
 use Rattle.judge.specs.Says.{used_at, PackagesSay, LoadSays}
-use Rattle.judge.specs.declared.LoadAnswer.{LoadAnswer}
-use Rattle.judge.specs.declared.LoadAnswer.TheVariants as answers
-use Rattle.sound.specs.Says.{JudgedSays}
+use Rattle.std.specs.Prelude.{Result, Err}
+use Rattle.refusals.specs.declared.refusal.Refusal.{Refusal}
+use Rattle.refusals.specs.declared.refusal.Refusal.TheVariants as refused
+use Rattle.sound.specs.Says.{Room, JudgedSays}
 use mathlib.Core.Logic.{inl, inr}
 use Rattle.rules.proofs.Limits.{limits_range_lem}
 
@@ -40,15 +41,6 @@ deep_length s = go (leb (store_limits s).depth 8)
     go : (b : Bool) → length s / 5 * pick b 3 4 / 8 + 2 ≤ length s / 5 * 4 / 8 + 2
     go true = omega arith
     go false = omega arith
-
--- tables of n, m, j and k numbers are large enough for the store
-pub record Room (s : Bytes) (n m j k : ℕ) : Type 0 where
-  pub size : length s ≤ 65535
-  pub index : length s ≤ 27 * n
-  pub depths : depths_length s ≤ m
-  pub names : names_length s ≤ j
-  pub seen : seen_length s ≤ k
-  pub slots : slots_length ≤ j
 
 -- those of each class of lengths and depth limits
 module _ (s : Bytes) where
@@ -103,7 +95,7 @@ tables_start s u n m j k t r =
 -- the packages were answered b
 module _ (s : Bytes) (u : ℕ) (b : Bool) (h : PackagesSay s u b) where
   -- no: a load is refused by 2
-  pub judged_no : (d : Aid) (f : Bytes) → b ≡ false → JudgedSays s u d f (answers.Refused 2)
+  pub judged_no : (d : Aid) (f : Bytes) → b ≡ false → JudgedSays s u d f (Err refused.StoreUnsound)
   judged_no d f e = inl (subst (PackagesSay s u) e h, refl)
 
   module _ (yes : b ≡ true) (end : used_at s ≡ u) where
@@ -116,5 +108,5 @@ module _ (s : Bytes) (u : ℕ) (b : Bool) (h : PackagesSay s u b) where
         subst (λ (i : ℕ). OverSome s i × (Indexed s i index × DepthsKept s i depths)) (sym end) (o, (indexed s u index o (k yes).0, (k yes).1))
 
     -- and a load is answered over them
-    pub judged_yes : (d : Aid) (f : Bytes) (r : LoadAnswer) → LoadSays s (used_at s) d f r → JudgedSays s u d f r
+    pub judged_yes : (d : Aid) (f : Bytes) (r : Result ℕ Refusal) → LoadSays s (used_at s) d f r → JudgedSays s u d f r
     judged_yes d f r l = inr (subst (PackagesSay s u) yes h, subst (λ (i : ℕ). LoadSays s i d f r) end l)

@@ -1,56 +1,36 @@
-// Questions 1 and 2 of a store, and a load judged over it. The tables are as large as the store's length and its depth limit ask: a function
-// for each class of lengths and limits has its own. Such a function is `inline(never)`, and calls itself where the store has more than 65,535
-// bytes, which it never has; so the compiler does not make it a part of its caller, and only the tables of the store's own class stand on the
-// stack.
+// Questions 1 and 2 of a store, and a load judged over it. The tables are as large as the store's length and its depth limit ask: each class
+// of lengths and limits has an instance of a function with the sizes of its tables. Such a function is `inline(never)`, and calls itself where
+// the store has more than 65,535 bytes, which it never has; so the compiler does not make it a part of its caller, and only the tables of the
+// store's own class stand on the stack.
 #![tactic(auto)]
 
-ghost use Rattle.std.specs.Prelude.{◌≡◌, ◌≤◌, length};
-ghost use Rattle.rules.specs.Store.{store_limits, first_entry};
+ghost use Rattle.std.specs.Prelude.{◌≡◌, ◌*◌, ◌≤◌, length};
+ghost use Rattle.rules.specs.Store.{first_entry};
 ghost use Rattle.store.specs.Entries.{StandFrom};
 ghost use Rattle.domains.specs.Domains.{AllSay};
 ghost use Rattle.judge.specs.Says.{used_at, DomainsYes, PackagesSay};
-ghost use Rattle.sound.specs.Says.{JudgedSays, LaidSays, OpenedSays, LoadingSays};
+ghost use Rattle.sound.specs.Says.{Room, JudgedSays, LaidSays, OpenedSays, LoadingSays};
 
-use judge::LoadAnswer;
-use store::{Layout, openings};
+use refusals::refusal::Refusal;
+use store::openings;
 
-// Questions 1 and 2: the number of the first no, or where the entries of a sound store end.
+// A load that is accepted: where the entries of the store end, and the depth of the deepest own class.
 #[derive(Clone, Copy)]
-pub enum Opened {
-    Refused(u32),
-    Used(usize),
+pub struct Loading {
+    pub used: usize,
+    pub depth: usize,
 }
 
-// A load: the number of the first no, or where the entries of the store end and the depth of the deepest own class.
-#[derive(Clone, Copy)]
-pub enum Loading {
-    Refused(u32),
-    Accepted(usize, usize),
-}
-
-// Questions 3 to 5 of the entries of a store of 8,192 bytes or less.
+// Questions 3 to 5 of the entries of a store, with a table of so many numbers.
 #[inline(never)]
-fn domains_small(s: &[u8], used: usize) -> bool
-    requires { StandFrom s.now (first_entry s.now) used × (length s.now ≤ 8192) }
+fn domains_with<const TABLE: usize>(s: &[u8], used: usize) -> bool
+    requires { StandFrom s.now (first_entry s.now) used × (length s.now ≤ 65535) × (length s.now ≤ 8 * TABLE) × (TABLE ≤ 65535) }
     ensures { AllSay s.now used result }
 {
     if 65535 < s.len() {
-        return domains_small(s, used);
+        return domains_with::<TABLE>(s, used);
     }
-    let mut table = [0u16; 1024];
-    domains::domains_ok(s, used, &mut table)
-}
-
-// The same of a larger one.
-#[inline(never)]
-fn domains_large(s: &[u8], used: usize) -> bool
-    requires { StandFrom s.now (first_entry s.now) used × (length s.now ≤ 65535) }
-    ensures { AllSay s.now used result }
-{
-    if 65535 < s.len() {
-        return domains_large(s, used);
-    }
-    let mut table = [0u16; 8192];
+    let mut table = [0u16; TABLE];
     domains::domains_ok(s, used, &mut table)
 }
 
@@ -63,76 +43,29 @@ fn domains_sound(s: &[u8], used: usize) -> bool
         return true;
     }
     if s.len() <= 8192 {
-        return domains_small(s, used);
+        return domains_with::<1024>(s, used);
     }
-    domains_large(s, used)
+    domains_with::<8192>(s, used)
 }
 
-// The other questions of the entries of a store of 8,192 bytes or less with a depth limit of 8 or less.
+// The other questions of the entries of a store, with tables of so many numbers.
 #[inline(never)]
-fn packages_small(s: &[u8], used: usize) -> bool
+fn packages_with<const INDEX: usize, const DEPTHS: usize, const NAMES: usize, const SEEN: usize>(
+    s: &[u8],
+    used: usize,
+) -> bool
     requires stand_from { StandFrom s.now (first_entry s.now) used × DomainsYes s.now used }
-    requires s_len_bound { (length s.now ≤ 8192) × ((store_limits s.now).depth ≤ 8) }
+    requires room { Room s.now INDEX DEPTHS NAMES SEEN × (length s.now ≤ 65535) }
+    requires small { (INDEX ≤ 65535) × (DEPTHS ≤ 65535) × (NAMES ≤ 65535) × (SEEN ≤ 65535) }
     ensures { PackagesSay s.now used result }
 {
     if 65535 < s.len() {
-        return packages_small(s, used);
+        return packages_with::<INDEX, DEPTHS, NAMES, SEEN>(s, used);
     }
-    let mut index = [0u16; 304];
-    let mut depths = [0u8; 616];
-    let mut names = [0u16; 640];
-    let mut seen = [0u8; 284];
-    judge::packages_sound(s, used, &mut index, &mut depths, &mut names, &mut seen)
-}
-
-// The same of a larger store.
-#[inline(never)]
-fn packages_large(s: &[u8], used: usize) -> bool
-    requires stand_from { StandFrom s.now (first_entry s.now) used × DomainsYes s.now used }
-    requires s_len_bound { (length s.now ≤ 65535) × ((store_limits s.now).depth ≤ 8) }
-    ensures { PackagesSay s.now used result }
-{
-    if 65535 < s.len() {
-        return packages_large(s, used);
-    }
-    let mut index = [0u16; 2428];
-    let mut depths = [0u8; 4917];
-    let mut names = [0u16; 640];
-    let mut seen = [0u8; 2239];
-    judge::packages_sound(s, used, &mut index, &mut depths, &mut names, &mut seen)
-}
-
-// The same of a store of 8,192 bytes or less with any depth limit.
-#[inline(never)]
-fn packages_deep_small(s: &[u8], used: usize) -> bool
-    requires stand_from { StandFrom s.now (first_entry s.now) used × DomainsYes s.now used }
-    requires s_len_bound { length s.now ≤ 8192 }
-    ensures { PackagesSay s.now used result }
-{
-    if 65535 < s.len() {
-        return packages_deep_small(s, used);
-    }
-    let mut index = [0u16; 304];
-    let mut depths = [0u8; 821];
-    let mut names = [0u16; 1152];
-    let mut seen = [0u8; 284];
-    judge::packages_sound(s, used, &mut index, &mut depths, &mut names, &mut seen)
-}
-
-// The same of a larger store.
-#[inline(never)]
-fn packages_deep_large(s: &[u8], used: usize) -> bool
-    requires stand_from { StandFrom s.now (first_entry s.now) used × DomainsYes s.now used }
-    requires s_len_bound { length s.now ≤ 65535 }
-    ensures { PackagesSay s.now used result }
-{
-    if 65535 < s.len() {
-        return packages_deep_large(s, used);
-    }
-    let mut index = [0u16; 2428];
-    let mut depths = [0u8; 6556];
-    let mut names = [0u16; 1152];
-    let mut seen = [0u8; 2239];
+    let mut index = [0u16; INDEX];
+    let mut depths = [0u8; DEPTHS];
+    let mut names = [0u16; NAMES];
+    let mut seen = [0u8; SEEN];
     judge::packages_sound(s, used, &mut index, &mut depths, &mut names, &mut seen)
 }
 
@@ -148,99 +81,49 @@ fn packages_sound(s: &[u8], used: usize) -> bool
     let limits = openings::limits_of(s);
     if limits.depth <= 8 {
         if s.len() <= 8192 {
-            return packages_small(s, used);
+            return packages_with::<304, 616, 640, 284>(s, used);
         }
-        return packages_large(s, used);
+        return packages_with::<2428, 4917, 640, 2239>(s, used);
     }
     if s.len() <= 8192 {
-        return packages_deep_small(s, used);
+        return packages_with::<304, 821, 1152, 284>(s, used);
     }
-    packages_deep_large(s, used)
+    packages_with::<2428, 6556, 1152, 2239>(s, used)
 }
 
-// The same with a load behind them, in a store of 8,192 bytes or less with a depth limit of 8 or less; 2 where an entry of the store is not
-// accepted.
+// The same with a load behind them; `StoreUnsound` where an entry of the store is not accepted.
 #[inline(never)]
-fn load_small<'a>(s: &'a [u8], used: usize, domain: &[u8], file: &'a [u8]) -> LoadAnswer
+fn load_with<'a, const INDEX: usize, const DEPTHS: usize, const NAMES: usize, const SEEN: usize>(
+    s: &'a [u8],
+    used: usize,
+    domain: &[u8],
+    file: &'a [u8],
+) -> Result<usize, Refusal>
     requires stand_from { StandFrom s.now (first_entry s.now) used × DomainsYes s.now used × (used_at s.now ≡ used) }
-    requires s_len_bound { (length s.now ≤ 8192) × ((store_limits s.now).depth ≤ 8) }
+    requires room { Room s.now INDEX DEPTHS NAMES SEEN × (length s.now ≤ 65535) }
+    requires small { (INDEX ≤ 65535) × (DEPTHS ≤ 65535) × (NAMES ≤ 65535) × (SEEN ≤ 65535) }
     ensures { JudgedSays s.now used domain.now file.now result }
 {
     if 65535 < s.len() {
-        return load_small(s, used, domain, file);
+        return load_with::<INDEX, DEPTHS, NAMES, SEEN>(s, used, domain, file);
     }
-    let mut index = [0u16; 304];
-    let mut depths = [0u8; 616];
-    let mut names = [0u16; 640];
-    let mut seen = [0u8; 284];
+    let mut index = [0u16; INDEX];
+    let mut depths = [0u8; DEPTHS];
+    let mut names = [0u16; NAMES];
+    let mut seen = [0u8; SEEN];
     if !judge::packages_sound(s, used, &mut index, &mut depths, &mut names, &mut seen) {
-        return LoadAnswer::Refused(2);
+        return Err(Refusal::StoreUnsound);
     }
     judge::load_answer(s, domain, file, &index, &depths, &mut names, &mut seen)
 }
 
-// The same in a larger store.
-#[inline(never)]
-fn load_large<'a>(s: &'a [u8], used: usize, domain: &[u8], file: &'a [u8]) -> LoadAnswer
-    requires stand_from { StandFrom s.now (first_entry s.now) used × DomainsYes s.now used × (used_at s.now ≡ used) }
-    requires s_len_bound { (length s.now ≤ 65535) × ((store_limits s.now).depth ≤ 8) }
-    ensures { JudgedSays s.now used domain.now file.now result }
-{
-    if 65535 < s.len() {
-        return load_large(s, used, domain, file);
-    }
-    let mut index = [0u16; 2428];
-    let mut depths = [0u8; 4917];
-    let mut names = [0u16; 640];
-    let mut seen = [0u8; 2239];
-    if !judge::packages_sound(s, used, &mut index, &mut depths, &mut names, &mut seen) {
-        return LoadAnswer::Refused(2);
-    }
-    judge::load_answer(s, domain, file, &index, &depths, &mut names, &mut seen)
-}
-
-// The same in a store of 8,192 bytes or less with any depth limit.
-#[inline(never)]
-fn load_deep_small<'a>(s: &'a [u8], used: usize, domain: &[u8], file: &'a [u8]) -> LoadAnswer
-    requires stand_from { StandFrom s.now (first_entry s.now) used × DomainsYes s.now used × (used_at s.now ≡ used) }
-    requires s_len_bound { length s.now ≤ 8192 }
-    ensures { JudgedSays s.now used domain.now file.now result }
-{
-    if 65535 < s.len() {
-        return load_deep_small(s, used, domain, file);
-    }
-    let mut index = [0u16; 304];
-    let mut depths = [0u8; 821];
-    let mut names = [0u16; 1152];
-    let mut seen = [0u8; 284];
-    if !judge::packages_sound(s, used, &mut index, &mut depths, &mut names, &mut seen) {
-        return LoadAnswer::Refused(2);
-    }
-    judge::load_answer(s, domain, file, &index, &depths, &mut names, &mut seen)
-}
-
-// The same in a larger store.
-#[inline(never)]
-fn load_deep_large<'a>(s: &'a [u8], used: usize, domain: &[u8], file: &'a [u8]) -> LoadAnswer
-    requires stand_from { StandFrom s.now (first_entry s.now) used × DomainsYes s.now used × (used_at s.now ≡ used) }
-    requires s_len_bound { length s.now ≤ 65535 }
-    ensures { JudgedSays s.now used domain.now file.now result }
-{
-    if 65535 < s.len() {
-        return load_deep_large(s, used, domain, file);
-    }
-    let mut index = [0u16; 2428];
-    let mut depths = [0u8; 6556];
-    let mut names = [0u16; 1152];
-    let mut seen = [0u8; 2239];
-    if !judge::packages_sound(s, used, &mut index, &mut depths, &mut names, &mut seen) {
-        return LoadAnswer::Refused(2);
-    }
-    judge::load_answer(s, domain, file, &index, &depths, &mut names, &mut seen)
-}
-
-// The same in any store.
-fn load_judged<'a>(s: &'a [u8], used: usize, domain: &[u8], file: &'a [u8]) -> LoadAnswer
+// The same, with the tables of the store's length and depth limit.
+fn load_judged<'a>(
+    s: &'a [u8],
+    used: usize,
+    domain: &[u8],
+    file: &'a [u8],
+) -> Result<usize, Refusal>
     requires stand_from { StandFrom s.now (first_entry s.now) used × DomainsYes s.now used × (used_at s.now ≡ used) }
     requires s_len_bound { length s.now ≤ 65535 }
     ensures { JudgedSays s.now used domain.now file.now result }
@@ -248,58 +131,50 @@ fn load_judged<'a>(s: &'a [u8], used: usize, domain: &[u8], file: &'a [u8]) -> L
     let limits = openings::limits_of(s);
     if limits.depth <= 8 {
         if s.len() <= 8192 {
-            return load_small(s, used, domain, file);
+            return load_with::<304, 616, 640, 284>(s, used, domain, file);
         }
-        return load_large(s, used, domain, file);
+        return load_with::<2428, 4917, 640, 2239>(s, used, domain, file);
     }
     if s.len() <= 8192 {
-        return load_deep_small(s, used, domain, file);
+        return load_with::<304, 821, 1152, 284>(s, used, domain, file);
     }
-    load_deep_large(s, used, domain, file)
+    load_with::<2428, 6556, 1152, 2239>(s, used, domain, file)
 }
 
-// Questions 1 and 2 up to the domains: the number of the first no, or where the entries end.
-fn laid_out(s: &[u8]) -> Opened
+// Questions 1 and 2 up to the domains: the first no, or where the entries end.
+fn laid_out(s: &[u8]) -> Result<usize, Refusal>
     ensures { LaidSays s.now result }
 {
     if !store::size_ok(s) {
-        return Opened::Refused(1);
+        return Err(Refusal::StoreSize);
     }
     match store::laid_out(s) {
-        Layout::Broken => Opened::Refused(2),
-        Layout::Used(used) => {
+        None => Err(Refusal::StoreUnsound),
+        Some(used) => {
             if domains_sound(s, used) {
-                return Opened::Used(used);
+                return Ok(used);
             }
-            Opened::Refused(2)
+            Err(Refusal::StoreUnsound)
         }
     }
 }
 
-// Questions 1 and 2.
-pub fn open_store(s: &[u8]) -> Opened
+// Questions 1 and 2: the first no, or where the entries of a sound store end.
+pub fn open_store(s: &[u8]) -> Result<usize, Refusal>
     ensures { OpenedSays s.now result }
 {
-    match laid_out(s) {
-        Opened::Refused(n) => Opened::Refused(n),
-        Opened::Used(used) => {
-            if packages_sound(s, used) {
-                return Opened::Used(used);
-            }
-            Opened::Refused(2)
-        }
+    let used = laid_out(s)?;
+    if packages_sound(s, used) {
+        return Ok(used);
     }
+    Err(Refusal::StoreUnsound)
 }
 
-// A load: 1 to 3, 5, 10 to 17, 24, 18 to 21.
-pub fn judge_load<'a>(s: &'a [u8], domain: &[u8], file: &'a [u8]) -> Loading
+// A load: the first refusal of 1 to 3, 5, 10 to 17, 24, 26, 18 to 21, or what is accepted.
+pub fn judge_load<'a>(s: &'a [u8], domain: &[u8], file: &'a [u8]) -> Result<Loading, Refusal>
     ensures { LoadingSays s.now domain.now file.now result }
 {
-    match laid_out(s) {
-        Opened::Refused(n) => Loading::Refused(n),
-        Opened::Used(used) => match load_judged(s, used, domain, file) {
-            LoadAnswer::Refused(n) => Loading::Refused(n),
-            LoadAnswer::Accepted(depth) => Loading::Accepted(used, depth),
-        },
-    }
+    let used = laid_out(s)?;
+    let depth = load_judged(s, used, domain, file)?;
+    Ok(Loading { used, depth })
 }

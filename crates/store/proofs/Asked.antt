@@ -17,7 +17,7 @@ use Rattle.rules.specs.Operations.{is_domain, is_package}
 use Rattle.rules.proofs.Tests.{and_l, and_r, of_true}
 use Rattle.store.specs.Entries.{part, EntryAt, Entries, place_of, FileReads, AllRead, own_aid, lies_in, is_without_int, PackageAt}
 use Rattle.store.specs.Answers.{FileSays}
-use Rattle.store.specs.declared.FileSpot.TheVariants.{File, Missing}
+use Rattle.std.specs.Prelude.{Some, None}
 use Rattle.store.proofs.Stand.{entry_next, entries_next}
 use Rattle.store.proofs.Walk.{FoundAt, found_at, place_any, place_none}
 use Rattle.store.proofs.Parts.{part_length}
@@ -127,7 +127,7 @@ named_place l a i (e ∷ es) h =
 -- what the search for a package answers
 pub package_found : {s : Bytes} {es : List Entry} {k : ℕ} {a : Aid} {i j m : ℕ} {d : Bytes} → Entries s (first_entry s) es k → AllRead (store_limits s) es →
     place_of (named_by a) (first_entry s) es ≡ some (i, m) → j ≤ m → m ≤ length s →
-    ((e : Entry) → EntryAt s i e m → e ≡ loaded d (part s j m)) → FileSays s es a (File i j m)
+    ((e : Entry) → EntryAt s i e m → e ≡ loaded d (part s j m)) → FileSays s es a (Some (record { at = i; from = j; to = m }))
 package_found {s} {es} {k} {a} {i} {j} {m} {d} r h q from to file = go (found_at (is_package (store_limits s) a) s (first_entry s) es k i m r place)
   where
     place : place_of (is_package (store_limits s) a) (first_entry s) es ≡ some (i, m)
@@ -158,7 +158,7 @@ package_found {s} {es} {k} {a} {i} {j} {m} {d} r h q from to file = go (found_at
               to = to;
             }
 
-pub package_none : (s : Bytes) (es : List Entry) (a : Aid) → AllRead (store_limits s) es → any (named_by a) es ≡ false → FileSays s es a Missing
+pub package_none : (s : Bytes) (es : List Entry) (a : Aid) → AllRead (store_limits s) es → any (named_by a) es ≡ false → FileSays s es a None
 package_none s es a h n =
     let p : place_of (is_package (store_limits s) a) (first_entry s) es ≡ none =
     sym (named_place (store_limits s) a (first_entry s) es h) ∙ place_none (named_by a) (first_entry s) es n in

@@ -16,7 +16,7 @@ use Rattle.rules.proofs.Tests.{of_true}
 use Rattle.rules.proofs.Lists.{some_is}
 use Rattle.store.specs.Entries.{part, kind_of, kind_at, Entries, over, StandFrom, is_without_int}
 use Rattle.store.specs.Answers.{NextSays}
-use Rattle.store.specs.declared.Next.TheVariants.{To, Never}
+use Rattle.std.specs.Prelude.{Some, None}
 use Rattle.store.proofs.Parts.{drop_one}
 use Rattle.store.proofs.Stand.{entry_by, by_entry, entry_later, entries_to, entries_more, entries_split, entries_front}
 
@@ -24,16 +24,7 @@ and_false : (a b : Bool) → b ≡ false → (a && b) ≡ false
 and_false true b e = e
 and_false false b e = refl
 
--- mark and version, byte by byte
-pub mark_is : (s : Bytes) (n : ℕ) → 5 ≤ length s → same (take 5 s) (store_mark n) ≡ (eqb (get_or s 0 0) 0x42 &&
-    (eqb (get_or s 1 0) 0x43 && (eqb (get_or s 2 0) 0x53 && (eqb (get_or s 3 0) 0 && (eqb (get_or s 4 0) n && true)))))
-mark_is [] n h = absurd (omega arith)
-mark_is (a ∷ []) n h = absurd (omega arith)
-mark_is (a ∷ b ∷ []) n h = absurd (omega arith)
-mark_is (a ∷ b ∷ c ∷ []) n h = absurd (omega arith)
-mark_is (a ∷ b ∷ c ∷ d ∷ []) n h = absurd (omega arith)
-mark_is (a ∷ b ∷ c ∷ d ∷ e ∷ s) n h = refl
-
+-- too few bytes for the mark
 pub mark_short : (s : Bytes) (n : ℕ) → length s < 5 → same (take 5 s) (store_mark n) ≡ false
 mark_short [] n h = refl
 mark_short (a ∷ []) n h = and_false (eqb a 0x42) false refl
@@ -99,14 +90,14 @@ body_loaded s at n m h k z e =
 part_of : (s : Bytes) (i n : ℕ) → part s i (i + n) ≡ take n (drop i s)
 part_of s i n = let m : i + n - i ≡ n = omega arith in rw m
 
-pub next_short : (s : Bytes) (i k : ℕ) → k - i < 3 → i ≤ k → NextSays s i k Never
+pub next_short : (s : Bytes) (i k : ℕ) → k - i < 3 → i ≤ k → NextSays s i k None
 next_short s i k h g e j t l = omega (arith, entry_later s i e j t)
 
 module _ (s : Bytes) (i k n : ℕ) (h : n ≡ u2_at s (i + 1)) (g : k ≤ length s) where
-  pub next_long : k - i - 3 < n → NextSays s i k Never
+  pub next_long : k - i - 3 < n → NextSays s i k None
   next_long m e j t l = omega (arith, (entry_by s i e j t).next)
 
-  pub next_body : i + 3 ≤ k → n ≤ k - i - 3 → is_some (entry_of (get_or s i 0) (take n (drop (i + 3) s))) ≡ true → NextSays s i k (To (i + 3 + n))
+  pub next_body : i + 3 ≤ k → n ≤ k - i - 3 → is_some (entry_of (get_or s i 0) (take n (drop (i + 3) s))) ≡ true → NextSays s i k (Some (i + 3 + n))
   next_body l m b =
       let x = some_is (entry_of (get_or s i 0) (take n (drop (i + 3) s))) (of_true b) in (
         x.0,
@@ -119,7 +110,7 @@ module _ (s : Bytes) (i k n : ℕ) (h : n ≡ u2_at s (i + 1)) (g : k ≤ length
         omega arith,
       )
 
-  pub next_other : is_some (entry_of (get_or s i 0) (take n (drop (i + 3) s))) ≡ false → NextSays s i k Never
+  pub next_other : is_some (entry_of (get_or s i 0) (take n (drop (i + 3) s))) ≡ false → NextSays s i k None
   next_other b e j t l =
       let y = entry_by s i e j t in
       let z : j ≡ i + 3 + n = sym y.next ∙ ap (λ (v : ℕ). i + 3 + v) (sym h) in
@@ -131,10 +122,10 @@ module _ (s : Bytes) (i k n : ℕ) (h : n ≡ u2_at s (i + 1)) (g : k ≤ length
 pub fill_start : (s : Bytes) (at : ℕ) → at ≤ length s → StandFrom s at at
 fill_start s at h = ([], over h)
 
-pub fill_more : (s : Bytes) (at i j k : ℕ) → StandFrom s at i → NextSays s i k (To j) → StandFrom s at j × (i < j) × (j ≤ k)
+pub fill_more : (s : Bytes) (at i j k : ℕ) → StandFrom s at i → NextSays s i k (Some j) → StandFrom s at j × (i < j) × (j ≤ k)
 fill_more s at i j k f t = (((f.0 ++ t.0 ∷ []), entries_more s at f.0 i t.0 j f.1 t.1), omega (arith, entry_later s i t.0 j t.1), t.2)
 
-pub fill_never : (s : Bytes) (at i k : ℕ) → i < k → StandFrom s at i → NextSays s i k Never → (es : List Entry) → Entries s at es k → ⊥
+pub fill_never : (s : Bytes) (at i k : ℕ) → i < k → StandFrom s at i → NextSays s i k None → (es : List Entry) → Entries s at es k → ⊥
 fill_never s at i k l f h es r =
     let x = entries_split s at es f.0 i k (omega arith) f.1 r in
     let y = entries_front s i x.rest k l x.stand in

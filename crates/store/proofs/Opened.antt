@@ -11,6 +11,7 @@ use borrow.Author.Tests.{le-leb, lt-leb}
 use Rattle.rules.specs.Bytes.{Bytes, within, same}
 use Rattle.rules.specs.Limits.{Limits, limits_range}
 use Rattle.rules.specs.Store.{Opening, version1, version2, store_mark, limits, opening_of, store_opening, limits_at}
+use Rattle.std.specs.Prelude.{Option as Optional}
 use Rattle.store.specs.Openings.{opening_told}
 use Rattle.store.specs.declared.openings.Opening as told
 use Rattle.store.proofs.Parts.{drop_one}
@@ -109,7 +110,7 @@ module _ (s : Bytes) where
     told_out h e l z q = let r : limits_range (limits_at s) ≡ false = ap limits_range (sym z) ∙ q in rw (other, e, limits_here s h, r)
 
   -- the opening of a store, by the one that is told
-  pub opening_told_lem : (r : told.Opening) (v : Opening) → opening_told r ≡ opening_of s → opening_told r ≡ some v → (store_opening s ≡ v) × (opening_of s ≡ some (store_opening s))
+  pub opening_told_lem : (r : Optional told.Opening) (v : Opening) → opening_told r ≡ opening_of s → opening_told r ≡ some v → (store_opening s ≡ v) × (opening_of s ≡ some (store_opening s))
   unfolding store_opening
   opening_told_lem r v e z = let k : opening_of s ≡ some v = sym e ∙ z in (rw k, rw k)
 

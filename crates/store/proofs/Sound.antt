@@ -14,7 +14,8 @@ use Rattle.rules.proofs.Tests.{and_l, and_r, is_true, of_true, some_and_is}
 use Rattle.store.specs.Entries.{StandFrom, Holds, Laid}
 use Rattle.store.specs.Answers.{spot, SpotAt}
 use Rattle.store.specs.Sound.{Over, OverSome, SoundAt, Asked}
-use Rattle.store.specs.declared.Spot.{Spot}
+use Rattle.std.specs.Prelude.{Option as Optional}
+use Rattle.store.specs.declared.EntryPlace.{EntryPlace}
 use Rattle.store.proofs.Stand.{entries_next, entries_to}
 use Rattle.store.proofs.Asked.{created_place, size_is}
 use Rattle.store.proofs.Checks.{and_true}
@@ -31,7 +32,7 @@ pub over_used : (s : Bytes) (end : ℕ) (es : List Entry) → Over s end es → 
 over_used s end es o = entries_next s (first_entry s) es end o.stand
 
 -- a domain that is found has been created, one that is not has not
-pub created_is : (s : Bytes) (end : ℕ) (a : Aid) (r : Spot) → SpotAt (is_domain a) s end r → (es : List Entry) → Over s end es → is_some (spot r) ≡
+pub created_is : (s : Bytes) (end : ℕ) (a : Aid) (r : Optional EntryPlace) → SpotAt (is_domain a) s end r → (es : List Entry) → Over s end es → is_some (spot r) ≡
     q5_created es a
 created_is s end a r p es o = ap is_some (p es o.stand) ∙ sym (created_place (first_entry s) es a)
 

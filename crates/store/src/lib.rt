@@ -15,40 +15,33 @@ ghost use Rattle.store.specs.Answers.{LayoutSays, NextSays, FillSays, PartAt, Sp
 
 use openings::{Opening, first_entry};
 
-// The used value of a store's layout, or that there is no such layout.
-#[derive(Clone, Copy)]
-pub enum Layout {
-    Used(usize),
-    Broken,
-}
-
-// The place behind an entry, or that none reads.
-#[derive(Clone, Copy)]
-enum Next {
-    To(usize),
-    Never,
-}
-
-// An entry by its places: the AID's first byte and its end; the domain's first byte, the file's first byte and its end.
+// An entry by its places: a domain's AID from its first byte up to the end; a package's domain, its file, the end of both.
 #[derive(Clone, Copy)]
 pub enum EntryPart {
-    Domain(usize, usize),
-    Package(usize, usize, usize),
-    AtEnd,
+    Domain {
+        from: usize,
+        next: usize,
+    },
+    Package {
+        from: usize,
+        file: usize,
+        next: usize,
+    },
 }
 
 // From where up to where an entry stands.
 #[derive(Clone, Copy)]
-pub enum Spot {
-    At(usize, usize),
-    Nothing,
+pub struct EntryPlace {
+    pub at: usize,
+    pub next: usize,
 }
 
 // A package: its entry's place, its file's first byte, the end of both.
 #[derive(Clone, Copy)]
-pub enum FileSpot {
-    File(usize, usize, usize),
-    Missing,
+pub struct FileBounds {
+    pub at: usize,
+    pub from: usize,
+    pub to: usize,
 }
 
 // 1. Has the store 64 to 65,535 bytes?
@@ -62,6 +55,7 @@ pub fn size_ok(s: &[u8]) -> bool
 }
 
 // The greater of two bytes.
+// Kept: no call of another crate within the loop over a store's free bytes; `max` was not measured there.
 fn greater(a: u8, b: u8) -> u8
     ensures { result ≡ max a b }
 {
@@ -74,10 +68,8 @@ fn zeros_from(s: &[u8], from: usize) -> bool
     ensures { result ≡ all is_zero (drop from s.now) }
 {
     let mut greatest = 0;
-    let mut i = from;
-    while i < s.len() {
+    for i in from..s.len() {
         greatest = greater(greatest, s[i]);
-        i += 1;
     }
     greatest == 0
 }
@@ -103,21 +95,21 @@ fn body_reads(s: &[u8], at: usize, n: usize) -> bool
 }
 
 // The place behind the entry at a place, where one reads that does not pass `end`.
-fn next_place(s: &[u8], at: usize, end: usize) -> Next
+fn next_place(s: &[u8], at: usize, end: usize) -> Option<usize>
     requires { (at ≤ end) × (end ≤ length s.now) }
     ensures { NextSays s.now at end result }
 {
     if end - at < 3 {
-        return Next::Never;
+        return None;
     }
     let n = fields::u2_at(s, at + 1);
     if n > end - at - 3 {
-        return Next::Never;
+        return None;
     }
     if body_reads(s, at, n) {
-        return Next::To(at + 3 + n);
+        return Some(at + 3 + n);
     }
-    Next::Never
+    None
 }
 
 // Do entries stand back to back from a place exactly up to `end`?
@@ -127,90 +119,87 @@ fn filled(s: &[u8], from: usize, end: usize) -> bool
 {
     let mut at = from;
     while at < end {
-        match next_place(s, at, end) {
-            Next::To(next) => {
-                at = next;
-            }
-            Next::Never => {
-                return false;
-            }
-        }
+        let Some(next) = next_place(s, at, end) else {
+            return false;
+        };
+        at = next;
     }
     true
 }
 
 // The layout of a buffer whose opening bytes end at a place.
-fn laid_from(s: &[u8], from: usize) -> Layout
+fn laid_from(s: &[u8], from: usize) -> Option<usize>
     requires { (opening_of s.now ≡ some (store_opening s.now)) × (from ≡ first_entry s.now) }
     ensures { LayoutSays s.now result }
 {
     if s.len() < from {
-        return Layout::Broken;
+        return None;
     }
     let end = fields::u2_at(s, 5);
     if end < from {
-        return Layout::Broken;
+        return None;
     }
     if end > s.len() {
-        return Layout::Broken;
+        return None;
     }
     if !zeros_from(s, end) {
-        return Layout::Broken;
+        return None;
     }
     if !filled(s, from, end) {
-        return Layout::Broken;
+        return None;
     }
-    Layout::Used(end)
+    Some(end)
 }
 
 // The layout of a buffer: its used value, where the buffer is laid out as a store.
-pub fn laid_out(s: &[u8]) -> Layout
+pub fn laid_out(s: &[u8]) -> Option<usize>
     ensures { LayoutSays s.now result }
 {
-    match openings::opening_of(s) {
+    match openings::opening_of(s)? {
         Opening::First => laid_from(s, 7),
         Opening::Second(_) => laid_from(s, 11),
-        Opening::Broken => Layout::Broken,
     }
 }
 
-// The entry at a place of the entries that end at `end`.
-pub fn entry_at(s: &[u8], at: usize, end: usize) -> EntryPart
+// The entry at a place of the entries that end at `end`, if the place is before `end`.
+pub fn entry_at(s: &[u8], at: usize, end: usize) -> Option<EntryPart>
     requires { StandFrom s.now at end }
     ensures { PartAt s.now at end result }
 {
     if at == end {
-        return EntryPart::AtEnd;
+        return None;
     }
     let next = at + 3 + fields::u2_at(s, at + 1);
     if s[at] != 2 {
-        return EntryPart::Domain(at + 3, next);
+        return Some(EntryPart::Domain { from: at + 3, next });
     }
-    EntryPart::Package(at + 4, at + 4 + fields::wide(s[at + 3]), next)
+    Some(EntryPart::Package {
+        from: at + 4,
+        file: at + 4 + fields::wide(s[at + 3]),
+        next,
+    })
 }
 
 // Where a domain's entry stands, of the entries that end at `end`.
-pub fn find_domain(s: &[u8], end: usize, aid: &[u8]) -> Spot
+pub fn find_domain(s: &[u8], end: usize, aid: &[u8]) -> Option<EntryPlace>
     requires { StandFrom s.now (first_entry s.now) end }
     ensures { SpotAt (is_domain aid.now) s.now end result }
 {
     let mut at = first_entry(s);
-    loop {
-        match entry_at(s, at, end) {
-            EntryPart::Domain(from, next) => {
+    while let Some(part) = entry_at(s, at, end) {
+        match part {
+            EntryPart::Domain { from, next } => {
                 if fields::same_bytes(aid, &s[from..next]) {
-                    return Spot::At(at, next);
+                    return Some(EntryPlace { at, next });
                 }
                 at = next;
             }
-            EntryPart::Package(_, _, next) => {
+            EntryPart::Package { next, .. } => {
                 at = next;
-            }
-            EntryPart::AtEnd => {
-                return Spot::Nothing;
             }
         }
     }
+    None
 }
 
 // Is a file's own AID the one given?
@@ -223,27 +212,29 @@ fn own_is(f: &[u8], aid: &[u8]) -> bool
 }
 
 // Where a package stands, of the entries that end at `end`.
-pub fn find_package(s: &[u8], end: usize, aid: &[u8]) -> FileSpot
+pub fn find_package(s: &[u8], end: usize, aid: &[u8]) -> Option<FileBounds>
     requires { FilesStand s.now end }
     ensures { FileAt s.now end aid.now result }
 {
     let mut at = first_entry(s);
-    loop {
-        match entry_at(s, at, end) {
-            EntryPart::Domain(_, next) => {
+    while let Some(part) = entry_at(s, at, end) {
+        match part {
+            EntryPart::Domain { next, .. } => {
                 at = next;
             }
-            EntryPart::Package(_, file, next) => {
+            EntryPart::Package { file, next, .. } => {
                 if own_is(&s[file..next], aid) {
-                    return FileSpot::File(at, file, next);
+                    return Some(FileBounds {
+                        at,
+                        from: file,
+                        to: next,
+                    });
                 }
                 at = next;
             }
-            EntryPart::AtEnd => {
-                return FileSpot::Missing;
-            }
         }
     }
+    None
 }
 
 // Does a package lie in the domain, of the entries that end at `end`?
@@ -252,22 +243,20 @@ pub fn domain_in_use(s: &[u8], end: usize, aid: &[u8]) -> bool
     ensures { InUse s.now end aid.now result }
 {
     let mut at = first_entry(s);
-    loop {
-        match entry_at(s, at, end) {
-            EntryPart::Domain(_, next) => {
+    while let Some(part) = entry_at(s, at, end) {
+        match part {
+            EntryPart::Domain { next, .. } => {
                 at = next;
             }
-            EntryPart::Package(from, file, next) => {
+            EntryPart::Package { from, file, next } => {
                 if fields::same_bytes(aid, &s[from..file]) {
                     return true;
                 }
                 at = next;
             }
-            EntryPart::AtEnd => {
-                return false;
-            }
         }
     }
+    false
 }
 
 // 21. Does a domain's entry fit, of either kind?

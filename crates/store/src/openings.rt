@@ -8,12 +8,11 @@ ghost use Rattle.store.specs.Openings.{opening_told};
 
 use cursor::Limits;
 
-// The opening of a buffer: version 1, version 2 with its limits, or neither.
+// The opening of a store: version 1, or version 2 with its limits.
 #[derive(Clone, Copy)]
 pub enum Opening {
     First,
     Second(Limits),
-    Broken,
 }
 
 // Does the buffer begin with the mark and this version?
@@ -21,19 +20,7 @@ fn opens(s: &[u8], version: u8) -> bool
     requires { 5 ≤ length s.now }
     ensures { result ≡ same (take 5 s.now) (store_mark version) }
 {
-    if s[0] != 0x42 {
-        return false;
-    }
-    if s[1] != 0x43 {
-        return false;
-    }
-    if s[2] != 0x53 {
-        return false;
-    }
-    if s[3] != 0 {
-        return false;
-    }
-    s[4] == version
+    fields::same_bytes(&s[..5], &[0x42, 0x43, 0x53, 0, version])
 }
 
 // Does each limit lie in its range: depth 1 to 16, parents 1 to 8, code length 1 to 32,767?
@@ -70,27 +57,27 @@ fn limits_at(s: &[u8]) -> Limits
     }
 }
 
-// The opening of a buffer.
-pub fn opening_of(s: &[u8]) -> Opening
+// The opening of a buffer, if it has one.
+pub fn opening_of(s: &[u8]) -> Option<Opening>
     ensures { opening_told result ≡ opening_of s.now }
 {
     if s.len() < 5 {
-        return Opening::Broken;
+        return None;
     }
     if opens(s, 1) {
-        return Opening::First;
+        return Some(Opening::First);
     }
     if s.len() < 11 {
-        return Opening::Broken;
+        return None;
     }
     if !opens(s, 2) {
-        return Opening::Broken;
+        return None;
     }
     let l = limits_at(s);
     if limits_ok(l) {
-        return Opening::Second(l);
+        return Some(Opening::Second(l));
     }
-    Opening::Broken
+    None
 }
 
 // The limits of a store: those that version 2 opens with, else document 01's.
@@ -98,9 +85,9 @@ pub fn limits_of(s: &[u8]) -> Limits
     ensures { limits_of result ≡ store_limits s.now }
 {
     match opening_of(s) {
-        Opening::First => Limits::standard(),
-        Opening::Second(l) => l,
-        Opening::Broken => Limits::standard(),
+        Some(Opening::Second(l)) => l,
+        Some(Opening::First) => Limits::standard(),
+        None => Limits::standard(),
     }
 }
 
@@ -109,8 +96,8 @@ pub fn first_entry(s: &[u8]) -> usize
     ensures { result ≡ first_entry s.now }
 {
     match opening_of(s) {
-        Opening::First => 7,
-        Opening::Second(_) => 11,
-        Opening::Broken => 7,
+        Some(Opening::Second(_)) => 11,
+        Some(Opening::First) => 7,
+        None => 7,
     }
 }

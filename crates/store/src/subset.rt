@@ -24,20 +24,18 @@ pub fn keeps_subset(s: &[u8], end: usize, aid: &[u8]) -> bool
     ensures { SubsetSays s.now end aid.now result }
 {
     let mut at = first_entry(s);
-    loop {
-        match entry_at(s, at, end) {
-            EntryPart::Domain(from, next) => {
+    while let Some(part) = entry_at(s, at, end) {
+        match part {
+            EntryPart::Domain { from, next } => {
                 if is_without_int(s, at, from, next, aid) {
                     return true;
                 }
                 at = next;
             }
-            EntryPart::Package(_, _, next) => {
+            EntryPart::Package { next, .. } => {
                 at = next;
-            }
-            EntryPart::AtEnd => {
-                return false;
             }
         }
     }
+    false
 }

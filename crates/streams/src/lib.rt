@@ -1,24 +1,15 @@
 // Standard input and output of a program: a read or a write that was interrupted or would have waited is made again.
 #![tactic(auto)]
 
-ghost use Rattle.std.specs.Prelude.{◌≤◌, length};
+ghost use Rattle.std.specs.Prelude.{◌≤◌, IfErr, IfSome, MatchResult, length};
 ghost use Rattle.io.specs.Counts.{IsPrefixLen};
 
 use std::io::{Error, ErrorKind, Print, Read};
 
-// What a write left: the place up to which the bytes are written, and whether it failed.
+// A read or a write failed, and is not made again: how many bytes it had moved.
 #[derive(Clone, Copy)]
-struct Written {
-    to: usize,
-    failed: bool,
-}
-
-// What was read: how many bytes, and whether there are no more: the input ended, or the read failed.
-#[derive(Clone, Copy)]
-pub struct Got {
-    pub count: usize,
-    pub ended: bool,
-    pub failed: bool,
+pub struct Failed {
+    pub moved: usize,
 }
 
 // Was the call that failed just now interrupted, or would it have waited? Then it moved nothing, and is made again.
@@ -34,90 +25,65 @@ pub fn tell(rt: &HostRuntime, words: &[u8]) {
     let _ = rt.stderr().write_all(words);
 }
 
-// Writes bytes from a place on, or some of them.
-fn write_some(rt: &HostRuntime, bytes: &[u8], from: usize) -> Written
+// Writes bytes from a place on, or some of them, and answers the place up to which they are written.
+fn write_some(rt: &HostRuntime, bytes: &[u8], from: usize) -> Result<usize, Failed>
     requires { from ≤ length bytes.now }
-    ensures { result.to ≤ length bytes.now }
+    ensures { MatchResult result (λ to. to ≤ length bytes.now) (λ e. e.moved ≤ length bytes.now) }
 {
     match rt.stdout().write_some(&bytes[from..]) {
-        Ok(put) => Written {
-            to: from + put,
-            failed: put == 0,
-        },
-        Err(error) => Written {
-            to: from,
-            failed: !is_repeated(error),
+        Ok(0) => Err(Failed { moved: from }),
+        Ok(put) => Ok(from + put),
+        Err(error) => if is_repeated(error) {
+            Ok(from)
+        } else {
+            Err(Failed { moved: from })
         },
     }
 }
 
-// Writes bytes, and answers whether all of them were written. None needs as many turns.
-pub fn write_out(rt: &HostRuntime, bytes: &[u8]) -> bool {
+// Writes all bytes. None needs as many turns.
+pub fn write_out(rt: &HostRuntime, bytes: &[u8]) -> Result<(), Failed>
+    ensures { IfErr result (λ e. e.moved ≤ length bytes.now) }
+{
     let mut from = 0;
-    let mut turns = u64::MAX;
-    while from < bytes.len() {
-        let written = write_some(rt, bytes, from);
-        if written.failed {
-            return false;
+    for _ in 0..u64::MAX {
+        if from == bytes.len() {
+            return Ok(());
         }
-        if turns == 0 {
-            return false;
-        }
-        from = written.to;
-        turns -= 1;
+        from = write_some(rt, bytes, from)?;
     }
-    true
+    Err(Failed { moved: from })
 }
 
-// Reads some bytes; none where the read is to be made again.
-pub fn read_some(rt: &HostRuntime, chunk: &mut [u8]) -> Got
-    ensures { IsPrefixLen result.count chunk.new }
+// Reads some bytes, and answers how many; none where the read is to be made again. `None` where the input ended.
+pub fn read_some(rt: &HostRuntime, chunk: &mut [u8]) -> Result<Option<usize>, Failed>
+    ensures { MatchResult result (λ read. IfSome read (λ n. IsPrefixLen n chunk.new)) (λ e. IsPrefixLen e.moved chunk.new) }
 {
     match rt.stdin().read(chunk) {
-        Ok(count) => Got {
-            count,
-            ended: count == 0,
-            failed: false,
+        Ok(0) => Ok(None),
+        Ok(count) => Ok(Some(count)),
+        Err(error) => if is_repeated(error) {
+            Ok(Some(0))
+        } else {
+            Err(Failed { moved: 0 })
         },
-        Err(error) => {
-            let ended = !is_repeated(error);
-            Got {
-                count: 0,
-                ended,
-                failed: ended,
-            }
-        }
     }
 }
 
-// Reads bytes until the buffer is full, the input ends or a read fails. No input needs as many turns.
-pub fn read_whole(rt: &HostRuntime, buffer: &mut [u8]) -> Got
-    ensures { IsPrefixLen result.count buffer.new }
+// Reads bytes until the buffer is full or the input ends, and answers how many. No input needs as many turns.
+pub fn read_whole(rt: &HostRuntime, buffer: &mut [u8]) -> Result<usize, Failed>
+    ensures { MatchResult result (λ n. IsPrefixLen n buffer.new) (λ e. IsPrefixLen e.moved buffer.new) }
 {
     let mut held = 0;
-    let mut turns = u64::MAX;
-    while held < buffer.len() {
-        let got = read_some(rt, &mut buffer[held..]);
-        if got.ended {
-            return Got {
-                count: held,
-                ended: true,
-                failed: got.failed,
-            };
+    for _ in 0..u64::MAX {
+        if held == buffer.len() {
+            return Ok(held);
         }
-        if turns == 0 {
-            return Got {
-                count: held,
-                ended: true,
-                failed: true,
-            };
+        match read_some(rt, &mut buffer[held..]) {
+            Ok(Some(count)) => held += count,
+            Ok(None) => return Ok(held),
+            Err(_) => return Err(Failed { moved: held }),
         }
-        held += got.count;
-        turns -= 1;
     }
-    Got {
-        count: held,
-        ended: false,
-        failed: false,
-    }
+    Err(Failed { moved: held })
 }

@@ -5,6 +5,10 @@ use mathlib.Core.Path.{◌≡◌, refl, sym, ◌∙◌, ap, subst}
 use mathlib.Core.List.{[], ◌∷◌, ◌++◌, append-nil, append_assoc}
 use lib.ListN.{length, take, set, get_or, length-append, length-set, length-take}
 use lib.Seq.{take-suc, take-suc-set, take-length, length-take-le}
+use Rattle.std.proofs.lemmas.List.Edits.{take-paste, length-paste}
+use Rattle.std.proofs.lemmas.Slice.{put_mid-paste}
+use borrow.Rule.Slice.PartMut.{put_mid}
+use lib.Seq.{paste}
 use Rattle.io.specs.Counts.{IsPrefixLen}
 use Rattle.rules.specs.Bytes.{Bytes}
 use Rattle.rules.proofs.Lists.{flat_append}
@@ -28,6 +32,16 @@ pub put_counts : {b c x : Bytes} {i j : ℕ} → Put b i x c j → i ≤ length 
 put_counts {b} {c} {x} {i} {j} p h =
     let long : length (take j c) ≡ j = omega (arith, ap length p.text, length-append (take i b) x, length-take-le i b h, p.to) in
     (omega (arith, long, length-take j c), sym long)
+
+-- bytes are copied to a part of the buffer
+pub put_part : (b : Bytes) (i k : ℕ) (x xs : Bytes) → xs ≡ x → length x ≡ k → i + length x ≤ length b → Put b i x (put_mid i k b xs) (i + length x)
+put_part b i k x xs e q h =
+    let z : put_mid i k b xs ≡ paste b i x (length x) = put_mid-paste i k b xs x (length x) e q refl in
+    record {
+      text = ap (take (i + length x)) z ∙ take-paste b i x (length x) (omega arith) (omega arith) ∙ ap (λ (y : Bytes). take i b ++ y) (take-length x);
+      to = refl;
+      kept = ap length z ∙ length-paste b i x (length x) h (omega arith);
+    }
 
 -- a byte is put
 pub put_one : (b : Bytes) (i a : ℕ) → i < length b → Put b i (a ∷ []) (set b i a) (i + 1)

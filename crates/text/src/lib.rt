@@ -5,8 +5,6 @@ ghost use Rattle.std.specs.Prelude.{[], ◌∷◌, ◌+◌, ◌*◌, ◌<◌, �
 ghost use Rattle.text.specs.Text.{hex_digit, hex_byte, hex_bytes, decimal, two_figures, three_figures};
 ghost use Rattle.text.specs.Put.{Put};
 
-use fields::wide;
-
 // The capital hex digit of a number below 16.
 fn hex_digit(n: usize) -> u8
     requires { n < 16 }
@@ -32,12 +30,8 @@ pub fn put_bytes(out: &mut [u8], at: usize, bytes: &[u8]) -> usize
     requires { at + length bytes.now ≤ length out.old }
     ensures { Put out.old at bytes.now out.new result }
 {
-    let mut to = at;
-    let mut i = 0;
-    while i < bytes.len() {
-        to = put_byte(out, to, bytes[i]);
-        i += 1;
-    }
+    let to = at + bytes.len();
+    out[at..to].copy_from_slice(bytes);
     to
 }
 
@@ -46,7 +40,7 @@ fn put_hex_byte(out: &mut [u8], at: usize, b: u8) -> usize
     requires { at + 2 ≤ length out.old }
     ensures { Put out.old at (hex_byte b) out.new result }
 {
-    let n = wide(b);
+    let n = usize::from(b);
     let middle = put_byte(out, at, hex_digit(n / 16));
     put_byte(out, middle, hex_digit(n % 16))
 }
@@ -57,10 +51,8 @@ pub fn put_hex(out: &mut [u8], at: usize, bytes: &[u8]) -> usize
     ensures { Put out.old at (hex_bytes bytes.now) out.new result }
 {
     let mut to = at;
-    let mut i = 0;
-    while i < bytes.len() {
-        to = put_hex_byte(out, to, bytes[i]);
-        i += 1;
+    for b in bytes {
+        to = put_hex_byte(out, to, *b);
     }
     to
 }

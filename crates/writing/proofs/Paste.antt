@@ -1,11 +1,11 @@
 -- Stores, one after the other, as one paste. Assumes nothing.
-use Prim.Native.Nat.{ℕ, ◌+◌, ◌-◌, ◌<◌, ◌≤◌}
+use Prim.Native.Nat.{ℕ, ◌+◌, ◌<◌, ◌≤◌}
 use mathlib.Core.Path.{◌≡◌, sym, ap, ap₂, ◌∙◌}
 use mathlib.Core.List.{[], ◌∷◌, ◌++◌, append_assoc}
 use native.Mathlib.Omega.{arith}
 use native.Mathlib.Numerals.{add-one}
 use lib.ListN.{length, get_or, take, drop, set, length-append}
-use lib.Seq.{paste, paste-suc, sets-eq, take_at, drop-paste, take-paste, get_or-drop, drop-drop, take-length, drop-append-add, drop-append_seam}
+use lib.Seq.{paste, paste-suc, sets-eq, take_at, drop-paste, take-paste, drop-drop, take-length, drop-append-add, drop-append_seam}
 use Rattle.rules.specs.Bytes.{Bytes}
 
 -- bytes stored one after the other
@@ -20,16 +20,6 @@ pub paste_more : (d : Bytes) (at : ℕ) (w : Bytes) (j v : ℕ) → at + j < len
     d at w (j + 1)
 paste_more d at w j v hd hw e =
     ap (set (paste d at w j) (at + j)) e ∙ paste-suc d at w j 0 hd hw ∙ ap (paste d at w) (sym (add-one j))
-
--- behind what is pasted the list is as it was
-pub paste_behind : (d : Bytes) (at : ℕ) (w : Bytes) (j i : ℕ) → at ≤ length d → j ≤ length w → at + j ≤ i → get_or (paste d at w j) i 0 ≡ get_or d i 0
-paste_behind d at w j i hd hw h =
-    let e : i ≡ at + j + (i - (at + j)) = omega arith in
-    ap (λ (k : ℕ). get_or (paste d at w j) k 0) e
-    ∙ sym (get_or-drop (at + j) (paste d at w j) (i - (at + j)) 0)
-    ∙ ap (λ (l : Bytes). get_or l (i - (at + j)) 0) (drop-paste d at w j hd hw)
-    ∙ get_or-drop (at + j) d (i - (at + j)) 0
-    ∙ ap (λ (k : ℕ). get_or d k 0) (sym e)
 
 -- a paste over a part of the same length
 pub paste_over : (p v r w : Bytes) (at : ℕ) → length p ≡ at → length v ≡ length w → paste (p ++ (v ++ r)) at w (length w) ≡ p ++ (w ++ r)

@@ -1,6 +1,7 @@
 -- What the functions that write a store require and leave. Assumes nothing.
 --
 -- limits_given      == the limits that a fresh call is given
+-- kind_said k       == the kind of domains that the code names
 -- Emptied s t n k  == t is s emptied: an empty store of version n whose opening bytes are k; those behind the used field stay
 -- Room s u e       == s is the layout of entries that end at place u, and the entry e fits behind them
 -- CutAt s u i j    == s is the layout of entries that end at place u, one of which stands from place i up to place j
@@ -10,14 +11,21 @@ use Rattle.std.specs.Prelude.{ℕ, ◌-◌, ◌≤◌, ◌≡◌, Bool, true, Li
 use Rattle.std.proofs.Math.Option.{some}
 use Rattle.rules.specs.Bytes.{Bytes, high, low}
 use Rattle.rules.specs.Limits.{Limits}
-use Rattle.rules.specs.Store.{Entry, store_mark, write, entries_of, store_opening, first_entry}
+use Rattle.rules.specs.Store.{DomainKind, full, without_int, Entry, store_mark, write, entries_of, store_opening, first_entry}
 use Rattle.rules.specs.Questions.{q21_fits}
 use Rattle.rules.specs.Operations.{without}
 use Rattle.store.specs.Entries.{Laid, place_of}
+use Rattle.writing.specs.declared.DomainKind.{DomainKind as Kind}
+use Rattle.writing.specs.declared.DomainKind.TheVariants as kinds
 
 -- depth, parents and code length that a fresh call is given
 abbrev pub limits_given : ℕ → ℕ → ℕ → Limits
 limits_given d p c = record { depth = d; parents = p; code = c }
+
+-- the kind of domains that the code names
+abbrev pub kind_said : Kind → DomainKind
+kind_said kinds.Full = full
+kind_said kinds.WithoutInt = without_int
 
 -- t is s emptied: mark and version, used, the opening bytes behind it as they were, zeros
 abbrev pub Emptied : Bytes → Bytes → ℕ → ℕ → Type 0

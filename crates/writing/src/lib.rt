@@ -8,10 +8,28 @@ ghost use Rattle.rules.specs.Limits.{limits_range};
 ghost use Rattle.rules.specs.Store.{version1, version2, domain, loaded, domain_byte, write};
 ghost use Rattle.rules.specs.Questions.{q30_limits};
 ghost use Rattle.cursor.specs.Limits.{limits_of};
-ghost use Rattle.store.specs.Entries.{kind_of};
-ghost use Rattle.writing.specs.Changes.{limits_given, Emptied, Room, Appended, CutAt, CutOut};
+ghost use Rattle.writing.specs.Changes.{limits_given, kind_said, Emptied, Room, Appended, CutAt, CutOut};
 
 use cursor::Limits;
+
+// The kinds of domains: any package, or only packages that keep to the subset without int.
+#[derive(Clone, Copy, PartialEq, Eq)]
+pub enum DomainKind {
+    Full,
+    WithoutInt,
+}
+
+impl DomainKind {
+    // The byte that stands for it in a domain's entry.
+    fn byte(self) -> u8
+        ensures { result ≡ domain_byte (kind_said self) }
+    {
+        match self {
+            DomainKind::Full => 1,
+            DomainKind::WithoutInt => 3,
+        }
+    }
+}
 
 // Writes a u2 at a place.
 fn put_u2(store: &mut [u8], at: usize, n: usize)
@@ -36,22 +54,9 @@ fn copy_in(store: &mut [u8], at: usize, from: &[u8])
     requires { at + length from.now ≤ length store.old }
     ensures { store.new ≡ paste store.old at from.now (length from.now) }
 {
-    let mut i = 0;
-    while i < from.len() {
+    // Kept: no `copy_from_slice`, which needs memmove: the header promises that the library needs memset alone.
+    for i in 0..from.len() {
         store[at + i] = from[i];
-        i += 1;
-    }
-}
-
-// Moves n bytes up from one place to an earlier one.
-fn move_up(store: &mut [u8], to: usize, from: usize, n: usize)
-    requires { (to ≤ from) × (from + n ≤ length store.old) }
-    ensures { store.new ≡ paste store.old to (drop from store.old) n }
-{
-    let mut i = 0;
-    while i < n {
-        store[to + i] = store[from + i];
-        i += 1;
     }
 }
 
@@ -60,11 +65,7 @@ fn zero_out(store: &mut [u8], at: usize, n: usize)
     requires { at + n ≤ length store.old }
     ensures { store.new ≡ paste store.old at (replicate n 0) n }
 {
-    let mut i = 0;
-    while i < n {
-        store[at + i] = 0;
-        i += 1;
-    }
+    store[at..at + n].fill(0);
 }
 
 // Writes an empty store over the whole buffer, all but its limits: mark, version, used, and zeros behind the opening bytes.
@@ -119,13 +120,13 @@ pub fn write_fresh_limits(store: &mut [u8], depth: u8, parents: u8, code: u16) -
     true
 }
 
-// Writes a domain's entry behind the others, of the kind with this byte.
-pub fn append_domain(store: &mut [u8], end: usize, kind: u8, aid: &[u8])
-    requires { Room store.old end (domain (kind_of kind) aid.now) × (domain_byte (kind_of kind) ≡ kind) }
-    ensures { Appended store.old store.new (domain (kind_of kind) aid.now) }
+// Writes a domain's entry behind the others.
+pub fn append_domain(store: &mut [u8], end: usize, kind: DomainKind, aid: &[u8])
+    requires { Room store.old end (domain (kind_said kind) aid.now) }
+    ensures { Appended store.old store.new (domain (kind_said kind) aid.now) }
 {
     let n = aid.len();
-    put_head(store, end, kind, n);
+    put_head(store, end, kind.byte(), n);
     copy_in(store, end + 3, aid);
     put_u2(store, 5, end + 3 + n);
 }
@@ -150,7 +151,7 @@ pub fn cut_entry(store: &mut [u8], end: usize, at: usize, next: usize)
     ensures { CutOut store.old store.new at next }
 {
     let k = next - at;
-    move_up(store, at, next, end - next);
+    store.copy_within(next..end, at);
     zero_out(store, end - k, k);
     put_u2(store, 5, end - k);
 }

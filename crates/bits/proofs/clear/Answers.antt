@@ -1,19 +1,13 @@
--- `bits::clear` meets its contract. Assumes nothing.
-use native.Mathlib.Omega.{arith}
-use lib.ListN.{length-set}
-use Rattle.bits.proofs.Bits.{zero_bits, zeros_more}
+-- `bits::clear` meets its contract: zeros have no bit. Assumes nothing.
+use Prim.Native.Nat.{ℕ, ◌/◌}
+use mathlib.Core.Path.{◌≡◌}
+use mathlib.Core.List.{List}
+use lib.ListN.{length, replicate}
+use Rattle.bits.proofs.Bits.{zero_bit, zeros_all}
 use Rattle.bits.proofs.clear.Goals as goal
 
-pub loop-i-smaller : goal.loop-i-smaller
-loop-i-smaller c = simp length-set (omega arith)
-
-pub loop-i-preserved : goal.loop-i-preserved
-loop-i-preserved c = (
-  simp length-set (omega arith),
-  simp length-set (omega arith),
-  zeros_more c.loop-i.s c.loop-i.i c.loop-i-test.true
-      c.loop-i.invariant.2,
-)
-
 pub returns : goal.returns
-returns c = zero_bits c.loop-i.s (λ k h. c.loop-i.invariant.2 k (omega (arith, h)))
+returns c =
+    let n = length c.args.s.now in
+    let zeros : ◌≡◌ {A = List ℕ} c.fill.new.self (replicate n 0) = c.fill.ensures.after (λ y e. e) in
+    λ j. zero_bit c.fill.new.self j (rw zeros (zeros_all n (j / 8)))

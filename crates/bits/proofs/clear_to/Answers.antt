@@ -1,18 +1,14 @@
--- `bits::clear_to` meets its contract. Assumes nothing.
-use Prim.Native.Nat.{◌/◌}
-use native.Mathlib.Omega.{arith}
-use lib.ListN.{length-set}
-use Rattle.bits.proofs.Bits.{zero_bit, zeros_more}
+-- `bits::clear_to` meets its contract: the bytes of the part are zeros. Assumes nothing.
+use Prim.Native.Nat.{ℕ, ◌/◌}
+use mathlib.Core.Path.{◌≡◌, ap, ◌∙◌}
+use mathlib.Core.List.{List}
+use lib.ListN.{length, take, drop, replicate}
+use lib.Seq.{length-take-le}
+use Rattle.bits.proofs.Bits.{zero_bit, zeros_front}
 use Rattle.bits.proofs.clear_to.Goals as goal
 
-pub loop-i-preserved : goal.loop-i-preserved
-loop-i-preserved c = (
-  simp length-set (omega arith),
-  omega arith,
-  simp length-set (omega arith),
-  zeros_more c.loop-i.s c.loop-i.i
-      (omega arith) c.loop-i.invariant.3,
-)
-
 pub returns : goal.returns
-returns c = λ j h. zero_bit c.loop-i.s j (c.loop-i.invariant.3 (j / 8) (omega arith))
+returns c =
+    let n : length (take c.args.n c.args.s.now) ≡ c.args.n = length-take-le c.args.n c.args.s.now c.requires in
+    let zeros : ◌≡◌ {A = List ℕ} c.fill.new.self (replicate c.args.n 0) = c.fill.ensures.after (λ y e. e) ∙ ap (λ (k : ℕ). replicate k 0) n in
+    λ j h. zero_bit _ j (rw zeros (zeros_front c.args.n (drop c.args.n c.args.s.now) (j / 8) h))

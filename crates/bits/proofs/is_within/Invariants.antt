@@ -1,11 +1,6 @@
 -- `bits::is_within` meets its contract. The invariant: the bits of the bytes before i are within. Assumes nothing.
-use Prim.Native.Nat.{◌-◌}
-use lib.ListN.{length}
 use Rattle.bits.proofs.Within.{WithinTo}
 use Rattle.bits.proofs.is_within.Given as goal
 
 abbrev pub invariant-loop-i : goal.invariant-loop-i
 invariant-loop-i l = WithinTo l.a l.b l.i
-
-abbrev pub decreases-loop-i : goal.decreases-loop-i
-decreases-loop-i l = length l.a - l.i

@@ -19,9 +19,9 @@ stored_names-to-requires c =
     let s = c.args.s.now in
     let kept = c.args.kept in
     let need = finding.next_need f s kept.end c.args.b c.requires.running_there c.own_home-h.result c.own_home-h.ensures c.args.names.now c.find_part-stop.new.names c.find_part-stop.result.link
-    c.find_part-stop.result.next c.find_part-stop.ensures.part_is c.in-At.d c.in-At.is in
+    c.find_part-stop.result.next c.find_part-stop.ensures.part_is c.in-Some.d c.in-Some.is in
     let behind = finding.next_stored f s kept.end c.args.b c.requires.running_there c.own_home-h.result c.own_home-h.ensures c.args.names.now c.find_part-stop.new.names c.find_part-stop.result.link
-    c.find_part-stop.result.next c.find_part-stop.ensures.part_is c.in-At.d c.in-At.is in
+    c.find_part-stop.result.next c.find_part-stop.ensures.part_is c.in-Some.d c.in-Some.is in
     let keep = finding.kept_after f s kept.end c.args.b c.requires.running_there c.own_home-h.result c.own_home-h.ensures c.args.names.now c.find_part-stop.new.names c.find_part-stop.result.link
     c.find_part-stop.result.next c.find_part-stop.ensures.part_is kept c.requires.kept.0 in
     let room = finding.room_after f s c.args.names.now c.find_part-stop.new.names c.find_part-stop.ensures.part_is.size c.requires.kept.1 in
@@ -35,57 +35,57 @@ gather-all-requires c =
     let there = finding.own_part_there f s kept.end c.args.b c.requires.running_there c.own_home-h.result c.own_home-h.ensures c.args.names.now c.find_part-stop.new.names c.find_part-stop.result.link
     c.find_part-stop.result.next c.find_part-stop.ensures.part_is c.stored_names-to.new.names c.stored_names-to.result c.stored_names-to.ensures.kept_for.2 c.stored_names-to.ensures.kept_for.1 in
     let fits = finding.fits_stored f s kept.end c.args.b c.requires.running_there c.own_home-h.result c.own_home-h.ensures c.args.names.now c.find_part-stop.new.names c.find_part-stop.result.link
-    c.find_part-stop.result.next c.find_part-stop.ensures.part_is c.stored_names-to.new.names c.stored_names-to.result c.stored_names-to.ensures.kept_for.2 c.stored_names-to.ensures.kept_for.1 c.in-At.d c.in-At.is
+    c.find_part-stop.result.next c.find_part-stop.ensures.part_is c.stored_names-to.new.names c.stored_names-to.result c.stored_names-to.ensures.kept_for.2 c.stored_names-to.ensures.kept_for.1 c.in-Some.d c.in-Some.is
     c.stored_names-to.ensures.kept_for.0 c.requires.kept.1 in
     record { part_there = there; last_bound = fits; f_len_bound = (c.requires.kept.1.file, c.requires.kept.1.store) }
 
-pub gather-all-requires-in-Nothing : goal.gather-all-requires-in-Nothing
-gather-all-requires-in-Nothing c =
+pub gather-all-requires-in-None : goal.gather-all-requires-in-None
+gather-all-requires-in-None c =
     let f = c.args.f.now in
     let s = c.args.s.now in
     let kept = c.args.kept in
     let there = finding.own_part_there f s kept.end c.args.b c.requires.running_there c.own_home-h.result c.own_home-h.ensures c.args.names.now c.find_part-stop.new.names c.find_part-stop.result.link
     c.find_part-stop.result.next c.find_part-stop.ensures.part_is c.find_part-stop.new.names 128 refl (λ k u v. refl) in
     let fits = finding.fits_alone f s kept.end c.args.b c.requires.running_there c.own_home-h.result c.own_home-h.ensures c.args.names.now c.find_part-stop.new.names c.find_part-stop.result.link
-    c.find_part-stop.result.next c.find_part-stop.ensures.part_is c.find_part-stop.new.names 128 refl (λ k u v. refl) c.in-Nothing.is refl c.requires.kept.1 in
+    c.find_part-stop.result.next c.find_part-stop.ensures.part_is c.find_part-stop.new.names 128 refl (λ k u v. refl) c.in-None.is refl c.requires.kept.1 in
     record { part_there = there; last_bound = fits; f_len_bound = (c.requires.kept.1.file, c.requires.kept.1.store) }
 
-pub shape_of-names-in-At : goal.shape_of-names-in-At
-shape_of-names-in-At c =
+pub shape_of-names-in-Some : goal.shape_of-names-in-Some
+shape_of-names-in-Some c =
     omega (arith, c.find_part-stop.ensures.part_is.size, c.stored_names-to.ensures.kept_for.2, c.gather-all.ensures.size)
 
-pub returns-in-At : goal.returns-in-At
-returns-in-At c =
+pub returns-in-Some : goal.returns-in-Some
+returns-in-Some c =
     let f = c.args.f.now in
     let s = c.args.s.now in
     let kept = c.args.kept in
     let is = finding.names_stored f s kept.end c.args.b c.requires.running_there c.own_home-h.result c.own_home-h.ensures c.args.names.now c.find_part-stop.new.names c.find_part-stop.result.link
-    c.find_part-stop.result.next c.find_part-stop.ensures.part_is c.stored_names-to.new.names c.stored_names-to.result c.stored_names-to.ensures.kept_for.2 c.stored_names-to.ensures.kept_for.1 c.in-At.d c.in-At.is
+    c.find_part-stop.result.next c.find_part-stop.ensures.part_is c.stored_names-to.new.names c.stored_names-to.result c.stored_names-to.ensures.kept_for.2 c.stored_names-to.ensures.kept_for.1 c.in-Some.d c.in-Some.is
     c.stored_names-to.ensures.kept_for.0 c.gather-all.new.names c.gather-all.result c.gather-all.ensures in
     let keep = finding.names_kept f s kept.end c.args.b c.requires.running_there c.own_home-h.result c.own_home-h.ensures c.args.names.now c.find_part-stop.new.names c.find_part-stop.result.link
-    c.find_part-stop.result.next c.find_part-stop.ensures.part_is c.stored_names-to.new.names c.stored_names-to.result c.stored_names-to.ensures.kept_for.2 c.stored_names-to.ensures.kept_for.1 c.in-At.d c.in-At.is
+    c.find_part-stop.result.next c.find_part-stop.ensures.part_is c.stored_names-to.new.names c.stored_names-to.result c.stored_names-to.ensures.kept_for.2 c.stored_names-to.ensures.kept_for.1 c.in-Some.d c.in-Some.is
     c.stored_names-to.ensures.kept_for.0 c.gather-all.new.names c.gather-all.result c.gather-all.ensures in
     let first = finding.names_first f s kept.end c.args.b c.requires.running_there c.own_home-h.result c.own_home-h.ensures c.args.names.now c.find_part-stop.new.names c.find_part-stop.result.link
-    c.find_part-stop.result.next c.find_part-stop.ensures.part_is c.stored_names-to.new.names c.stored_names-to.result c.stored_names-to.ensures.kept_for.2 c.stored_names-to.ensures.kept_for.1 c.in-At.d c.in-At.is
+    c.find_part-stop.result.next c.find_part-stop.ensures.part_is c.stored_names-to.new.names c.stored_names-to.result c.stored_names-to.ensures.kept_for.2 c.stored_names-to.ensures.kept_for.1 c.in-Some.d c.in-Some.is
     c.stored_names-to.ensures.kept_for.0 c.gather-all.new.names c.gather-all.result c.gather-all.ensures in
-    let told = finding.names_told f s c.gather-all.new.names kept.end c.args.b c.stored_names-to.result c.gather-all.result c.in-At.d c.names_of.result c.names_of.ensures is keep first in
+    let told = finding.names_told f s c.gather-all.new.names kept.end c.args.b c.stored_names-to.result c.gather-all.result c.in-Some.d c.names_of.result c.names_of.ensures is keep first in
     record { end_value = told.0; kept_2 = told.1; slots_true = c.stored_names-to.ensures.slots_true }
 
-pub shape_of-names-in-Nothing : goal.shape_of-names-in-Nothing
-shape_of-names-in-Nothing c =
-    omega (arith, c.find_part-stop.ensures.part_is.size, c.gather-all-in-Nothing.ensures.size)
+pub shape_of-names-in-None : goal.shape_of-names-in-None
+shape_of-names-in-None c =
+    omega (arith, c.find_part-stop.ensures.part_is.size, c.gather-all-in-None.ensures.size)
 
-pub returns-in-Nothing : goal.returns-in-Nothing
-returns-in-Nothing c =
+pub returns-in-None : goal.returns-in-None
+returns-in-None c =
     let f = c.args.f.now in
     let s = c.args.s.now in
     let kept = c.args.kept in
     let is = finding.names_alone f s kept.end c.args.b c.requires.running_there c.own_home-h.result c.own_home-h.ensures c.args.names.now c.find_part-stop.new.names c.find_part-stop.result.link
-    c.find_part-stop.result.next c.find_part-stop.ensures.part_is c.find_part-stop.new.names 128 refl (λ k u v. refl) c.in-Nothing.is refl c.gather-all-in-Nothing.new.names c.gather-all-in-Nothing.result c.gather-all-in-Nothing.ensures in
+    c.find_part-stop.result.next c.find_part-stop.ensures.part_is c.find_part-stop.new.names 128 refl (λ k u v. refl) c.in-None.is refl c.gather-all-in-None.new.names c.gather-all-in-None.result c.gather-all-in-None.ensures in
     let keep = finding.alone_kept f s kept.end c.args.b c.requires.running_there c.own_home-h.result c.own_home-h.ensures c.args.names.now c.find_part-stop.new.names c.find_part-stop.result.link
-    c.find_part-stop.result.next c.find_part-stop.ensures.part_is c.find_part-stop.new.names 128 refl (λ k u v. refl) c.in-Nothing.is refl c.gather-all-in-Nothing.new.names c.gather-all-in-Nothing.result in
+    c.find_part-stop.result.next c.find_part-stop.ensures.part_is c.find_part-stop.new.names 128 refl (λ k u v. refl) c.in-None.is refl c.gather-all-in-None.new.names c.gather-all-in-None.result in
     let first = finding.alone_first f s kept.end c.args.b c.requires.running_there c.own_home-h.result c.own_home-h.ensures c.args.names.now c.find_part-stop.new.names c.find_part-stop.result.link
-    c.find_part-stop.result.next c.find_part-stop.ensures.part_is c.find_part-stop.new.names 128 refl (λ k u v. refl) c.in-Nothing.is refl c.gather-all-in-Nothing.result in
+    c.find_part-stop.result.next c.find_part-stop.ensures.part_is c.find_part-stop.new.names 128 refl (λ k u v. refl) c.in-None.is refl c.gather-all-in-None.result in
     let x : ClassSpot = record { home = c.own_home-h.result; number = c.args.b } in
-    let told = finding.names_told f s c.gather-all-in-Nothing.new.names kept.end c.args.b 128 c.gather-all-in-Nothing.result x c.names_of-in-Nothing.result c.names_of-in-Nothing.ensures is keep first in
+    let told = finding.names_told f s c.gather-all-in-None.new.names kept.end c.args.b 128 c.gather-all-in-None.result x c.names_of-in-None.result c.names_of-in-None.ensures is keep first in
     record { end_value = told.0; kept_2 = told.1; slots_true = c.find_part-stop.ensures.slots_true }

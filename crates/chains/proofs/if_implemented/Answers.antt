@@ -15,9 +15,5 @@ returns-then-not-is_implemented c =
 
 pub returns : goal.returns
 returns c =
-    let a = c.args in (
-      refl,
-      refl,
-      subst (λ (v : Bool). ImplementedIs a.g.now a.at v) (c.if-not-is_implemented.false)
-          c.is_implemented.ensures,
-    )
+    let a = c.args in
+    (refl, subst (λ (v : Bool). ImplementedIs a.g.now a.at v) (c.if-not-is_implemented.false) c.is_implemented.ensures)

@@ -4,4 +4,4 @@ use mathlib.Core.Path.{refl, ap}
 use Rattle.chains.proofs.no_names.Goals as goal
 
 pub returns : goal.returns
-returns c = (refl, ap (λ (b : Home). b.from) c.own_home-h.ensures)
+returns c = (refl, ap (λ (b : Home). b.from) c.own_home.ensures)

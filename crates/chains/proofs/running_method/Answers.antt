@@ -6,15 +6,15 @@ use mathlib.Core.Path.{sym, subst}
 use native.Mathlib.Omega.{arith}
 use Rattle.chains.proofs.running_method.Goals as goal
 
-pub find-i-requires : goal.find-i-requires
-find-i-requires c =
+pub find-requires : goal.find-requires
+find-requires c =
     let a = c.args in
     running.own_sorted a.f.now a.s.now a.names.now a.v c.requires.names_is
 
 pub bounds-names-i : goal.bounds-names-i
 bounds-names-i c =
     let a = c.args in
-    omega (arith, c.if-i-all.true, (running.own_sorted a.f.now a.s.now a.names.now a.v c.requires.names_is).size)
+    omega (arith, c.in-Some.ensures.high, (running.own_sorted a.f.now a.s.now a.names.now a.v c.requires.names_is).size)
 
 pub if_runs-requires : goal.if_runs-requires
 if_runs-requires c =
@@ -26,31 +26,30 @@ if_runs-requires c =
         a.name,
         c.requires.running_there,
         (subst (λ (q : ℕ). Hit a.f.now a.s.now a.names.now 16 a.v.end a.v.own q a.name)
-            (sym c.number_in.ensures) (running.own_hit a.f.now a.s.now a.names.now a.v c.requires.names_is a.name c.find-i.result c.find-i.ensures
-            c.if-i-all.true)),
+            (sym c.from.ensures) (running.own_hit a.f.now a.s.now a.names.now a.v c.requires.names_is a.name c.in-Some.i c.in-Some.ensures)),
       );
       i_le_most_links = (omega arith, running.names_size a.f.now a.s.now a.names.now a.v c.requires.names_is);
     }
 
-pub returns-then-i-all : goal.returns-then-i-all
-returns-then-i-all c =
+pub returns-in-Some : goal.returns-in-Some
+returns-in-Some c =
     let a = c.args in
     c.if_runs.ensures a.v.end a.v.own a.name c.requires.running_there (subst
-    (λ (q : ℕ). Hit a.f.now a.s.now a.names.now 16 a.v.end a.v.own q a.name) (sym c.number_in.ensures)
-    (running.own_hit a.f.now a.s.now a.names.now a.v c.requires.names_is a.name c.find-i.result c.find-i.ensures c.if-i-all.true))
+    (λ (q : ℕ). Hit a.f.now a.s.now a.names.now 16 a.v.end a.v.own q a.name) (sym c.from.ensures)
+    (running.own_hit a.f.now a.s.now a.names.now a.v c.requires.names_is a.name c.in-Some.i c.in-Some.ensures))
 
-pub find-j-requires : goal.find-j-requires
-find-j-requires c =
+pub find-requires-in-None : goal.find-requires-in-None
+find-requires-in-None c =
     let a = c.args in
     running.stored_sorted a.f.now a.s.now a.names.now a.v c.requires.names_is
 
 pub bounds-names-j : goal.bounds-names-j
 bounds-names-j c =
     let a = c.args in
-    omega (arith, c.if-j-stored.true, (running.stored_sorted a.f.now a.s.now a.names.now a.v c.requires.names_is).size)
+    omega (arith, c.in-Some-find.ensures.high, (running.stored_sorted a.f.now a.s.now a.names.now a.v c.requires.names_is).size)
 
-pub if_runs-requires-then-j-stored : goal.if_runs-requires-then-j-stored
-if_runs-requires-then-j-stored c =
+pub if_runs-requires-in-Some-find : goal.if_runs-requires-in-Some-find
+if_runs-requires-in-Some-find c =
     let a = c.args in
     record {
       hit_there = (
@@ -59,23 +58,20 @@ if_runs-requires-then-j-stored c =
         a.name,
         c.requires.running_there,
         (subst (λ (q : ℕ). Hit a.f.now a.s.now a.names.now 0 a.v.end a.v.own q a.name)
-            (sym c.number_in-then-j-stored.ensures) (running.stored_hit a.f.now a.s.now a.names.now a.v c.requires.names_is a.name
-            (c.find-i.ensures.missing (omega (arith, c.find-i.ensures.high, c.if-i-all.false))) c.find-j.result c.find-j.ensures c.if-j-stored.true)),
+            (sym c.from-in-Some-find.ensures) (running.stored_hit a.f.now a.s.now a.names.now a.v c.requires.names_is a.name
+            c.in-None.ensures c.in-Some-find.j c.in-Some-find.ensures)),
       );
       i_le_most_links = (omega arith, running.names_size a.f.now a.s.now a.names.now a.v c.requires.names_is);
     }
 
-pub returns-then-j-stored : goal.returns-then-j-stored
-returns-then-j-stored c =
+pub returns-in-Some-find : goal.returns-in-Some-find
+returns-in-Some-find c =
     let a = c.args in
-    c.if_runs-then-j-stored.ensures a.v.end a.v.own a.name c.requires.running_there (subst
-    (λ (q : ℕ). Hit a.f.now a.s.now a.names.now 0 a.v.end a.v.own q a.name) (sym c.number_in-then-j-stored.ensures)
-    (running.stored_hit a.f.now a.s.now a.names.now a.v c.requires.names_is a.name
-    (c.find-i.ensures.missing (omega (arith, c.find-i.ensures.high, c.if-i-all.false))) c.find-j.result c.find-j.ensures c.if-j-stored.true))
+    c.if_runs-in-Some-find.ensures a.v.end a.v.own a.name c.requires.running_there (subst
+    (λ (q : ℕ). Hit a.f.now a.s.now a.names.now 0 a.v.end a.v.own q a.name) (sym c.from-in-Some-find.ensures)
+    (running.stored_hit a.f.now a.s.now a.names.now a.v c.requires.names_is a.name c.in-None.ensures c.in-Some-find.j c.in-Some-find.ensures))
 
-pub returns : goal.returns
-returns c =
+pub returns-in-None-find : goal.returns-in-None-find
+returns-in-None-find c =
     let a = c.args in
-    running.none_declares a.f.now a.s.now a.names.now a.v c.requires.names_is a.name
-    (c.find-i.ensures.missing (omega (arith, c.find-i.ensures.high, c.if-i-all.false)))
-    (c.find-j.ensures.missing (omega (arith, c.find-j.ensures.high, c.if-j-stored.false)))
+    running.none_declares a.f.now a.s.now a.names.now a.v c.requires.names_is a.name c.in-None.ensures c.in-None-find.ensures

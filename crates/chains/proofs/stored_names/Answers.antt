@@ -1,15 +1,18 @@
 -- `chains::stored_names` meets its contract: the names kept are those of this class, or its chain is found and gathered. Assumes nothing.
 use native.Mathlib.Omega.{arith}
+use mathlib.Core.Path.{◌≡◌}
+use Rattle.std.proofs.Common.{rules}
 use Rattle.chains.proofs.Keeping as keeping
 use Rattle.chains.proofs.stored_names.Goals as goal
 
-pub returns-then-same_class : goal.returns-then-same_class
-returns-then-same_class c =
+pub returns-then-n-kept : goal.returns-then-n-kept
+returns-then-n-kept c =
     let f = c.args.f.now in
     let s = c.args.s.now in
     let d = c.args.d in
     let kept = c.args.kept in
-    record { kept_for = keeping.stored_kept f s c.args.names.now kept d c.requires.kept.0 c.requires.part_room.1 (c.same_class.ensures c.if-same_class.true); slots_true = c.requires.indexed.1 }
+    let same : d.home ≡ kept.home = search rules in
+    record { kept_for = keeping.stored_kept f s c.args.names.now kept d c.requires.kept.0 c.requires.part_room.1 (same, c.if-n-kept.true); slots_true = c.requires.indexed.1 }
 
 pub find_part-stop-requires : goal.find_part-stop-requires
 find_part-stop-requires c =

@@ -23,16 +23,16 @@ caller k = (k.requires.policy_over, λ e. k.if-wide-eq255-2.false (k.wide-2.ensu
 own : (k : Else-wide-eq255-2) → DomainsThere k.args.f.now k.args.l.own
 own k = (k.requires.policy_over.0, k.requires.policy_over.1, k.requires.policy_over.2)
 
-pub bounds-g-called : goal.bounds-g-called
-bounds-g-called c = rules.over_in c.requires.policy_over_2
+pub bounds-g-p : goal.bounds-g-p
+bounds-g-p c = rules.over_in c.requires.policy_over_2
 
 pub returns-then-wide-eq255 : goal.returns-then-wide-eq255
 returns-then-wide-eq255 c =
     let a = c.args in
     covered.covers_every a.other.now a.p a.map.now (sym c.wide.ensures.0 ∙ c.if-wide-eq255.true)
 
-pub bounds-f-caller : goal.bounds-f-caller
-bounds-f-caller c = rules.over_in c.requires.policy_over
+pub bounds-f-p : goal.bounds-f-p
+bounds-f-p c = rules.over_in c.requires.policy_over
 
 pub returns-then-wide-eq255-2 : goal.returns-then-wide-eq255-2
 returns-then-wide-eq255-2 c =

@@ -14,20 +14,20 @@ nth_aid-requires c = rules.has_aids c.requires.has_slot.0
 
 pub aid_bytes-requires : goal.aid_bytes-requires
 aid_bytes-requires c =
-    rules.nth_there c.args.x.index c.nth_aid.ensures c.in-At.is c.requires.has_slot.0
+    rules.nth_there c.args.x.index c.nth_aid.ensures c.in-Some.is c.requires.has_slot.0
 
 pub lists_kept-requires : goal.lists_kept-requires
 lists_kept-requires c =
     record { list_over = c.requires.has_slot.2; has_places = c.requires.has_places }
 
-pub returns-in-At : goal.returns-in-At
-returns-in-At c =
+pub returns-in-Some : goal.returns-in-Some
+returns-in-Some c =
     let a = c.args in
     looked.wanted_looked a.f.now a.g.now a.other.now a.l a.x a.m a.row.now c.requires.has_slot.0 c.nth_aid.ensures
-    c.in-At.is c.aid_bytes.ensures c.lists_kept.ensures
+    c.in-Some.is c.aid_bytes.ensures c.lists_kept.ensures
 
-pub returns-in-Nothing : goal.returns-in-Nothing
-returns-in-Nothing c =
+pub returns-in-None : goal.returns-in-None
+returns-in-None c =
     let a = c.args in
     looked.wanted_missing a.f.now a.g.now a.other.now a.l a.x a.m a.row.now c.requires.has_slot.0 c.nth_aid.ensures
-    c.requires.has_slot.1 c.in-Nothing.is
+    c.requires.has_slot.1 c.in-None.is

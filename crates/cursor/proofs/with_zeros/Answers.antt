@@ -1,22 +1,14 @@
--- `cursor::with_zeros` meets its contract: the bytes passed are copied, the others zero. Assumes nothing.
-use Prim.Native.Nat.{ℕ}
-use native.Mathlib.Omega.{arith}
+-- `cursor::with_zeros` meets its contract: the bytes stand before what is left of the zeros. Assumes nothing.
 use mathlib.Core.Path.{ap, ◌∙◌}
-use mathlib.Core.List.{List}
-use lib.ListN.{replicate, get_or, set}
-use Rattle.cursor.proofs.Copies.{front_step, front_end}
+use mathlib.Core.List.{◌++◌, List}
+use Prim.Native.Nat.{ℕ}
+use lib.ListN.{replicate, length, drop}
+use Rattle.cursor.proofs.Copies.{drop_replicate}
 use Rattle.cursor.specs.Aids.{padded}
 use Rattle.cursor.proofs.with_zeros.Goals as goal
-use Rattle.cursor.proofs.with_zeros.Goals.{At-loop-i, Start}
-
-pub loop-i-preserved : goal.loop-i-preserved
-loop-i-preserved c = (
-  omega arith,
-  ap (λ (l : List ℕ). set l c.loop-i.i (get_or c.args.s.now c.loop-i.i 0)) c.loop-i.invariant.1
-      ∙ front_step (replicate 16 0) c.args.s.now c.loop-i.i (omega arith) (omega arith),
-)
 
 pub returns : goal.returns
 unfolding padded
 returns c =
-    c.loop-i.invariant.1 ∙ front_end 16 0 c.args.s.now c.loop-i.i (omega arith)
+    ap (λ (l : List ℕ). l ++ drop (length c.args.s.now) (replicate 16 0)) c.copy_from_slice.ensures.after
+    ∙ ap (λ (l : List ℕ). c.args.s.now ++ l) (drop_replicate (length c.args.s.now) 16 0)

@@ -4,14 +4,12 @@ use native.Mathlib.Omega.{arith}
 use mathlib.Core.Path.{◌≡◌, refl, subst}
 use lib.ListN.{length, length-set}
 use Rattle.files.specs.Say.{Readable}
-use Rattle.homes.specs.Homes.{own_home}
 use Rattle.named.specs.Named.{ClassStands, ClassFrom, RowsTrue}
-use Rattle.depths.specs.Depths.{DepthIs}
 use Rattle.depths.proofs.Figures as figures
 use Rattle.depths.proofs.Walk as walk
 use Rattle.depths.proofs.Exist as exist
 use Rattle.depths.proofs.depths_ok.Goals as goal
-use Rattle.depths.proofs.depths_ok.Goals.{After-own_depth-d, After-stands_at, Else-d-eq0, In-At, Start}
+use Rattle.depths.proofs.depths_ok.Goals.{After-own_depth, After-stands_at, In-Some, Start}
 
 -- the file reads
 reads : (b : Start) → Readable b.args.f.now
@@ -24,25 +22,19 @@ rows_true : (k : After-stands_at) →
 rows_true k = exist.own_written _ _ _ _ _ _ k.stands_at.auto.rows k.loop-place.invariant.3 k.stands_at.ensures.row_true
 
 -- the class of the turn stands at the place found; its number is below 32
-stands : (k : In-At) →
-    ClassFrom k.args.f.now k.loop-place.n k.in-At.place
+stands : (k : In-Some) →
+    ClassFrom k.args.f.now k.loop-place.n k.in-Some.place
 stands k =
-    subst (ClassStands k.args.f.now k.loop-place.n) k.in-At.is k.stands_at.ensures.class_stands
+    subst (ClassStands k.args.f.now k.loop-place.n) k.in-Some.is k.stands_at.ensures.class_stands
 
-few : (k : In-At) → k.loop-place.n < 32
-few k = exist.own_few _ _ _ (reads (goal.at.In-At k).Start) (stands k)
+few : (k : In-Some) → k.loop-place.n < 32
+few k = exist.own_few _ _ _ (reads (goal.at.In-Some k).Start) (stands k)
 
 -- the rows are as long as at the start
-rows_long : (k : After-own_depth-d) →
-    length k.own_depth-d.new.rows ≡ length k.args.rows.now
+rows_long : (k : After-own_depth) →
+    length k.own_depth.new.rows ≡ length k.args.rows.now
 rows_long k =
-    omega (arith, k.loop-place.invariant.4, k.stands_at.auto.rows, k.own_depth-d.auto.rows)
-
--- a depth that is not 0 is the class's
-depth : (e : Else-d-eq0) →
-    let a = e.args in
-    DepthIs a.f.now a.s.now a.b.end (own_home a.b.end) e.loop-place.n e.own_depth-d.result
-depth e = e.own_depth-d.ensures.own_is.0.depth (omega (arith, e.if-d-eq0.false))
+    omega (arith, k.loop-place.invariant.4, k.stands_at.auto.rows, k.own_depth.auto.rows)
 
 pub import_count-imports-requires : goal.import_count-imports-requires
 import_count-imports-requires c = reads (goal.at.import_count-imports-requires c).Start
@@ -54,29 +46,29 @@ loop-place-init c =
 pub stands_at-requires : goal.stands_at-requires
 stands_at-requires c = (reads (goal.at.stands_at-requires c).Start, exist.own_row _ _ _ _ _ c.loop-place.invariant.3)
 
-pub own_depth-d-requires : goal.own_depth-d-requires
-own_depth-d-requires c =
-    record { parents_there = c.requires.parents_there; import_count = (c.import_count-imports.ensures, stands (goal.at.own_depth-d-requires c).In-At); rows_true = rows_true (goal.at.own_depth-d-requires c).After-stands_at; depths_kept = (c.requires.depths_kept.0, c.requires.depths_kept.1, c.loop-place.invariant.2); most_value = c.requires.most_value.0 }
+pub own_depth-requires : goal.own_depth-requires
+own_depth-requires c =
+    record { parents_there = c.requires.parents_there; import_count = (c.import_count-imports.ensures, stands (goal.at.own_depth-requires c).In-Some); rows_true = rows_true (goal.at.own_depth-requires c).After-stands_at; depths_kept = (c.requires.depths_kept.0, c.requires.depths_kept.1, c.loop-place.invariant.2); most_value = c.requires.most_value.0 }
 
-pub shape_of-rows-then-d-eq0 : goal.shape_of-rows-then-d-eq0
-shape_of-rows-then-d-eq0 c = rows_long (goal.at.shape_of-rows-then-d-eq0 c).After-own_depth-d
+pub shape_of-rows-in_err-d : goal.shape_of-rows-in_err-d
+shape_of-rows-in_err-d c = rows_long (goal.at.shape_of-rows-in_err-d c).After-own_depth
 
-pub shape_of-depths-then-d-eq0 : goal.shape_of-depths-then-d-eq0
-shape_of-depths-then-d-eq0 c = c.loop-place.invariant.5
+pub shape_of-depths-in_err-d : goal.shape_of-depths-in_err-d
+shape_of-depths-in_err-d c = c.loop-place.invariant.5
 
-pub returns-then-d-eq0 : goal.returns-then-d-eq0
-returns-then-d-eq0 c =
-    record { later_parts = figures.kinds_bad _ _ _ _ _ (stands (goal.at.returns-then-d-eq0 c).In-At) c.loop-place.depths c.loop-place.invariant.0 (c.own_depth-d.ensures.own_is.0.bad c.if-d-eq0.true); rows_true_2 = c.own_depth-d.ensures.rows_true_2 }
+pub returns-in_err-d : goal.returns-in_err-d
+returns-in_err-d c =
+    record { later_parts = rw c.from_residual.ensures (figures.kinds_bad _ _ _ _ _ (stands (goal.at.returns-in_err-d c).In-Some) c.loop-place.depths c.loop-place.invariant.0 c.in_err-d.ensures.own_is); rows_true_2 = c.in_err-d.ensures.rows_true_2 }
 
 pub shape_of-rows-then-b-d : goal.shape_of-rows-then-b-d
-shape_of-rows-then-b-d c = rows_long (goal.at.shape_of-rows-then-b-d c).After-own_depth-d
+shape_of-rows-then-b-d c = rows_long (goal.at.shape_of-rows-then-b-d c).After-own_depth
 
 pub shape_of-depths-then-b-d : goal.shape_of-depths-then-b-d
 shape_of-depths-then-b-d c = c.loop-place.invariant.5
 
 pub returns-then-b-d : goal.returns-then-b-d
 returns-then-b-d c =
-    record { later_parts = figures.depths_bad _ _ _ _ _ (stands (goal.at.returns-then-b-d c).In-At) _ c.loop-place.invariant.1 _ c.requires.most_value.0 _ (depth (goal.at.returns-then-b-d c).Else-d-eq0) c.loop-place.depths c.if-b-d.true; rows_true_2 = c.own_depth-d.ensures.rows_true_2 }
+    record { later_parts = figures.depths_bad _ _ _ _ _ (stands (goal.at.returns-then-b-d c).In-Some) _ c.loop-place.invariant.1 _ c.requires.most_value.0 _ c.in_ok-d.ensures.own_is.1 c.loop-place.depths c.if-b-d.true; rows_true_2 = c.in_ok-d.ensures.rows_true_2 }
 
 pub overflow_cast-depths : goal.overflow_cast-depths
 overflow_cast-depths c =
@@ -84,32 +76,32 @@ overflow_cast-depths c =
 
 pub bounds-depths-n : goal.bounds-depths-n
 bounds-depths-n c =
-    omega (arith, few (goal.at.bounds-depths-n c).In-At, c.loop-place.invariant.2.size)
+    omega (arith, few (goal.at.bounds-depths-n c).In-Some, c.loop-place.invariant.2.size)
 
 pub overflow_add-n : goal.overflow_add-n
-overflow_add-n c = omega (arith, few (goal.at.overflow_add-n c).In-At)
+overflow_add-n c = omega (arith, few (goal.at.overflow_add-n c).In-Some)
 
 pub loop-place-smaller : goal.loop-place-smaller
-loop-place-smaller c = omega (arith, few (goal.at.loop-place-smaller c).In-At)
+loop-place-smaller c = omega (arith, few (goal.at.loop-place-smaller c).In-Some)
 
 pub loop-place-preserved : goal.loop-place-preserved
 loop-place-preserved c = (
-  figures.kinds_next _ _ _ _ _ (stands (goal.at.loop-place-preserved c).In-At) c.loop-place.invariant.0 (c.own_depth-d.ensures.own_is.0.right (omega (arith, c.if-d-eq0.false))),
-  figures.depths_more _ _ _ _ _ (stands (goal.at.loop-place-preserved c).In-At) _ c.loop-place.invariant.1 _ c.requires.most_value.0 _ (depth (goal.at.loop-place-preserved c).Else-d-eq0) c.if-b-d.false _ c.larger-figure.ensures,
-  figures.own_more _ _ _ _ _ _ (few (goal.at.loop-place-preserved c).In-At) c.loop-place.invariant.2 (depth (goal.at.loop-place-preserved c).Else-d-eq0),
-  c.own_depth-d.ensures.rows_true_2,
-  rows_long (goal.at.loop-place-preserved c).After-own_depth-d,
+  figures.kinds_next _ _ _ _ _ (stands (goal.at.loop-place-preserved c).In-Some) c.loop-place.invariant.0 c.in_ok-d.ensures.own_is.0,
+  figures.depths_more _ _ _ _ _ (stands (goal.at.loop-place-preserved c).In-Some) _ c.loop-place.invariant.1 _ c.requires.most_value.0 _ c.in_ok-d.ensures.own_is.1 c.if-b-d.false _ c.max-figure.ensures,
+  figures.own_more _ _ _ _ _ _ (few (goal.at.loop-place-preserved c).In-Some) c.loop-place.invariant.2 c.in_ok-d.ensures.own_is.1,
+  c.in_ok-d.ensures.rows_true_2,
+  rows_long (goal.at.loop-place-preserved c).After-own_depth,
   simp length-set c.loop-place.invariant.5,
-  omega (arith, few (goal.at.loop-place-preserved c).In-At),
+  omega (arith, few (goal.at.loop-place-preserved c).In-Some),
 )
 
-pub shape_of-rows-in-Nothing : goal.shape_of-rows-in-Nothing
-shape_of-rows-in-Nothing c = omega (arith, c.loop-place.invariant.4, c.stands_at.auto.rows)
+pub shape_of-rows : goal.shape_of-rows
+shape_of-rows c = omega (arith, c.loop-place.invariant.4, c.stands_at.auto.rows)
 
-pub shape_of-depths-in-Nothing : goal.shape_of-depths-in-Nothing
-shape_of-depths-in-Nothing c = c.loop-place.invariant.5
+pub shape_of-depths : goal.shape_of-depths
+shape_of-depths c = c.loop-place.invariant.5
 
-pub returns-in-Nothing : goal.returns-in-Nothing
-returns-in-Nothing c =
-    let none = subst (ClassStands c.args.f.now c.loop-place.n) c.in-Nothing.is c.stands_at.ensures.class_stands in
-    record { later_parts = figures.later_done _ _ _ _ none _ _ c.loop-place.invariant.0 c.loop-place.invariant.1 c.loop-place.invariant.2; rows_true_2 = rows_true (goal.at.returns-in-Nothing c).After-stands_at }
+pub returns : goal.returns
+returns c =
+    let none = subst (ClassStands c.args.f.now c.loop-place.n) c.in_default.is c.stands_at.ensures.class_stands in
+    record { later_parts = figures.later_done _ _ _ _ none _ _ c.loop-place.invariant.0 c.loop-place.invariant.1 c.loop-place.invariant.2; rows_true_2 = rows_true (goal.at.returns c).After-stands_at }

@@ -1,5 +1,4 @@
--- `depths::own_depth` meets its contract: 0 where the kinds are wrong, else one more than the parents' greatest depth. Assumes nothing.
-use native.Mathlib.Omega.{arith}
+-- `depths::own_depth` meets its contract: none where the kinds are wrong, else one more than the parents' greatest depth. Assumes nothing.
 use Rattle.homes.specs.Homes.{own_home}
 use Rattle.depths.specs.Depths.{Kind0Is}
 use Rattle.depths.proofs.Walk as walk
@@ -25,7 +24,7 @@ shape_of-rows-then-flag-w c = c.own_parents-w.auto.rows
 
 pub returns-then-flag-w : goal.returns-then-flag-w
 returns-then-flag-w c =
-    record { own_is = (walk.own_bad _ _ _ _ _ _ (kind (goal.at.returns-then-flag-w c).After-flag) c.own_parents-w.ensures.kind0count c.if-flag-w.true, omega arith); rows_true_2 = c.own_parents-w.ensures.rows_true_2 }
+    record { own_is = walk.own_bad _ _ _ _ _ _ (kind (goal.at.returns-then-flag-w c).After-flag) c.own_parents-w.ensures.kind0count c.if-flag-w.true; rows_true_2 = c.own_parents-w.ensures.rows_true_2 }
 
 pub one_more-requires : goal.one_more-requires
 one_more-requires c = walk.depth_small _ _ c.requires.most_value
@@ -35,4 +34,4 @@ shape_of-rows c = c.own_parents-w.auto.rows
 
 pub returns : goal.returns
 returns c =
-    record { own_is = (walk.own_good _ _ _ _ _ _ (kind (goal.at.returns c).After-flag) c.own_parents-w.ensures.kind0count c.if-flag-w.false _ _ _ c.requires.most_value c.own_parents-w.ensures.deepest_is c.one_more.ensures.0, c.one_more.ensures.1); rows_true_2 = c.own_parents-w.ensures.rows_true_2 }
+    record { own_is = walk.own_good _ _ _ _ _ _ (kind (goal.at.returns c).After-flag) c.own_parents-w.ensures.kind0count c.if-flag-w.false _ _ _ c.requires.most_value c.own_parents-w.ensures.deepest_is c.one_more.ensures.0; rows_true_2 = c.own_parents-w.ensures.rows_true_2 }

@@ -6,8 +6,8 @@ use Rattle.domains.specs.Domains.{DomainsIs}
 use Rattle.domains.proofs.Phase as phase
 use Rattle.domains.proofs.domains_ok.Given as goal
 
-abbrev pub invariant-loop-from : goal.invariant-loop-from
-invariant-loop-from l = phase.Passing l.s l.end l.at × DomainsIs l.s l.at l.table × (length l.table ≡ length l.initial.table)
+abbrev pub invariant-loop-part : goal.invariant-loop-part
+invariant-loop-part l = phase.Passing l.s l.end l.at × DomainsIs l.s l.at l.table × (length l.table ≡ length l.initial.table)
 
-abbrev pub decreases-loop-from : goal.decreases-loop-from
-decreases-loop-from l = l.end - l.at
+abbrev pub decreases-loop-part : goal.decreases-loop-part
+decreases-loop-part l = l.end - l.at

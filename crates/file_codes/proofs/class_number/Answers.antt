@@ -1,6 +1,9 @@
 -- `file_codes::class_number` meets its contract: the loop keeps the first no of the methods that it has passed. Assumes nothing.
 use native.Mathlib.Omega.{arith}
-use mathlib.Core.Path.{refl}
+use Prim.Native.Nat.{◌+◌, ◌-◌}
+use mathlib.Core.Path.{refl, ap, ◌∙◌}
+use Rattle.refusals.specs.Order.{code_told}
+use Rattle.refusals.proofs.Said.{first_codes}
 use borrow.Author.Rules.{rules}
 use Rattle.files.proofs.Steps.{methods_in_lem, methods_there}
 use Rattle.file_codes.proofs.Loops.{methods_start, methods_here, methods_on, methods_done}
@@ -18,8 +21,8 @@ pub overflow_add-c : goal.overflow_add-c
 overflow_add-c c =
     omega (arith, methods_in_lem (methods_there c.methods_of-start.ensures ((c.requires.class_here.0, c.requires.class_here.1, c.requires.class_here.2))))
 
-pub loop-left-init : goal.loop-left-init
-loop-left-init c = (methods_start c.wide-left.ensures.0, refl, refl)
+pub loop-init : goal.loop-init
+loop-init c = (methods_start (omega (arith, c.wide-end.ensures.0)), tt, refl, refl)
 
 pub method_number-n-requires : goal.method_number-n-requires
 method_number-n-requires c =
@@ -27,12 +30,12 @@ method_number-n-requires c =
       method_here = (
         c.requires.class_here.0,
         c.requires.class_here.1,
-        methods_here c.methods_of-start.result c.loop-left.number c.loop-left.left c.loop-left.c c.loop-left.invariant.0 c.requires.class_here.0 c.requires.class_here.1 c.requires.class_here.2
-            c.methods_of-start.ensures c.loop-left-test.true,
+        methods_here c.methods_of-start.result (code_told c.loop.number) (c.wide-end.result - c.loop.counter) c.loop.c c.loop.invariant.0 c.requires.class_here.0 c.requires.class_here.1 c.requires.class_here.2
+            c.methods_of-start.ensures (omega arith),
         (
-          omega (arith, c.requires.class_here.3.0, c.loop-left.invariant.1),
+          omega (arith, c.requires.class_here.3.0, c.loop.invariant.2),
           omega
-              (arith, c.requires.class_here.3.1, c.loop-left.invariant.2),
+              (arith, c.requires.class_here.3.1, c.loop.invariant.3),
         ),
       );
       table_is = c.requires.table_is;
@@ -42,20 +45,26 @@ pub after_method-c-requires : goal.after_method-c-requires
 after_method-c-requires c = (
   c.requires.class_here.0,
   c.requires.class_here.1,
-  methods_here c.methods_of-start.result c.loop-left.number c.loop-left.left c.loop-left.c c.loop-left.invariant.0 c.requires.class_here.0 c.requires.class_here.1 c.requires.class_here.2
-      c.methods_of-start.ensures c.loop-left-test.true,
+  methods_here c.methods_of-start.result (code_told c.loop.number) (c.wide-end.result - c.loop.counter) c.loop.c c.loop.invariant.0 c.requires.class_here.0 c.requires.class_here.1 c.requires.class_here.2
+      c.methods_of-start.ensures (omega arith),
 )
 
-pub loop-left-preserved : goal.loop-left-preserved
-loop-left-preserved c = (
-  methods_on c.methods_of-start.result c.loop-left.number c.loop-left.left c.loop-left.c c.loop-left.invariant.0 c.method_number-n.result
-      c.first_no-number.result c.after_method-c.result c.loop-left-test.true c.method_number-n.ensures
-      c.first_no-number.ensures c.after_method-c.ensures,
-  search rules,
-  search rules,
-)
+pub loop-preserved : goal.loop-preserved
+loop-preserved c =
+    let first = first_codes c.loop.number c.method_number-n.result c.loop.invariant.1 c.method_number-n.ensures.before in (
+      methods_on c.methods_of-start.result (code_told c.loop.number) (c.wide-end.result - c.loop.counter) c.loop.c c.loop.invariant.0
+          (code_told c.method_number-n.result) (c.wide-end.result - (c.loop.counter + 1)) (code_told c.first_said-number.result) c.after_method-c.result
+          (omega arith) c.method_number-n.ensures.number (ap code_told c.first_said-number.ensures ∙ first.0) c.after_method-c.ensures,
+      rw c.first_said-number.ensures first.1,
+      search rules,
+      search rules,
+    )
 
 pub returns : goal.returns
 returns c =
-    methods_done c.methods_of-start.result c.loop-left.number c.loop-left.left c.loop-left.c c.loop-left.invariant.0
-    c.methods_of-start.ensures c.loop-left-test.false
+    record {
+      number =
+          methods_done c.methods_of-start.result (code_told c.loop.number) (c.wide-end.result - c.loop.counter) c.loop.c c.loop.invariant.0 c.methods_of-start.ensures
+          (omega arith);
+      before = c.loop.invariant.1;
+    }

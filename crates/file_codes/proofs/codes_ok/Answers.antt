@@ -1,6 +1,9 @@
 -- `file_codes::codes_ok` meets its contract: the loop keeps the first no of the classes that it has passed. Assumes nothing.
 use native.Mathlib.Omega.{arith}
-use mathlib.Core.Path.{refl}
+use Prim.Native.Nat.{◌+◌, ◌-◌}
+use mathlib.Core.Path.{refl, ap, ◌∙◌}
+use Rattle.refusals.specs.Order.{code_told}
+use Rattle.refusals.proofs.Said.{first_codes}
 use borrow.Author.Rules.{rules}
 use Rattle.files.proofs.Walks.{classes_there}
 use Rattle.files.proofs.Steps.{classes_in_lem}
@@ -19,8 +22,8 @@ pub overflow_add-c : goal.overflow_add-c
 overflow_add-c c =
     omega (arith, classes_in_lem (classes_there c.classes_at-start.ensures ((c.requires.file_here.0, c.requires.file_here.1, c.requires.file_here.2))))
 
-pub loop-left-init : goal.loop-left-init
-loop-left-init c = (classes_start c.wide-left.ensures.0, refl, refl)
+pub loop-init : goal.loop-init
+loop-init c = (classes_start (omega (arith, c.wide-end.ensures.0)), tt, refl, refl)
 
 pub class_number-n-requires : goal.class_number-n-requires
 class_number-n-requires c =
@@ -28,12 +31,12 @@ class_number-n-requires c =
       class_here = (
         c.requires.file_here.0,
         c.requires.file_here.1.domains,
-        classes_here c.classes_at-start.result c.loop-left.number c.loop-left.left c.loop-left.c c.loop-left.invariant.0 c.requires.file_here.0 c.requires.file_here.1
-            c.requires.file_here.2 c.classes_at-start.ensures c.loop-left-test.true,
+        classes_here c.classes_at-start.result (code_told c.loop.number) (c.wide-end.result - c.loop.counter) c.loop.c c.loop.invariant.0 c.requires.file_here.0 c.requires.file_here.1
+            c.requires.file_here.2 c.classes_at-start.ensures (omega arith),
         (
-          omega (arith, c.requires.file_here.3.0, c.loop-left.invariant.1),
+          omega (arith, c.requires.file_here.3.0, c.loop.invariant.2),
           omega
-              (arith, c.requires.file_here.3.1, c.loop-left.invariant.2),
+              (arith, c.requires.file_here.3.1, c.loop.invariant.3),
         ),
       );
       table_is = c.requires.table_is;
@@ -43,20 +46,26 @@ pub after_class-c-requires : goal.after_class-c-requires
 after_class-c-requires c = (
   c.requires.file_here.0,
   c.requires.file_here.1.domains,
-  classes_here c.classes_at-start.result c.loop-left.number c.loop-left.left c.loop-left.c c.loop-left.invariant.0 c.requires.file_here.0 c.requires.file_here.1 c.requires.file_here.2
-      c.classes_at-start.ensures c.loop-left-test.true,
+  classes_here c.classes_at-start.result (code_told c.loop.number) (c.wide-end.result - c.loop.counter) c.loop.c c.loop.invariant.0 c.requires.file_here.0 c.requires.file_here.1 c.requires.file_here.2
+      c.classes_at-start.ensures (omega arith),
 )
 
-pub loop-left-preserved : goal.loop-left-preserved
-loop-left-preserved c = (
-  classes_on c.classes_at-start.result c.loop-left.number c.loop-left.left c.loop-left.c c.loop-left.invariant.0 c.class_number-n.result
-      c.first_no-number.result c.after_class-c.result c.loop-left-test.true c.class_number-n.ensures
-      c.first_no-number.ensures c.after_class-c.ensures,
-  search rules,
-  search rules,
-)
+pub loop-preserved : goal.loop-preserved
+loop-preserved c =
+    let first = first_codes c.loop.number c.class_number-n.result c.loop.invariant.1 c.class_number-n.ensures.before in (
+      classes_on c.classes_at-start.result (code_told c.loop.number) (c.wide-end.result - c.loop.counter) c.loop.c c.loop.invariant.0
+          (code_told c.class_number-n.result) (c.wide-end.result - (c.loop.counter + 1)) (code_told c.first_said-number.result) c.after_class-c.result
+          (omega arith) c.class_number-n.ensures.number (ap code_told c.first_said-number.ensures ∙ first.0) c.after_class-c.ensures,
+      rw c.first_said-number.ensures first.1,
+      search rules,
+      search rules,
+    )
 
 pub returns : goal.returns
 returns c =
-    classes_done c.classes_at-start.result c.loop-left.number c.loop-left.left c.loop-left.c c.loop-left.invariant.0
-    c.classes_at-start.ensures c.loop-left-test.false
+    record {
+      number =
+          classes_done c.classes_at-start.result (code_told c.loop.number) (c.wide-end.result - c.loop.counter) c.loop.c c.loop.invariant.0 c.classes_at-start.ensures
+          (omega arith);
+      before = c.loop.invariant.1;
+    }

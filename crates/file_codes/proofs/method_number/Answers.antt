@@ -1,5 +1,6 @@
 -- `file_codes::method_number` meets its contract: a method that is not implemented has no code. Assumes nothing.
 use mathlib.Core.Path.{subst}
+use Rattle.refusals.specs.Order.{code_told}
 use Rattle.files.specs.Say.{ImplementedIs}
 use Rattle.file_codes.proofs.Loops.{method_short, bare_number, code_number_lem}
 use Rattle.file_codes.proofs.method_number.Goals as goal
@@ -12,7 +13,7 @@ pub returns-then-not-is_implemented : goal.returns-then-not-is_implemented
 returns-then-not-is_implemented c =
     let a = c.args in
     let told = subst (ImplementedIs a.f.now a.at) (c.if-not-is_implemented.true) c.is_implemented.ensures in
-    bare_number told
+    record { number = bare_number told; before = tt }
 
 pub code_of-requires : goal.code_of-requires
 code_of-requires c =
@@ -33,5 +34,7 @@ pub returns : goal.returns
 returns c =
     let a = c.args in
     let told = subst (ImplementedIs a.f.now a.at) (c.if-not-is_implemented.false) c.is_implemented.ensures in
-    code_number_lem c.code_of.result.now c.handlers_of.result.now c.check_code.result told c.code_of.ensures c.handlers_of.ensures
-    c.check_code.ensures
+    record {
+      number = code_number_lem c.code_of.result.now c.handlers_of.result.now (code_told c.check_code.result) told c.code_of.ensures c.handlers_of.ensures c.check_code.ensures.0;
+      before = c.check_code.ensures.1;
+    }

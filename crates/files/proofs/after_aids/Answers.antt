@@ -7,27 +7,16 @@ use Rattle.files.proofs.after_aids.Goals as goal
 pub bounds-s-at : goal.bounds-s-at
 bounds-s-at c = steps.aids_in c.requires
 
-pub overflow_add-c : goal.overflow_add-c
-overflow_add-c c =
-    let pre = c.requires in
-    omega (arith, steps.aids_in pre)
-
-pub loop-left-init : goal.loop-left-init
-loop-left-init c = loops.aids_start c.wide-left.ensures.0
+pub loop-init : goal.loop-init
+loop-init c = rw (loops.whole c.wide-end.result) (loops.aids_start c.wide-end.ensures.0)
 
 pub after_aid-c-requires : goal.after_aid-c-requires
 after_aid-c-requires c =
     let pre = c.requires in
-    loops.aids_here c.loop-left.invariant c.loop-left-test.true pre
+    loops.aids_here c.loop.invariant (omega arith) pre
 
-pub overflow_sub-left : goal.overflow_sub-left
-overflow_sub-left c = omega arith
-
-pub loop-left-smaller : goal.loop-left-smaller
-loop-left-smaller c = omega arith
-
-pub loop-left-preserved : goal.loop-left-preserved
-loop-left-preserved c = loops.aids_skip c.loop-left.invariant c.loop-left-test.true c.after_aid-c.ensures
+pub loop-preserved : goal.loop-preserved
+loop-preserved c = loops.aids_skip c.loop.invariant c.loop-test.true c.after_aid-c.ensures
 
 pub returns : goal.returns
-returns c = loops.aids_done c.loop-left.invariant c.loop-left-test.false
+returns c = loops.aids_done c.loop.invariant c.loop-test.false

@@ -1,4 +1,4 @@
--- `files::after_methods` meets its contract: the loop passes one method a turn. Assumes nothing.
+-- `files::after_methods` meets its contract: the loop passes one method a turn, and its invariant is that the methods left are still to be read. Assumes nothing.
 use native.Mathlib.Omega.{arith}
 use Rattle.files.proofs.Loops as loops
 use Rattle.files.proofs.Steps as steps
@@ -7,27 +7,16 @@ use Rattle.files.proofs.after_methods.Goals as goal
 pub bounds-s-at : goal.bounds-s-at
 bounds-s-at c = steps.methods_in_lem c.requires
 
-pub overflow_add-c : goal.overflow_add-c
-overflow_add-c c =
-    let pre = c.requires in
-    omega (arith, steps.methods_in_lem pre)
-
-pub loop-left-init : goal.loop-left-init
-loop-left-init c = loops.methods_start c.wide-left.ensures.0
+pub loop-init : goal.loop-init
+loop-init c = rw (loops.whole c.wide-end.result) (loops.methods_start c.wide-end.ensures.0)
 
 pub after_method-c-requires : goal.after_method-c-requires
 after_method-c-requires c =
     let pre = c.requires in
-    loops.methods_here c.loop-left.invariant c.loop-left-test.true pre
+    loops.methods_here c.loop.invariant (omega arith) pre
 
-pub overflow_sub-left : goal.overflow_sub-left
-overflow_sub-left c = omega arith
-
-pub loop-left-smaller : goal.loop-left-smaller
-loop-left-smaller c = omega arith
-
-pub loop-left-preserved : goal.loop-left-preserved
-loop-left-preserved c = loops.methods_skip c.loop-left.invariant c.loop-left-test.true c.after_method-c.ensures
+pub loop-preserved : goal.loop-preserved
+loop-preserved c = loops.methods_past c.loop.invariant c.loop-test.true c.after_method-c.ensures
 
 pub returns : goal.returns
-returns c = loops.methods_done c.loop-left.invariant c.loop-left-test.false
+returns c = loops.methods_done c.loop.invariant (omega (arith, c.loop-test.false))

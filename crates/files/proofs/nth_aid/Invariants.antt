@@ -1,10 +1,8 @@
--- `files::nth_aid` meets its contract: the loop passes one AID a turn, counting the number down. Assumes nothing.
+-- `files::nth_aid` meets its contract: the loop passes one AID a turn, and none passed has the number. Assumes nothing.
+use Rattle.std.specs.Prelude.{◌-◌, ◌≤◌}
 use Rattle.rules.specs.Bytes.{at}
 use Rattle.files.proofs.Loops as loops
 use Rattle.files.proofs.nth_aid.Given as goal
 
-abbrev pub invariant-loop-left : goal.invariant-loop-left
-invariant-loop-left l = loops.AidLoop (λ xs. at xs l.k) (λ ys. at ys l.j) l.s l.at l.left l.c
-
-abbrev pub decreases-loop-left : goal.decreases-loop-left
-decreases-loop-left l = l.left
+abbrev pub invariant-loop-i : goal.invariant-loop-i
+invariant-loop-i l = loops.AidLoop (λ xs. at xs l.k) (λ ys. at ys (l.k - l.i)) l.s l.at (l.i-end - l.i) l.c × (l.i ≤ l.k)

@@ -1,41 +1,28 @@
--- `files::nth_class` meets its contract: the loop passes one class a turn, counting the number down. Assumes nothing.
+-- `files::nth_class` meets its contract: the loop passes one class a turn, and none passed has the number. Assumes nothing.
+use Prim.Native.Nat.{◌<◌}
 use native.Mathlib.Omega.{arith}
 use Rattle.files.proofs.Loops as loops
 use Rattle.files.proofs.Steps as steps
 use Rattle.files.proofs.nth_class.Goals as goal
-use Rattle.files.proofs.nth_class.Goals.{At-loop-left, In-loop-left}
 
 pub bounds-s-at : goal.bounds-s-at
 bounds-s-at c = steps.classes_in_lem c.requires
 
-pub overflow_add-c : goal.overflow_add-c
-overflow_add-c c =
-    let pre = c.requires in
-    omega (arith, steps.classes_in_lem pre)
+pub loop-i-init : goal.loop-i-init
+loop-i-init c = (rw (loops.whole c.wide-i-end.result, loops.whole c.args.k) (loops.classes_start c.wide-i-end.ensures.0), omega arith)
 
-pub loop-left-init : goal.loop-left-init
-loop-left-init c = loops.classes_start c.wide-left.ensures.0
-
-pub returns-then-j-eq0 : goal.returns-then-j-eq0
-returns-then-j-eq0 c = loops.classes_hit c.loop-left.invariant c.loop-left-test.true c.if-j-eq0.true
+pub returns-then-i-k : goal.returns-then-i-k
+returns-then-i-k c = loops.classes_hit c.loop-i.invariant.0 c.loop-i-test.true c.if-i-k.true
 
 pub after_class-c-requires : goal.after_class-c-requires
 after_class-c-requires c =
     let pre = c.requires in
-    loops.classes_here c.loop-left.invariant c.loop-left-test.true pre
+    loops.classes_here c.loop-i.invariant.0 (omega arith) pre
 
-pub overflow_sub-left : goal.overflow_sub-left
-overflow_sub-left c = omega arith
-
-pub overflow_sub-j : goal.overflow_sub-j
-overflow_sub-j c = omega arith
-
-pub loop-left-smaller : goal.loop-left-smaller
-loop-left-smaller c = omega arith
-
-pub loop-left-preserved : goal.loop-left-preserved
-loop-left-preserved c =
-    loops.classes_miss c.loop-left.invariant c.loop-left-test.true c.if-j-eq0.false c.after_class-c.ensures
+pub loop-i-preserved : goal.loop-i-preserved
+loop-i-preserved c =
+    let less : c.loop-i.i < c.args.k = omega (arith, c.loop-i.invariant.1, c.if-i-k.false) in
+    (loops.classes_miss c.loop-i.invariant.0 c.loop-i-test.true less c.after_class-c.ensures, omega arith)
 
 pub returns : goal.returns
-returns c = loops.classes_none c.loop-left.invariant c.loop-left-test.false
+returns c = loops.classes_none c.loop-i.invariant.0 c.loop-i-test.false

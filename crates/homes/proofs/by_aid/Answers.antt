@@ -7,13 +7,12 @@ pub package_by-requires : goal.package_by-requires
 package_by-requires c =
     record { files_stand = c.requires.files; index_is = c.requires.is }
 
-pub returns-in-File : goal.returns-in-File
-returns-in-File c =
+pub returns : goal.returns
+returns c =
     let a = c.args in
-    look.by_aid_file a.s.now a.end a.aid.now c.package_by.result c.in-File.at c.in-File.from
-    c.in-File.to c.in-File.is c.package_by.ensures
+    look.by_aid_file a.s.now a.end a.aid.now c.package_by.result c.in_ok-b.b c.in_ok-b.was c.package_by.ensures
 
-pub returns-in-Missing : goal.returns-in-Missing
-returns-in-Missing c =
+pub returns-in_err-b : goal.returns-in_err-b
+returns-in_err-b c =
     let a = c.args in
-    look.by_aid_missing a.s.now a.end a.aid.now c.package_by.result c.in-Missing.is c.package_by.ensures
+    rw c.from_residual.ensures (look.by_aid_missing a.s.now a.end a.aid.now c.package_by.result c.in_err-b.was c.package_by.ensures)

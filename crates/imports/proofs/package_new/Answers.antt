@@ -13,14 +13,7 @@ package_by-requires c =
     let a = c.args in
     record { files_stand = imports.setting_stands a.f.now a.s.now a.end c.requires.setting_there; index_is = c.requires.index_is }
 
-pub returns-in-File : goal.returns-in-File
-returns-in-File c =
+pub returns : goal.returns
+returns c =
     let a = c.args in
-    imports.new_no a.f.now a.s.now a.end c.own_aid.result.now c.own_aid.ensures c.package_by.result c.package_by.ensures
-    c.in-File.field-0 c.in-File.field-1 c.in-File.field-2 c.in-File.is
-
-pub returns-in-Missing : goal.returns-in-Missing
-returns-in-Missing c =
-    let a = c.args in
-    imports.new_yes a.f.now a.s.now a.end c.own_aid.result.now c.own_aid.ensures c.package_by.result c.package_by.ensures
-    c.in-Missing.is
+    imports.new_is a.f.now a.s.now a.end c.own_aid.result.now c.own_aid.ensures c.package_by.result c.package_by.ensures _ c.is_none.ensures

@@ -3,7 +3,7 @@ use native.Mathlib.Omega.{arith}
 use mathlib.Core.Option.{some}
 use mathlib.Core.Path.{sym, ap, ◌∙◌}
 use Rattle.rules.specs.Code.{Switch, switch_entries}
-use Rattle.instructions.proofs.Sizes.{pairs, switch_73, switch_74, head_least, entries_span, entries_count}
+use Rattle.instructions.proofs.Sizes.{pairs, switch_73, switch_74, head_least}
 use Rattle.instructions.proofs.entries_of.Goals as goal
 use Rattle.instructions.proofs.entries_of.Goals.{Then-form-eq4, Then-form-eq5}
 
@@ -27,7 +27,7 @@ pub returns-then-form-eq4 : goal.returns-then-form-eq4
 returns-then-form-eq4 c =
     let a-told = c.args in
     let a = a-told in (
-      ap (λ (w : Switch). switch_entries w a.code.now a.at) (switch_73 a.form c.if-form-eq4.true) ∙ (cc) ∙ sym (entries_span a.form _ (omega arith)),
+      ap (λ (w : Switch). switch_entries w a.code.now a.at) (switch_73 a.form c.if-form-eq4.true) ∙ (cc),
       c.numbers_from.ensures.1,
     )
 
@@ -55,7 +55,7 @@ pub returns-then-form-eq5 : goal.returns-then-form-eq5
 returns-then-form-eq5 c =
     let a-told = c.args in
     let a = a-told in (
-      ap (λ (w : Switch). switch_entries w a.code.now a.at) (switch_74 a.form c.if-form-eq5.true) ∙ (cc) ∙ sym (entries_span a.form _ (omega arith)),
+      ap (λ (w : Switch). switch_entries w a.code.now a.at) (switch_74 a.form c.if-form-eq5.true) ∙ (cc),
       c.numbers_from-then-form-eq5.ensures.1,
     )
 
@@ -73,6 +73,6 @@ pub returns : goal.returns
 returns c =
     let a-told = c.args in
     let a = a-told in (
-      pairs a.form a.code.now a.at (omega arith) ∙ ap some (sym c.u2_at-2.ensures.0) ∙ sym (entries_count a.form _ (omega arith)),
+      pairs a.form a.code.now a.at (omega arith) ∙ ap some (sym c.u2_at-2.ensures.0),
       omega arith,
     )

@@ -9,7 +9,8 @@ use Rattle.rules.specs.Store.{first_entry}
 use Rattle.rules.specs.Operations.{is_domain}
 use Rattle.store.specs.Entries.{StandFrom}
 use Rattle.store.specs.Answers.{spot, SpotAt, SubsetSays}
-use Rattle.store.specs.declared.Spot.{Spot}
+use Rattle.std.specs.Prelude.{Option as Optional}
+use Rattle.store.specs.declared.EntryPlace.{EntryPlace}
 use Rattle.store.proofs.Sound.{over_stand, created_is}
 use Rattle.places.specs.Reads.{Ends}
 use Rattle.homes.specs.Homes.{aid_at}
@@ -18,7 +19,7 @@ use Rattle.judge.specs.Says.{used_at, FileSays}
 use Rattle.judge.proofs.Loading as loading
 use Rattle.judge.proofs.Settings as settings
 use Rattle.judge.proofs.load_answer.Goals as goal
-use Rattle.judge.proofs.load_answer.Goals.{After-find_domain, After-keeps_subset, Else-not-length_ok, In-At}
+use Rattle.judge.proofs.load_answer.Goals.{After-find_domain, After-keeps_subset, Else-not-length_ok, In-Some}
 
 -- the domain's AID has 5 to 16 bytes
 three : (k : Else-not-length_ok) → aid_length (length k.args.domain.now) ≡ true
@@ -31,21 +32,21 @@ found x =
     subst (λ (i : ℕ). SpotAt (is_domain a.domain.now) a.s.now i x.find_domain.result) x.u2_at-end.ensures.0 x.find_domain.ensures
 
 -- it stands two bytes behind its entry's start
-stands : (k : In-At) →
+stands : (k : In-Some) →
     let a = k.args in
-    Ends aid a.s.now (k.in-At.at + 2) × (a.domain.now ≡ aid_at a.s.now (k.in-At.at + 2))
+    Ends aid a.s.now (k.in-Some.p.at + 2) × (a.domain.now ≡ aid_at a.s.now (k.in-Some.p.at + 2))
 stands k =
-    loading.domain_place_lem k.args.s.now (used_at k.args.s.now) k.args.domain.now k.find_domain.result k.in-At.at k.in-At.field-1 (found (goal.at.In-At k).After-find_domain)
-    k.in-At.is k.requires.over_some (three (goal.at.In-At k).Else-not-length_ok)
+    loading.domain_place_lem k.args.s.now (used_at k.args.s.now) k.args.domain.now k.find_domain.result k.in-Some.p (found (goal.at.In-Some k).After-find_domain)
+    k.in-Some.is k.requires.over_some (three (goal.at.In-Some k).Else-not-length_ok)
 
 -- whether it is of kind 3
 told : (c : After-keeps_subset) →
     let a = c.args in
-    SubsetSays a.s.now (used_at a.s.now) (aid_at a.s.now (c.in-At.at + 2)) c.keeps_subset.result
+    SubsetSays a.s.now (used_at a.s.now) (aid_at a.s.now (c.in-Some.p.at + 2)) c.keeps_subset.result
 told c =
     let s = c.args.s.now in
     let read = subst (λ (i : ℕ). SubsetSays s i c.args.domain.now c.keeps_subset.result) c.u2_at-end.ensures.0 c.keeps_subset.ensures in
-    subst (λ (d : Aid). SubsetSays s (used_at s) d c.keeps_subset.result) (stands (goal.at.After-keeps_subset c).In-At).1 read
+    subst (λ (d : Aid). SubsetSays s (used_at s) d c.keeps_subset.result) (stands (goal.at.After-keeps_subset c).In-Some).1 read
 
 pub returns-then-not-length_ok : goal.returns-then-not-length_ok
 returns-then-not-length_ok c =
@@ -62,7 +63,7 @@ find_domain-requires c =
     subst (StandFrom s (first_entry s)) (sym c.u2_at-end.ensures.0) (over_stand s (used_at s) c.requires.over_some)
 
 pub overflow_add-loading : goal.overflow_add-loading
-overflow_add-loading c = omega (arith, aid_inside (stands c).0)
+overflow_add-loading c = omega (arith, aid_inside (stands (goal.at.overflow_add-loading c).In-Some).0)
 
 pub keeps_subset-requires : goal.keeps_subset-requires
 keeps_subset-requires c =
@@ -72,21 +73,21 @@ keeps_subset-requires c =
 pub file_answer-requires : goal.file_answer-requires
 file_answer-requires c =
     let s = c.args.s.now in
-    let asked = loading.kind_asked s (used_at s) (aid_at s (c.in-At.at + 2)) c.args.file.now c.keeps_subset.result (told (goal.at.file_answer-requires c).After-keeps_subset) in
-    record { over_some = (c.requires.over_some, record { there = (stands (goal.at.file_answer-requires c).In-At).0; asked = asked }); indexed = c.requires.indexed; s_len_bound = c.requires.s_len_bound }
+    let asked = loading.kind_asked s (used_at s) (aid_at s (c.in-Some.p.at + 2)) c.args.file.now c.keeps_subset.result (told (goal.at.file_answer-requires c).After-keeps_subset) in
+    record { over_some = (c.requires.over_some, record { there = (stands (goal.at.file_answer-requires c).In-Some).0; asked = asked }); indexed = c.requires.indexed; s_len_bound = c.requires.s_len_bound }
 
-pub returns-in-At : goal.returns-in-At
-returns-in-At c =
+pub returns-in-Some : goal.returns-in-Some
+returns-in-Some c =
     let a = c.args in
-    let says = subst (λ (d : Aid). FileSays a.s.now (used_at a.s.now) d a.file.now c.file_answer.result) (sym (stands (goal.at.returns-in-At c).In-At).1) c.file_answer.ensures in
-    loading.load_file a.s.now (used_at a.s.now) a.domain.now a.file.now (three (goal.at.returns-in-At c).Else-not-length_ok)
-    (λ es o. ap (λ (y : Spot). is_some (spot y)) (sym c.in-At.is) ∙ created_is a.s.now (used_at a.s.now) a.domain.now
-    c.find_domain.result (found (goal.at.returns-in-At c).After-find_domain) es o)
+    let says = subst (λ (d : Aid). FileSays a.s.now (used_at a.s.now) d a.file.now c.file_answer.result) (sym (stands (goal.at.returns-in-Some c).In-Some).1) c.file_answer.ensures in
+    loading.load_file a.s.now (used_at a.s.now) a.domain.now a.file.now (three (goal.at.returns-in-Some c).Else-not-length_ok)
+    (λ es o. ap (λ (y : Optional EntryPlace). is_some (spot y)) (sym c.in-Some.is) ∙ created_is a.s.now (used_at a.s.now) a.domain.now
+    c.find_domain.result (found (goal.at.returns-in-Some c).After-find_domain) es o)
     c.file_answer.result says
 
-pub returns-in-Nothing : goal.returns-in-Nothing
-returns-in-Nothing c =
+pub returns-in-None : goal.returns-in-None
+returns-in-None c =
     let a = c.args in
-    loading.load_5 a.s.now (used_at a.s.now) a.domain.now a.file.now (three (goal.at.returns-in-Nothing c).Else-not-length_ok)
-    (λ es o. ap (λ (y : Spot). is_some (spot y)) (sym c.in-Nothing.is) ∙ created_is a.s.now (used_at a.s.now) a.domain.now
-    c.find_domain.result (found (goal.at.returns-in-Nothing c).After-find_domain) es o)
+    loading.load_5 a.s.now (used_at a.s.now) a.domain.now a.file.now (three (goal.at.returns-in-None c).Else-not-length_ok)
+    (λ es o. ap (λ (y : Optional EntryPlace). is_some (spot y)) (sym c.in-None.is) ∙ created_is a.s.now (used_at a.s.now) a.domain.now
+    c.find_domain.result (found (goal.at.returns-in-None c).After-find_domain) es o)

@@ -1,73 +1,47 @@
 -- `lines::decode` meets its contract. The loop's invariant: the bytes decoded, with what is left to decode, are the argument's. Assumes nothing.
-use lib.ListN.{length-set}
+use lib.ListN.{length, length-set, take, drop}
 use lib.Seq.{take-set-le}
-use Rattle.lines.proofs.Digits.{limit_none, limit_some}
 use Rattle.lines.specs.Line.{bytes_of}
-use Rattle.lines.proofs.Decoding.{joined_start, decode_step, decode_two, decode_stop, decode_end}
-use Prim.Native.Nat.{◌+◌, ◌*◌}
-use mathlib.Core.Path.{refl, ◌∙◌}
+use Rattle.lines.proofs.Decoding.{joined_start, argument_none, decode_step, decode_two, decode_stop, decode_end}
+use Prim.Native.Nat.{ℕ, ◌+◌, ◌*◌, ◌/◌}
+use mathlib.Core.Option.{some}
+use mathlib.Core.Path.{◌≡◌, refl, sym, ap, ◌∙◌}
 use native.Mathlib.Omega.{arith}
-use lib.ListN.{take, drop}
 use Rattle.lines.proofs.decode.Goals as goal
+
+pub returns-then-digits-eq0 : goal.returns-then-digits-eq0
+returns-then-digits-eq0 c = record { out_after = argument_none c.args.digits.now (omega arith); out_unchanged = refl; result_bound = tt }
 
 pub loop-n-init : goal.loop-n-init
 loop-n-init c = (omega arith, refl, refl, joined_start (bytes_of c.args.digits.now))
 
-pub overflow_mul-n : goal.overflow_mul-n
-overflow_mul-n c = omega arith
-
-pub overflow_mul-n-in-loop-n : goal.overflow_mul-n-in-loop-n
-overflow_mul-n-in-loop-n c = omega arith
-
-pub byte_at-b-requires : goal.byte_at-b-requires
-byte_at-b-requires c = omega arith
-
-pub shape_of-out-then-b-eq256 : goal.shape_of-out-then-b-eq256
-shape_of-out-then-b-eq256 c =
-    c.loop-n.invariant.1
-
-pub returns-then-b-eq256 : goal.returns-then-b-eq256
-returns-then-b-eq256 c =
-    let args = c.args in
-    record {
-      out_after = decode_stop args.digits.now (take c.loop-n.n (drop args.at c.loop-n.out)) (2 * c.loop-n.n) (omega arith)
-          (limit_none 256 c.byte_at-b.result c.byte_at-b.ensures.0 (omega arith)) c.loop-n.invariant.3;
-      out_unchanged = (
-        c.loop-n.invariant.2,
-        omega arith,
-      );
-    }
-
-pub overflow_cast-out : goal.overflow_cast-out
-overflow_cast-out c = omega arith
-
-pub overflow_add-out : goal.overflow_add-out
-overflow_add-out c = omega arith
-
-pub bounds-out-at : goal.bounds-out-at
-bounds-out-at c = omega arith
-
-pub overflow_add-n : goal.overflow_add-n
-overflow_add-n c = omega arith
-
-pub loop-n-smaller : goal.loop-n-smaller
-loop-n-smaller c = omega arith
+pub returns-in_err-out : goal.returns-in_err-out
+returns-in_err-out c =
+    let xs = take c.loop-n.n (drop c.args.at c.loop-n.out) in
+    rw c.from_residual.ensures (record {
+      out_after = decode_stop c.args.digits.now xs (2 * c.loop-n.n) (omega arith) (sym c.in_err-out.ensures) c.loop-n.invariant.3;
+      out_unchanged = c.loop-n.invariant.2;
+      result_bound = tt;
+    })
 
 pub loop-n-preserved : goal.loop-n-preserved
 loop-n-preserved c =
-    let args = c.args in (
-      decode_two args.digits.now c.loop-n.n c.byte_at-b.result (limit_some 256 c.byte_at-b.result c.byte_at-b.ensures.0 (omega arith)),
+    let at = c.args.at in
+    let n = c.loop-n.n in
+    let b = c.in_ok-out.field-0 in (
+      decode_two c.args.digits.now n b (sym c.in_ok-out.ensures),
       simp length-set c.loop-n.invariant.1,
-      take-set-le args.at c.loop-n.out (args.at + c.loop-n.n)
-          c.byte_at-b.result (omega arith) ∙ c.loop-n.invariant.2,
-      decode_step args.digits.now c.loop-n.out args.at c.loop-n.n c.byte_at-b.result (omega arith)
-          (limit_some 256 c.byte_at-b.result c.byte_at-b.ensures.0 (omega arith)) c.loop-n.invariant.3,
+      take-set-le at c.loop-n.out (at + n) b (omega arith) ∙ c.loop-n.invariant.2,
+      decode_step c.args.digits.now c.loop-n.out at n b (omega arith) (sym c.in_ok-out.ensures) c.loop-n.invariant.3,
     )
-
-pub shape_of-out : goal.shape_of-out
-shape_of-out c = c.loop-n.invariant.1
 
 pub returns : goal.returns
 returns c =
-    let args = c.args in
-    record { out_after = decode_end args.digits.now c.loop-n.out args.at c.loop-n.n (omega arith) (omega arith) c.loop-n.invariant.3; out_unchanged = (c.loop-n.invariant.2, c.loop-n.invariant.0) }
+    let s = c.args.digits.now in
+    let all : (length s + 1) / 2 ≡ c.loop-n.n = omega arith in
+    let whole = decode_end s c.loop-n.out c.args.at c.loop-n.n (omega arith) (omega arith) c.loop-n.invariant.3 in
+    record {
+      out_after = ap (λ (n : ℕ). some (take n (drop c.args.at c.loop-n.out))) all ∙ whole;
+      out_unchanged = c.loop-n.invariant.2;
+      result_bound = omega (arith, c.loop-n.invariant.0);
+    }

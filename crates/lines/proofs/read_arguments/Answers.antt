@@ -1,7 +1,8 @@
 -- `lines::read_arguments` meets its contract: the first space parts the arguments. Assumes nothing.
 use lib.ListN.{length-take, length-drop}
 use lib.Seq.{length-take-le}
-use Rattle.lines.proofs.Reading.{one_argument, two_parts, found_none, found_some}
+use Rattle.std.proofs.lemmas.Option.{IfSome_then}
+use Rattle.lines.proofs.Reading.{one_argument, two_parts}
 use mathlib.Core.Path.{sym, ◌∙◌}
 use native.Mathlib.Omega.{arith}
 use Rattle.lines.proofs.read_arguments.Goals as goal
@@ -19,23 +20,15 @@ returns-then-at-rest c =
     let args = c.args in
     record { out_after = c.read_two.ensures.out_after ∙ two_parts args.letter c.find-at.result args.rest.now c.find-at.ensures.0 c.if-at-rest.true; result_bound = c.read_two.ensures.result_bound }
 
-pub returns-then-n-eq0 : goal.returns-then-n-eq0
-returns-then-n-eq0 c =
-    let args = c.args in
-    record {
-      out_after = sym (one_argument args.letter args.rest.now (omega arith) ∙ rw
-          (found_none c.decode-n.result 0 c.decode-n.new.out c.decode-n.ensures.out_after c.if-n-eq0.true));
-      result_bound = (omega arith, omega arith);
-    }
+pub returns-in_err-n : goal.returns-in_err-n
+returns-in_err-n c = rw c.from_residual.ensures (record {
+  out_after = sym (one_argument c.args.letter c.args.rest.now (omega arith) ∙ rw (sym c.in_err-n.ensures.out_after));
+  result_bound = tt;
+})
 
 pub returns : goal.returns
-returns c =
-    let args = c.args in
-    record {
-      out_after = c.with_one.ensures.out_value c.decode-n.new.out ∙ sym (one_argument args.letter args.rest.now (omega arith) ∙ rw
-          (found_some c.decode-n.result 0 c.decode-n.new.out c.decode-n.ensures.out_after c.if-n-eq0.false));
-      result_bound = (
-        omega arith,
-        omega arith,
-      );
-    }
+returns c = record {
+  out_after = c.with_one.ensures.out_value c.decode.new.out
+      ∙ sym (one_argument c.args.letter c.args.rest.now (omega arith) ∙ rw (sym c.in_ok-n.ensures.out_after));
+  result_bound = IfSome_then c.with_one.result c.with_one.ensures.result_bound (λ f h. (h.0, omega (arith, h.1, c.in_ok-n.ensures.result_bound)));
+}

@@ -8,17 +8,17 @@ use Rattle.lines.proofs.read_line.Goals as goal
 pub returns-then-line-gt-LONGEST : goal.returns-then-line-gt-LONGEST
 returns-then-line-gt-LONGEST c =
     let a = c.args in
-    record { out_after = line_long a.line.now (omega arith); result_bound = (omega arith, omega arith) }
+    record { out_after = line_long a.line.now (omega arith); result_bound = tt }
 
 pub returns-then-at-ne1 : goal.returns-then-at-ne1
 returns-then-at-ne1 c =
     let a = c.args in
-    record { out_after = line_unspaced a.line.now (λ e. c.if-at-ne1.true (omega arith)); result_bound = (omega arith, omega arith) }
+    record { out_after = line_unspaced a.line.now (λ e. c.if-at-ne1.true (omega arith)); result_bound = tt }
 
 pub returns-then-line-eq1 : goal.returns-then-line-eq1
 returns-then-line-eq1 c =
     let a = c.args in
-    record { out_after = line_alone a.line.now (omega arith) c.if-line-eq1.true; result_bound = (omega arith, omega arith) }
+    record { out_after = line_alone a.line.now (omega arith) c.if-line-eq1.true; result_bound = tt }
 
 pub read_arguments-requires : goal.read_arguments-requires
 read_arguments-requires c = simp (length-take, length-drop) (omega arith)

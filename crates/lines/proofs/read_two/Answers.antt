@@ -1,48 +1,31 @@
 -- `lines::read_two` meets its contract: only L has two arguments. Assumes nothing.
+use mathlib.Core.Path.{sym}
 use Rattle.lines.specs.Line.{argument}
-use Rattle.lines.proofs.Reading.{not_load, no_first, no_second, load_said, found_none, found_some}
+use Rattle.lines.proofs.Reading.{not_load, no_first, no_second, load_said}
 use native.Mathlib.Omega.{arith}
 use Rattle.lines.proofs.read_two.Goals as goal
 
 pub returns-then-letter-ne76 : goal.returns-then-letter-ne76
-returns-then-letter-ne76 c =
-    let a = c.args in
-    let args = a in record {
-      out_after = not_load args.letter (argument args.first.now) (argument args.second.now) c.if-letter-ne76.true;
-      result_bound = (
-        omega arith,
-        omega arith,
-      );
-    }
+returns-then-letter-ne76 c = record {
+  out_after = not_load c.args.letter (argument c.args.first.now) (argument c.args.second.now) c.if-letter-ne76.true;
+  result_bound = tt;
+}
 
-pub returns-then-d-eq0 : goal.returns-then-d-eq0
-returns-then-d-eq0 c =
-    let args = c.args in
-    record {
-      out_after = no_first args.letter (argument args.first.now) (argument args.second.now)
-          (found_none c.decode-d.result 0 c.decode-d.new.out c.decode-d.ensures.out_after c.if-d-eq0.true);
-      result_bound = (omega arith, omega arith);
-    }
+pub returns-in_err-d : goal.returns-in_err-d
+returns-in_err-d c = rw c.from_residual.ensures (record {
+  out_after = no_first c.args.letter (argument c.args.first.now) (argument c.args.second.now) (sym c.in_err-d.ensures.out_after);
+  result_bound = tt;
+})
 
-pub returns-then-n-eq0 : goal.returns-then-n-eq0
-returns-then-n-eq0 c =
-    let args = c.args in
-    record {
-      out_after = no_second args.letter (argument args.first.now) (argument args.second.now)
-          (found_none c.decode-n.result c.decode-d.result c.decode-n.new.out c.decode-n.ensures.out_after c.if-n-eq0.true);
-      result_bound = (
-        omega arith,
-        omega arith,
-      );
-    }
+pub returns-in_err-n : goal.returns-in_err-n
+returns-in_err-n c = rw c.from_residual-in_err-n.ensures (record {
+  out_after = no_second c.args.letter (argument c.args.first.now) (argument c.args.second.now) (sym c.in_err-n.ensures.out_after);
+  result_bound = tt;
+})
 
 pub returns : goal.returns
-returns c =
-    let args = c.args in
-    record {
-      out_after = load_said args.letter c.decode-d.result c.decode-n.result c.decode-d.new.out c.decode-n.new.out
-          (argument args.first.now) (argument args.second.now) c.if-letter-ne76.false (found_some c.decode-d.result 0
-          c.decode-d.new.out c.decode-d.ensures.out_after c.if-d-eq0.false) (found_some c.decode-n.result c.decode-d.result c.decode-n.new.out
-          c.decode-n.ensures.out_after c.if-n-eq0.false) c.decode-n.ensures.out_unchanged.0;
-      result_bound = (omega arith, omega arith);
-    }
+returns c = record {
+  out_after = load_said c.args.letter c.in_ok-d.d c.in_ok-n.n c.decode.new.out c.decode-2.new.out (argument c.args.first.now) (argument c.args.second.now)
+      c.if-letter-ne76.false (sym c.in_ok-d.ensures.out_after) (sym c.in_ok-n.ensures.out_after) c.in_ok-n.ensures.out_unchanged;
+  result_bound = (omega arith, omega (arith, c.in_ok-d.ensures.result_bound, c.in_ok-n.ensures.result_bound));
+}

@@ -13,12 +13,7 @@ pub returns-in-82 : goal.returns-in-82
 returns-in-82 c = record { out_value = (λ out. rw c.in-82.is); result_bound = (omega arith, omega arith) }
 
 pub returns-in_default : goal.returns-in_default
-returns-in_default c =
-    let args = c.args in record {
-      out_value = (λ out. rw (
-        ne_eqb args.letter 67 (omega arith),
-        ne_eqb args.letter 68 (omega arith),
-        ne_eqb args.letter 82 (omega arith),
-      ));
-      result_bound = (omega arith, omega arith);
-    }
+returns-in_default c = record {
+  out_value = (λ out. rw (ne_eqb c.args.letter 67 (omega arith), ne_eqb c.args.letter 68 (omega arith), ne_eqb c.args.letter 82 (omega arith)));
+  result_bound = tt;
+}

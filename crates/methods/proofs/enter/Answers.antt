@@ -16,14 +16,14 @@ returns-then-e-r c =
 pub name_at-requires : goal.name_at-requires
 name_at-requires c =
     let a = c.args in
-    search'.named_of a.t.now a.places.now a.a a.e c.lower-r.result c.place.result c.requires.sorted c.lower-r.ensures.low c.if-e-r.false
-    c.place.ensures
+    search'.named_of a.t.now a.places.now a.a a.e c.lower-r.result c.from.result c.requires.sorted c.lower-r.ensures.low c.if-e-r.false
+    c.from.ensures
 
 pub returns-then-name_at-name : goal.returns-then-name_at-name
 returns-then-name_at-name c =
     let a = c.args in
     entering.entered_not a.t.now a.places.now a.a a.e a.p c.requires.sorted c.lower-r.result c.lower-r.ensures.low c.if-e-r.false
-    (sym (search'.name_of a.t.now a.places.now c.lower-r.result c.place.result c.name_at.result c.place.ensures
+    (sym (search'.name_of a.t.now a.places.now c.lower-r.result c.from.result c.name_at.result c.from.ensures
     c.name_at.ensures) ∙ c.if-name_at-name.true ∙ c.name_at-name.ensures)
 
 pub returns : goal.returns
@@ -32,5 +32,5 @@ returns c =
     entering.entered_here a.t.now a.places.now a.a a.e a.p c.requires.sorted c.open_at-2.new.places c.lower-r.result
     (subst (λ (x : ℕ). Lower a.t.now a.places.now a.a a.e x c.lower-r.result) c.name_at-name.ensures c.lower-r.ensures) c.open_at-2.ensures
     c.requires.e_in_bounds.0 c.requires.e_in_bounds.1 c.if-e-r.false
-    (λ z. c.if-name_at-name.false ((search'.name_of a.t.now a.places.now c.lower-r.result c.place.result c.name_at.result c.place.ensures
+    (λ z. c.if-name_at-name.false ((search'.name_of a.t.now a.places.now c.lower-r.result c.from.result c.name_at.result c.from.ensures
     c.name_at.ensures) ∙ z ∙ sym c.name_at-name.ensures))

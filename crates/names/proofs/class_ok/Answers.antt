@@ -46,7 +46,7 @@ overflow_add-c c = omega (arith, steps.methods_in_lem (methods (goal.at.overflow
 
 pub loop-n-init : goal.loop-n-init
 loop-n-init c =
-    (rules.names_start_lem _ _ _ _ _ (methods (goal.at.loop-n-init c).After-methods_of-start) c.wide-count.ensures.0 c.requires.1, refl)
+    (rules.names_start_lem _ _ _ _ _ (methods (goal.at.loop-n-init c).After-methods_of-start) c.from-count.ensures c.requires.1, refl)
 
 pub form_ok-requires : goal.form_ok-requires
 form_ok-requires c = here c
@@ -83,9 +83,6 @@ pub after_method-c-requires : goal.after_method-c-requires
 after_method-c-requires c =
     here (goal.at.after_method-c-requires c).In-loop-n
 
-pub loop-n-smaller : goal.loop-n-smaller
-loop-n-smaller c = omega arith
-
 pub loop-n-preserved : goal.loop-n-preserved
 loop-n-preserved c =
     let q = formed (goal.at.loop-n-preserved c).After-form_ok true (not-false c.form_ok.result c.if-not-form_ok.false-raw) in
@@ -99,4 +96,4 @@ pub shape_of-names : goal.shape_of-names
 shape_of-names c = c.loop-n.invariant.1
 
 pub returns : goal.returns
-returns c = answer (goal.at.returns c).At-loop-n true (rules.names_none _ _ _ _ _ _ _ _ c.loop-n.invariant.0 c.loop-n-test.false)
+returns c = answer (goal.at.returns c).At-loop-n true (rules.names_none _ _ _ _ _ _ _ _ c.loop-n.invariant.0 (omega arith))

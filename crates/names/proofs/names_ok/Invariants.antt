@@ -1,4 +1,5 @@
 -- `names::names_ok` meets its contract: the loop goes on while every class passed is right. Assumes nothing.
+use Prim.Native.Nat.{◌-◌}
 use mathlib.Core.Path.{◌≡◌}
 use lib.ListN.{length}
 use Rattle.rules.specs.Bytes.{all}
@@ -6,8 +7,5 @@ use Rattle.files.proofs.Loops as loops
 use Rattle.names.specs.Say.{class_ok}
 use Rattle.names.proofs.names_ok.Given as goal
 
-abbrev pub invariant-loop-left : goal.invariant-loop-left
-invariant-loop-left l = loops.ClassLoop (all class_ok) (all class_ok) l.f l.start l.left l.c × (length l.names ≡ 64)
-
-abbrev pub decreases-loop-left : goal.decreases-loop-left
-decreases-loop-left l = l.left
+abbrev pub invariant-loop : goal.invariant-loop
+invariant-loop l = loops.ClassLoop (all class_ok) (all class_ok) l.f l.start (l.end - l.counter) l.c × (length l.names ≡ 64)

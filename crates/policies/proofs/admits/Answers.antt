@@ -4,8 +4,8 @@ use Rattle.policies.proofs.Rules as rules
 use Rattle.policies.proofs.Listed as listed
 use Rattle.policies.proofs.admits.Goals as goal
 
-pub bounds-s-at : goal.bounds-s-at
-bounds-s-at c = rules.over_in c.requires
+pub bounds-s-p : goal.bounds-s-p
+bounds-s-p c = rules.over_in c.requires
 
 pub returns-then-wide-eq255 : goal.returns-then-wide-eq255
 returns-then-wide-eq255 c =
@@ -14,6 +14,3 @@ returns-then-wide-eq255 c =
 
 pub listed_slot-requires : goal.listed_slot-requires
 listed_slot-requires c = (c.requires, λ e. c.if-wide-eq255.false (c.wide.ensures.0 ∙ e))
-
-pub returns : goal.returns
-returns c = c.listed_slot.ensures.answer

@@ -2,8 +2,5 @@
 use Rattle.policies.proofs.Rules as rules
 use Rattle.policies.proofs.admits_all_of.Given as goal
 
-abbrev pub invariant-loop-left : goal.invariant-loop-left
-invariant-loop-left l = rules.IndexLoop l.s l.p.domains l.own l.p.policy l.t l.q.domains l.other l.q.policy l.left l.c
-
-abbrev pub decreases-loop-left : goal.decreases-loop-left
-decreases-loop-left l = l.left
+abbrev pub invariant-loop-i : goal.invariant-loop-i
+invariant-loop-i l = rules.IndexLoop l.s l.p.domains l.own l.p.policy l.t l.q.domains l.other l.q.policy l.i-index

@@ -1,78 +1,64 @@
 -- `policies::number_of` meets its contract: the loop passes one domain a turn, and none passed is x; the loading domain is compared last. Assumes nothing.
+use Prim.Native.Nat.{◌+◌, ◌-◌}
 use native.Mathlib.Omega.{arith}
-use mathlib.Core.Path.{sym, ◌∙◌}
+use mathlib.Core.Path.{◌≡◌, sym, ◌∙◌}
 use mathlib.Core.Bool.{true, false}
+use Rattle.rules.specs.Bytes.{aid}
+use Rattle.places.specs.Reads.{Ends}
 use Rattle.files.proofs.Loops as loops
 use Rattle.files.proofs.Steps as steps
 use Rattle.policies.proofs.Numbers as numbers
 use Rattle.policies.proofs.number_of.Goals as goal
-use Rattle.policies.proofs.number_of.Goals.{After-aid_is, After-loop-left, At-loop-left, In-loop-left, Start}
+use Rattle.policies.proofs.number_of.Goals.{In-loop-k}
+
+-- the domain at hand
+here : (k : In-loop-k) → Ends aid k.args.f.now k.loop-k.c
+here k = loops.aids_here k.loop-k.invariant (omega (arith, k.loop-k-test.true)) (numbers.domains_aids k.requires)
 
 pub bounds-f-u : goal.bounds-f-u
-bounds-f-u c =
-    steps.aids_in (numbers.domains_aids c.requires)
+bounds-f-u c = steps.aids_in (numbers.domains_aids c.requires)
 
 pub overflow_add-c : goal.overflow_add-c
-overflow_add-c c =
-    omega (arith, steps.aids_in (numbers.domains_aids c.requires))
+overflow_add-c c = omega (arith, steps.aids_in (numbers.domains_aids c.requires))
 
-pub loop-left-init : goal.loop-left-init
-loop-left-init c =
-    let a = c.args in
-    (omega (arith, c.wide-left.ensures.0, numbers.domains_few c.requires), numbers.number_start a.domain.now a.x.now c.wide-left.ensures.0)
+pub loop-k-init : goal.loop-k-init
+loop-k-init c = numbers.number_start c.args.domain.now c.args.x.now (omega (arith, c.wide-count.ensures.0))
 
 pub aid_is-requires : goal.aid_is-requires
-aid_is-requires c =
-    loops.aids_here c.loop-left.invariant.1 c.loop-left-test.true (numbers.domains_aids c.requires)
+aid_is-requires c = here c
 
 pub returns-then-aid_is : goal.returns-then-aid_is
 returns-then-aid_is c =
-    let a-told = c.args in
+    let o = c.args in
     record {
-      number_is = numbers.number_hit a-told.domain.now
-          a-told.x.now c.loop-left.k c.loop-left.invariant.1 c.loop-left-test.true
+      number_is = numbers.number_hit o.domain.now o.x.now c.loop-k.k c.loop-k.invariant (omega (arith, c.loop-k-test.true))
           (λ a j p. sym c.if-aid_is.true ∙ c.aid_is.ensures a j p);
-      upper_bound = omega arith;
+      upper_bound = omega (arith, numbers.domains_few c.requires, c.wide-count.ensures.0, c.loop-k-test.true);
     }
 
 pub after_aid-c-requires : goal.after_aid-c-requires
-after_aid-c-requires c =
-    loops.aids_here c.loop-left.invariant.1 c.loop-left-test.true (numbers.domains_aids c.requires)
+after_aid-c-requires c = here (goal.at.after_aid-c-requires c).In-loop-k
 
-pub overflow_add-k : goal.overflow_add-k
-overflow_add-k c = omega arith
-
-pub overflow_sub-left : goal.overflow_sub-left
-overflow_sub-left c = omega arith
-
-pub loop-left-smaller : goal.loop-left-smaller
-loop-left-smaller c = omega arith
-
-pub loop-left-preserved : goal.loop-left-preserved
-loop-left-preserved c =
-    let b = c.args in (
-      omega arith,
-      numbers.number_miss b.domain.now b.x.now c.loop-left.k c.loop-left.invariant.1 c.loop-left-test.true (λ a j p. sym c.if-aid_is.false ∙ c.aid_is.ensures a j p)
-          c.after_aid-c.ensures,
-    )
+pub loop-k-preserved : goal.loop-k-preserved
+loop-k-preserved c =
+    let rest : c.wide-count.result - c.loop-k.k - 1 ≡ c.wide-count.result - (c.loop-k.k + 1) = omega arith in
+    rw (← rest) (numbers.number_miss c.args.domain.now c.args.x.now c.loop-k.k c.loop-k.invariant (omega (arith, c.loop-k-test.true))
+    (λ a j p. sym c.if-aid_is.false ∙ c.aid_is.ensures a j p) c.after_aid-c.ensures)
 
 pub returns-then-same_bytes : goal.returns-then-same_bytes
 returns-then-same_bytes c =
-    let a = c.args in
+    let all : c.loop-k.k ≡ c.wide-count.result = omega arith in
     record {
-      number_is = numbers.number_behind a.domain.now a.x.now c.loop-left.k c.loop-left.invariant.1 c.loop-left-test.false true
-          (sym c.same_bytes.ensures ∙ c.if-same_bytes.true);
-      upper_bound = omega arith;
+      number_is = rw all at (numbers.number_behind c.args.domain.now c.args.x.now c.loop-k.k c.loop-k.invariant (omega (arith, c.loop-k-test.false)) true
+          (sym c.same_bytes.ensures ∙ c.if-same_bytes.true));
+      upper_bound = omega (arith, numbers.domains_few c.requires, c.wide-count.ensures.0);
     }
-
-pub overflow_add-result : goal.overflow_add-result
-overflow_add-result c = omega arith
 
 pub returns : goal.returns
 returns c =
-    let a = c.args in
+    let all : c.loop-k.k ≡ c.wide-count.result = omega arith in
     record {
-      number_is = numbers.number_behind a.domain.now a.x.now c.loop-left.k c.loop-left.invariant.1 c.loop-left-test.false false
-          (sym c.same_bytes.ensures ∙ c.if-same_bytes.false);
-      upper_bound = omega arith;
+      number_is = rw all at (numbers.number_behind c.args.domain.now c.args.x.now c.loop-k.k c.loop-k.invariant (omega (arith, c.loop-k-test.false)) false
+          (sym c.same_bytes.ensures ∙ c.if-same_bytes.false));
+      upper_bound = omega (arith, numbers.domains_few c.requires, c.wide-count.ensures.0);
     }

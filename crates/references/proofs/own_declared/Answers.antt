@@ -1,7 +1,8 @@
 -- `references::own_declared` meets its contract: the class's own declaration, where it has one. Assumes nothing.
+use Rattle.std.specs.Prelude.{ℕ}
+use Rattle.std.specs.Prelude.{Option as Optional}
 use mathlib.Core.Path.{subst}
 use Rattle.files.specs.Say.{ClassThere, DeclaredPlaced}
-use Rattle.files.specs.declared.Spot.{Spot}
 use Rattle.homes.specs.Homes.{HomeThere}
 use Rattle.homes.proofs.Lookups.{there_bounds}
 use Rattle.references.specs.Setting.{imports_of}
@@ -18,7 +19,7 @@ stands : (k : After-file_of-g) → ClassThere k.file_of-g.result.now k.args.r.pl
 stands k = look.record_there k.args.x k.args.r k.requires.1 _ k.file_of-g.ensures k.requires.0
 
 -- r is the place of its own declaration
-abbrev Own : After-file_of-g → Spot → Type 0
+abbrev Own : After-file_of-g → Optional ℕ → Type 0
 Own k r = let a = k.args in DeclaredPlaced k.file_of-g.result.now a.r.place a.x.name r
 
 pub file_of-g-requires : goal.file_of-g-requires
@@ -30,7 +31,7 @@ find_method-requires c = stands c
 pub is_interface-requires : goal.is_interface-requires
 is_interface-requires c = stands (goal.at.is_interface-requires c).After-file_of-g
 
-pub returns-in-At : goal.returns-in-At
-returns-in-At c =
-    let method = subst (Own (goal.at.returns-in-At c).After-file_of-g) c.in-At.is c.find_method.ensures in
+pub returns-in-Some : goal.returns-in-Some
+returns-in-Some c =
+    let method = subst (Own (goal.at.returns-in-Some c).After-file_of-g) c.in-Some.is c.find_method.ensures in
     look.own_meant c.args.x c.args.r c.requires.1 _ c.file_of-g.ensures _ c.is_interface.ensures _ method

@@ -1,6 +1,6 @@
 -- `running::class_passes` and `running::parents_pass` meet their contracts. The measure is twice the rank of the class, and one more for
 -- the class itself; what is seen passes. Assumes nothing.
-use Prim.Native.Nat.{◌+◌, ◌-◌, ◌*◌}
+use Prim.Native.Nat.{◌+◌, ◌*◌}
 use mathlib.Core.Path.{◌≡◌}
 use lib.ListN.{length}
 use Rattle.slots.specs.Slots.{SlotsTrue}
@@ -17,6 +17,3 @@ abbrev pub invariant-parents_pass-loop-i : goal.invariant-parents_pass-loop-i
 invariant-parents_pass-loop-i l =
     FirstPass l.f l.s l.v.end l.v.domain l.v.own (visit_home l.v) l.v.number l.i × SeenPass l.f l.s l.v.end l.v.domain l.v.own l.seen ×
     SlotsTrue l.f l.s l.slots × (length l.seen ≡ length l.initial.seen)
-
-abbrev pub decreases-parents_pass-loop-i : goal.decreases-parents_pass-loop-i
-decreases-parents_pass-loop-i l = l.count - l.i

@@ -1,5 +1,5 @@
 -- `running::methods_pass` meets its contract: the loop goes on while every method passed, and the row is that of the last one that ran. Assumes nothing.
-use Prim.Native.Nat.{◌≤◌, ◌<◌}
+use Prim.Native.Nat.{◌+◌, ◌-◌, ◌≤◌, ◌<◌}
 use native.Mathlib.Omega.{arith}
 use mathlib.Core.Path.{◌≡◌, sym, subst}
 use mathlib.Core.Bool.{Bool, true, false}
@@ -10,7 +10,9 @@ use Rattle.homes.specs.declared.Home.{Home}
 use Rattle.classes.specs.Say.{MethodsIn, RecordAt}
 use Rattle.classes.proofs.Places as places
 use Rattle.chains.specs.Names.{NamesIs}
-use Rattle.chains.specs.declared.RunsFound.TheVariants.{At}
+use Rattle.std.specs.Prelude.{Some}
+use Rattle.std.specs.Prelude.{Option as Optional}
+use Rattle.chains.specs.declared.MethodSpot.{MethodSpot}
 use Rattle.running.specs.Say.{MethodThere, MethodPasses, WalkThere, MethodsPass}
 use Rattle.running.specs.Rows.{BesideIs}
 use Rattle.running.specs.Walk.{visit_home}
@@ -19,7 +21,7 @@ use Rattle.running.proofs.Visits as visits
 use Rattle.running.proofs.Loops as loops
 use Rattle.running.proofs.Turns as turns
 use Rattle.running.proofs.methods_pass.Goals as goal
-use Rattle.running.proofs.methods_pass.Goals.{After-allows_all_of, After-file_of-g, After-methods_of-start, In-At, In-loop-left}
+use Rattle.running.proofs.methods_pass.Goals.{After-after_method-c, After-allows_all_of, After-file_of-g, After-methods_of-start, In-Some, In-loop, in-Some+else-not-allows_all_of, in_default}
 
 -- the class, by the names and the home found, and its record
 there : (k : After-file_of-g) →
@@ -51,37 +53,37 @@ inside k =
     k.file_of-g.ensures (there (goal.at.After-methods_of-start k).After-file_of-g)
 
 -- the method at hand, and in its file
-here : (k : In-loop-left) →
+here : (k : In-loop) →
     let a = k.args in
-    (m : MethodThere a.f.now a.s.now k.names_of-w.result.end k.names_of-w.result.own k.home_of-h.result k.loop-left.c) ×
+    (m : MethodThere a.f.now a.s.now k.names_of-w.result.end k.names_of-w.result.own k.home_of-h.result k.loop.c) ×
     DomainAt a.s.now a.v.domain m.1
 here k =
     let a = k.args in
-    loops.method_here a.f.now a.s.now k.names_of-w.result.end a.v.domain k.names_of-w.result.own k.home_of-h.result a.v.number k.methods_of-start.result (methods (goal.at.In-loop-left k).After-methods_of-start) k.loop-left.left k.loop-left.c
-    (k.loop-left.invariant.0 a.v.number (methods (goal.at.In-loop-left k).After-methods_of-start)) k.loop-left-test.true (there (goal.at.In-loop-left k).After-file_of-g)
+    loops.method_here a.f.now a.s.now k.names_of-w.result.end a.v.domain k.names_of-w.result.own k.home_of-h.result a.v.number k.methods_of-start.result (methods (goal.at.In-loop k).After-methods_of-start) (k.wide-end.result - k.loop.counter) k.loop.c
+    (k.loop.invariant.0 a.v.number (methods (goal.at.In-loop k).After-methods_of-start)) (omega (arith, k.loop-test.true)) (there (goal.at.In-loop k).After-file_of-g)
 
-file_here : (k : In-loop-left) → say.MethodThere k.file_of-g.result.now k.loop-left.c
+file_here : (k : In-loop) → say.MethodThere k.file_of-g.result.now k.loop.c
 file_here k =
     let a = k.args in
-    loops.file_here a.f.now a.s.now k.names_of-w.result.end a.v.domain k.names_of-w.result.own k.home_of-h.result a.v.number k.methods_of-start.result (methods (goal.at.In-loop-left k).After-methods_of-start) k.loop-left.left k.loop-left.c
-    (k.loop-left.invariant.0 a.v.number (methods (goal.at.In-loop-left k).After-methods_of-start)) k.loop-left-test.true k.file_of-g.result.now k.file_of-g.ensures (there (goal.at.In-loop-left k).After-file_of-g)
+    loops.file_here a.f.now a.s.now k.names_of-w.result.end a.v.domain k.names_of-w.result.own k.home_of-h.result a.v.number k.methods_of-start.result (methods (goal.at.In-loop k).After-methods_of-start) (k.wide-end.result - k.loop.counter) k.loop.c
+    (k.loop.invariant.0 a.v.number (methods (goal.at.In-loop k).After-methods_of-start)) (omega (arith, k.loop-test.true)) k.file_of-g.result.now k.file_of-g.ensures (there (goal.at.In-loop k).After-file_of-g)
 
 -- what runs beside it
-beside : (k : In-At) →
+beside : (k : In-Some) →
     let a = k.args in
-    BesideIs a.f.now a.s.now k.names_of-w.result.end k.names_of-w.result.own k.home_of-h.result k.loop-left.c (At k.in-At.x k.in-At.m)
+    BesideIs a.f.now a.s.now k.names_of-w.result.end k.names_of-w.result.own k.home_of-h.result k.loop.c (Some k.in-Some.runs)
 beside k =
     let a = k.args in
-    subst (BesideIs a.f.now a.s.now k.names_of-w.result.end k.names_of-w.result.own k.home_of-h.result k.loop-left.c) k.in-At.is k.method_beside.ensures
+    subst (BesideIs a.f.now a.s.now k.names_of-w.result.end k.names_of-w.result.own k.home_of-h.result k.loop.c) k.in-Some.is k.method_beside.ensures
 
 -- whether the method at hand passes, as it was compared
 passes : (k : After-allows_all_of) (r : Bool) → k.allows_all_of.result ≡ r →
     let a = k.args in
-    MethodPasses a.f.now a.s.now k.names_of-w.result.end a.v.domain k.names_of-w.result.own k.home_of-h.result k.loop-left.c r
+    MethodPasses a.f.now a.s.now k.names_of-w.result.end a.v.domain k.names_of-w.result.own k.home_of-h.result k.loop.c r
 passes k r e =
     let a = k.args in
-    subst (MethodPasses a.f.now a.s.now k.names_of-w.result.end a.v.domain k.names_of-w.result.own k.home_of-h.result k.loop-left.c) e
-    (allows.beside_passes a.v.domain _ _ (beside (goal.at.After-allows_all_of k).In-At) k.allows_all_of.result k.allows_all_of.ensures.allows_all_of)
+    subst (MethodPasses a.f.now a.s.now k.names_of-w.result.end a.v.domain k.names_of-w.result.own k.home_of-h.result k.loop.c) e
+    (allows.beside_passes a.v.domain _ (beside (goal.at.After-allows_all_of k).In-Some) k.allows_all_of.result k.allows_all_of.ensures.allows_all_of)
 
 -- an answer for the names and the home found is one for the visit
 told : (k : After-file_of-g) (r : Bool) →
@@ -110,11 +112,11 @@ bounds-g-start c = inside (goal.at.bounds-g-start c).After-methods_of-start
 pub overflow_add-c : goal.overflow_add-c
 overflow_add-c c = omega (arith, inside (goal.at.overflow_add-c c).After-methods_of-start)
 
-pub loop-left-init : goal.loop-left-init
-loop-left-init c =
+pub loop-init : goal.loop-init
+loop-init c =
     let a = c.args in (
-      λ n q. loops.methods_start a.f.now a.s.now c.names_of-w.result.end a.v.domain c.names_of-w.result.own c.home_of-h.result n c.methods_of-start.result q c.file_of-g.result.now c.wide-left.result
-          c.file_of-g.ensures c.wide-left.ensures.0,
+      λ n q. loops.methods_start a.f.now a.s.now c.names_of-w.result.end a.v.domain c.names_of-w.result.own c.home_of-h.result n c.methods_of-start.result q c.file_of-g.result.now (c.wide-end.result - 0)
+          c.file_of-g.ensures (omega (arith, c.wide-end.ensures.0)),
       turns.row_start a.f.now a.s.now a.v.domain c.home_of-h.result c.home_of-h.result,
     )
 
@@ -125,63 +127,57 @@ method_beside-requires c =
     record { method_there = (here c).0; names_is = chain }
 
 pub turn_row-requires : goal.turn_row-requires
-turn_row-requires c = c.loop-left.invariant.1.size
+turn_row-requires c = c.loop.invariant.1.size
 
 pub allows_all_of-requires : goal.allows_all_of-requires
 allows_all_of-requires c =
     let a = c.args in
-    let m = here (goal.at.allows_all_of-requires c).In-loop-left in
-    let both = allows.beside_both a.v.domain _ _ (beside (goal.at.allows_all_of-requires c).In-At) m.0 m.1 in
-    record { both_there = both; row_for = c.turn_row.ensures.turned a.f.now a.s.now a.v.domain c.home_of-h.result c.loop-left.invariant.1 }
+    let m = here (goal.at.allows_all_of-requires c).In-loop in
+    let both = allows.beside_both a.v.domain _ (beside (goal.at.allows_all_of-requires c).In-Some) m.0 m.1 in
+    record { both_there = both; row_for = c.turn_row.ensures.turned a.f.now a.s.now a.v.domain c.home_of-h.result c.loop.invariant.1 }
 
 pub returns-then-not-allows_all_of : goal.returns-then-not-allows_all_of
 returns-then-not-allows_all_of c =
     let a = c.args in
     let fails = passes (goal.at.returns-then-not-allows_all_of c).After-allows_all_of false (c.if-not-allows_all_of.true) in
     told (goal.at.returns-then-not-allows_all_of c).After-file_of-g false
-    (loops.methods_hit a.f.now a.s.now c.names_of-w.result.end a.v.domain c.names_of-w.result.own c.home_of-h.result a.v.number c.methods_of-start.result (methods (goal.at.returns-then-not-allows_all_of c).After-methods_of-start) c.loop-left.left c.loop-left.c
-    (c.loop-left.invariant.0 a.v.number (methods (goal.at.returns-then-not-allows_all_of c).After-methods_of-start)) c.loop-left-test.true fails)
+    (loops.methods_hit a.f.now a.s.now c.names_of-w.result.end a.v.domain c.names_of-w.result.own c.home_of-h.result a.v.number c.methods_of-start.result (methods (goal.at.returns-then-not-allows_all_of c).After-methods_of-start) (c.wide-end.result - c.loop.counter) c.loop.c
+    (c.loop.invariant.0 a.v.number (methods (goal.at.returns-then-not-allows_all_of c).After-methods_of-start)) (omega (arith, c.loop-test.true)) fails)
 
 pub after_method-c-requires : goal.after_method-c-requires
-after_method-c-requires c = file_here (goal.at.after_method-c-requires c).In-loop-left
+after_method-c-requires c = file_here (goal.at.after_method-c-requires c).In-loop
 
-pub overflow_sub-left : goal.overflow_sub-left
-overflow_sub-left c = omega (arith, c.loop-left-test.true)
+pub loop-preserved : goal.loop-preserved
+loop-preserved c = elim c.match-method_beside.branch [
+  | in-Some+else-not-allows_all_of w ↦ (
+    next c (subst (passes_there c) w.if-not-allows_all_of.false
+        (allows.beside_passes c.args.v.domain _ (subst (beside_there c) w.in-Some.is c.method_beside.ensures) w.allows_all_of.result w.allows_all_of.ensures.allows_all_of)),
+    rw (w.row-is, w.last-is) w.allows_all_of.ensures.row_for_2,
+  )
+  | in_default w ↦ (
+    next c (allows.beside_none c.args.v.domain (subst (beside_there c) w.in_default.is c.method_beside.ensures)),
+    rw (w.row-is, w.last-is) c.loop.invariant.1,
+  )
+]
+  where
+    passes_there : After-after_method-c → Bool → Type 0
+    passes_there k = MethodPasses k.args.f.now k.args.s.now k.names_of-w.result.end k.args.v.domain k.names_of-w.result.own k.home_of-h.result k.loop.c
 
-pub loop-left-smaller-in-At : goal.loop-left-smaller-in-At
-loop-left-smaller-in-At c = omega (arith, c.loop-left-test.true)
+    beside_there : After-after_method-c → Optional MethodSpot → Type 0
+    beside_there k = BesideIs k.args.f.now k.args.s.now k.names_of-w.result.end k.names_of-w.result.own k.home_of-h.result k.loop.c
 
-pub loop-left-preserved-in-At : goal.loop-left-preserved-in-At
-loop-left-preserved-in-At c =
-    let a = c.args in
-    let yes = passes (goal.at.loop-left-preserved-in-At c).After-allows_all_of true (c.if-not-allows_all_of.false) in (
-      λ n q. loops.methods_miss a.f.now a.s.now c.names_of-w.result.end a.v.domain c.names_of-w.result.own c.home_of-h.result n c.methods_of-start.result q c.loop-left.left c.loop-left.c (c.loop-left.invariant.0 n q)
-          c.loop-left-test.true c.file_of-g.result.now c.after_method-c.result c.file_of-g.ensures yes c.after_method-c.ensures,
-      c.allows_all_of.ensures.row_for_2,
-    )
-
-pub after_method-c-requires-in-Nothing : goal.after_method-c-requires-in-Nothing
-after_method-c-requires-in-Nothing c = file_here (goal.at.after_method-c-requires-in-Nothing c).In-loop-left
-
-pub overflow_sub-left-in-Nothing : goal.overflow_sub-left-in-Nothing
-overflow_sub-left-in-Nothing c = omega (arith, c.loop-left-test.true)
-
-pub loop-left-smaller : goal.loop-left-smaller
-loop-left-smaller c = omega (arith, c.loop-left-test.true)
-
-pub loop-left-preserved : goal.loop-left-preserved
-loop-left-preserved c =
-    let a = c.args in
-    let alone = subst (BesideIs a.f.now a.s.now c.names_of-w.result.end c.names_of-w.result.own c.home_of-h.result c.loop-left.c) c.in-Nothing.is c.method_beside.ensures in
-    let yes = allows.beside_none a.v.domain alone in (
-      λ n q. loops.methods_miss a.f.now a.s.now c.names_of-w.result.end a.v.domain c.names_of-w.result.own c.home_of-h.result n c.methods_of-start.result q c.loop-left.left c.loop-left.c (c.loop-left.invariant.0 n q)
-          c.loop-left-test.true c.file_of-g.result.now c.after_method-c-in-Nothing.result c.file_of-g.ensures yes c.after_method-c-in-Nothing.ensures,
-      c.loop-left.invariant.1,
-    )
+    -- the method at hand passes, and the others are left
+    next : (k : After-after_method-c) → passes_there k true →
+        loops.MethodsOn k.args.f.now k.args.s.now k.names_of-w.result.end k.args.v.domain k.names_of-w.result.own k.home_of-h.result k.methods_of-start.result
+        (k.wide-end.result - (k.loop.counter + 1)) k.after_method-c.result
+    next k pass n q =
+        loops.methods_miss k.args.f.now k.args.s.now k.names_of-w.result.end k.args.v.domain k.names_of-w.result.own k.home_of-h.result n k.methods_of-start.result q
+        (k.wide-end.result - k.loop.counter) k.loop.c (k.loop.invariant.0 n q) (omega (arith, k.loop-test.true)) k.file_of-g.result.now k.after_method-c.result
+        _ (omega arith) k.file_of-g.ensures pass k.after_method-c.ensures
 
 pub returns : goal.returns
 returns c =
     let a = c.args in
     told (goal.at.returns c).After-file_of-g true
-    (loops.methods_done a.f.now a.s.now c.names_of-w.result.end a.v.domain c.names_of-w.result.own c.home_of-h.result a.v.number c.methods_of-start.result (methods (goal.at.returns c).After-methods_of-start) c.loop-left.left c.loop-left.c
-    (c.loop-left.invariant.0 a.v.number (methods (goal.at.returns c).After-methods_of-start)) c.loop-left-test.false)
+    (loops.methods_done a.f.now a.s.now c.names_of-w.result.end a.v.domain c.names_of-w.result.own c.home_of-h.result a.v.number c.methods_of-start.result (methods (goal.at.returns c).After-methods_of-start) (c.wide-end.result - c.loop.counter) c.loop.c
+    (c.loop.invariant.0 a.v.number (methods (goal.at.returns c).After-methods_of-start)) (omega (arith, c.loop-test.false)))

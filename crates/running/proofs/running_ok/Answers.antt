@@ -20,7 +20,7 @@ use Rattle.running.proofs.Whole as whole
 use Rattle.running.proofs.Seen as seen_of
 use Rattle.running.proofs.Seen.{SeenKept}
 use Rattle.running.proofs.running_ok.Goals as goal
-use Rattle.running.proofs.running_ok.Goals.{After-is_kind0, After-names_apart-w, After-own_class_passes, In-loop-b}
+use Rattle.running.proofs.running_ok.Goals.{After-is_kind0, After-names_apart-w, After-own_class_passes, In-loop-b, then-is_kind0+else-not-own_class_passes, else-is_kind0}
 
 -- the own class at hand
 own : (k : In-loop-b) →
@@ -134,41 +134,43 @@ returns-then-not-own_class_passes c =
     let fails = passes (goal.at.returns-then-not-own_class_passes c).After-own_class_passes false (c.if-not-own_class_passes.true) in
     whole.own_no a.f.now a.s.now a.x.end a.x.domain c.wide-count.result c.loop-b.b c.loop-b.invariant.0 c.loop-b-test.true fails
 
-pub overflow_add-b : goal.overflow_add-b
-overflow_add-b c =
-    omega (arith, c.loop-b-test.true, c.wide-count.ensures.1)
-
-pub loop-b-smaller-then-is_kind0 : goal.loop-b-smaller-then-is_kind0
-loop-b-smaller-then-is_kind0 c = omega (arith, c.loop-b-test.true)
-
-pub loop-b-preserved-then-is_kind0 : goal.loop-b-preserved-then-is_kind0
-loop-b-preserved-then-is_kind0 c =
-    let a = c.args in
-    let more = passes (goal.at.loop-b-preserved-then-is_kind0 c).After-own_class_passes true (c.if-not-own_class_passes.false) in
-    let f = a.f.now in
-    let s = a.s.now in
-    let left = whole.own_yes f s a.x.end a.x.domain c.wide-count.result c.loop-b.b c.loop-b.invariant.0 c.loop-b-test.true more in
-    let every = whole.own_every f s a.x.end a.x.domain c.wide-count.result c.loop-b.b c.loop-b.invariant.0 c.loop-b-test.true
-    (kind (goal.at.loop-b-preserved-then-is_kind0 c).After-is_kind0 true c.if-is_kind0.true) in
-    let seen = seen_of.kept_next f s a.x.end a.x.domain c.loop-b.b c.names_apart-w.result _ (ends (goal.at.loop-b-preserved-then-is_kind0 c).After-names_apart-w) c.names_apart-w.ensures.end_value.1 c.names_apart-w.ensures.kept_2.1 every
-    c.own_class_passes.ensures.seen_pass in
-    (left, c.own_class_passes.ensures.slots_true_2, omega (arith, c.loop-b.invariant.2), ends (goal.at.loop-b-preserved-then-is_kind0 c).After-names_apart-w, c.names_apart-w.ensures.kept_2.0, omega (arith, c.loop-b.invariant.5, c.names_apart-w.auto.names), seen)
-
-pub overflow_add-b-else-is_kind0 : goal.overflow_add-b-else-is_kind0
-overflow_add-b-else-is_kind0 c =
-    omega (arith, c.loop-b-test.true, c.wide-count.ensures.1)
-
-pub loop-b-smaller : goal.loop-b-smaller
-loop-b-smaller c = omega (arith, c.loop-b-test.true)
-
 pub loop-b-preserved : goal.loop-b-preserved
-loop-b-preserved c =
-    let a = c.args in
-    let f = a.f.now in
-    let s = a.s.now in
-    let more = whole.own_interface f s a.x.end a.x.domain c.loop-b.b (kind (goal.at.loop-b-preserved c).After-is_kind0 false c.if-is_kind0.false) in
-    let left = whole.own_yes f s a.x.end a.x.domain c.wide-count.result c.loop-b.b c.loop-b.invariant.0 c.loop-b-test.true more in
-    (left, c.is_kind0.ensures.slots_true_2, c.loop-b.invariant.2, c.loop-b.invariant.3, c.loop-b.invariant.4, c.loop-b.invariant.5, c.loop-b.invariant.6)
+loop-b-preserved c = elim c.if-is_kind0.branch [
+  | then-is_kind0+else-not-own_class_passes w ↦
+      let f = c.args.f.now in
+      let s = c.args.s.now in
+      let end = c.args.x.end in
+      let d = c.args.x.domain in
+      let n = w.names_apart-w.result in
+      let ends = w.names_apart-w.ensures.end_value.0 ∙ c.loop-b.invariant.3 in
+      let walked = subst (λ (q : Bool). OwnPasses f s n.end d n.own q) w.if-not-own_class_passes.false w.own_class_passes.ensures.own_passes in
+      let more = whole.own_at (λ (x y : ℕ). OwnPasses f s x d y true) n.end n.own end c.loop-b.b ends w.names_apart-w.ensures.end_value.1 walked in
+      let left = whole.own_yes f s end d c.wide-count.result c.loop-b.b c.loop-b.invariant.0 c.loop-b-test.true more in
+      let every = whole.own_every f s end d c.wide-count.result c.loop-b.b c.loop-b.invariant.0 c.loop-b-test.true (kind (goal.at.loop-b-preserved c).After-is_kind0 true w.if-is_kind0.true) in
+      let seen = seen_of.kept_next f s end d c.loop-b.b n _ ends w.names_apart-w.ensures.end_value.1 w.names_apart-w.ensures.kept_2.1 every
+      w.own_class_passes.ensures.seen_pass in (
+        left,
+        rw w.slots-is w.own_class_passes.ensures.slots_true_2,
+        omega (arith, c.if-is_kind0.auto.seen, c.loop-b.invariant.2),
+        rw w.kept-is ends,
+        rw (w.kept-is, w.names-is) w.names_apart-w.ensures.kept_2.0,
+        omega (arith, c.if-is_kind0.auto.names, c.loop-b.invariant.5),
+        rw (w.kept-is, w.seen-is) seen,
+      )
+  | else-is_kind0 w ↦
+      let f = c.args.f.now in
+      let s = c.args.s.now in
+      let end = c.args.x.end in
+      let more = whole.own_interface f s end c.args.x.domain c.loop-b.b (kind (goal.at.loop-b-preserved c).After-is_kind0 false w.if-is_kind0.false) in (
+        whole.own_yes f s end c.args.x.domain c.wide-count.result c.loop-b.b c.loop-b.invariant.0 c.loop-b-test.true more,
+        rw w.slots-is c.is_kind0.ensures.slots_true_2,
+        omega (arith, c.if-is_kind0.auto.seen, c.loop-b.invariant.2),
+        rw w.kept-is c.loop-b.invariant.3,
+        rw (w.kept-is, w.names-is) c.loop-b.invariant.4,
+        omega (arith, c.if-is_kind0.auto.names, c.loop-b.invariant.5),
+        rw (w.kept-is, w.seen-is) c.loop-b.invariant.6,
+      )
+]
 
 pub shape_of-names : goal.shape_of-names
 shape_of-names c = c.loop-b.invariant.5

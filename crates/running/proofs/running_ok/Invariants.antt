@@ -1,5 +1,4 @@
 -- `running::running_ok` meets its contract: the loop goes on while every own class passed; for an interface nothing runs. Assumes nothing.
-use Prim.Native.Nat.{◌-◌}
 use mathlib.Core.Path.{◌≡◌}
 use lib.ListN.{length}
 use Rattle.chains.specs.Names.{Kept}
@@ -12,6 +11,3 @@ abbrev pub invariant-loop-b : goal.invariant-loop-b
 invariant-loop-b l =
     whole.OwnLeft l.f l.s l.end l.domain l.count l.b × SlotsTrue l.f l.s l.slots × (length l.seen ≡ length l.initial.seen) × (l.kept.end ≡ l.end) × Kept l.f l.s l.names l.kept ×
     (length l.names ≡ length l.initial.names) × SeenKept l.f l.s l.end l.domain l.kept l.seen
-
-abbrev pub decreases-loop-b : goal.decreases-loop-b
-decreases-loop-b l = l.count - l.b

@@ -55,7 +55,7 @@ parent : {t : ℕ} (k : parents_declare-After-parent_apart-c t) →
 parent k =
     record {
       placed = k.requires.visit_placed.0;
-      inside = k.loop-i-test.true;
+      inside = omega (arith, k.loop-i-test.true);
       is = k.parent_apart-c.ensures.parent_is;
     }
 
@@ -64,7 +64,7 @@ parents_declare-loop-i-init t c = (steps.above_start _ _ _ _ _, c.requires.seen_
 
 pub parents_declare-parent_apart-c-requires : goal.parents_declare-parent_apart-c-requires
 parents_declare-parent_apart-c-requires t c =
-    record { parent_inside = (turns.turn_inside _ _ _ _ c.requires.visit_placed.0 c.loop-i-test.true, c.requires.visit_placed.1); indexed = c.requires.visit_placed.2; slots_true = c.loop-i.invariant.2 }
+    record { parent_inside = (turns.turn_inside _ _ _ _ c.requires.visit_placed.0 (omega (arith, c.loop-i-test.true)), c.requires.visit_placed.1); indexed = c.requires.visit_placed.2; slots_true = c.loop-i.invariant.2 }
 
 pub parents_declare-get-requires : goal.parents_declare-get-requires
 parents_declare-get-requires t c =
@@ -110,12 +110,12 @@ pub parents_declare-set-requires : goal.parents_declare-set-requires
 parents_declare-set-requires t c =
     let u = parent (goal.at.parents_declare-set-requires t c).After-parent_apart-c in
     let of = turns.walk_of u _ c.interface_apart-w.ensures.interface_is c.if-w-eq0.false in
-    omega (arith, turns.turn_room u _ (visits.visit_seen of _ c.class_declares-r.ensures.seen_none_2), c.bit_of-else-w-eq0.ensures)
+    omega (arith, turns.turn_room u _ (visits.visit_seen of _ c.class_declares-r.ensures.seen_none_2), c.bit_of-in-loop-i.ensures)
 
 -- or to none
 pub parents_declare-loop-i-preserved : goal.parents_declare-loop-i-preserved
 parents_declare-loop-i-preserved t c =
-    let bit = turns.walk_bit (parent (goal.at.parents_declare-loop-i-preserved t c).After-parent_apart-c) _ c.interface_apart-w.ensures.interface_is c.if-w-eq0.false _ c.class_declares-r.ensures.meant_is c.if-r-ne0.false _ _ c.class_declares-r.ensures.seen_none_2 c.set.auto.s _ c.bit_of-else-w-eq0.ensures
+    let bit = turns.walk_bit (parent (goal.at.parents_declare-loop-i-preserved t c).After-parent_apart-c) _ c.interface_apart-w.ensures.interface_is c.if-w-eq0.false _ c.class_declares-r.ensures.meant_is c.if-r-ne0.false _ _ c.class_declares-r.ensures.seen_none_2 c.set.auto.s _ c.bit_of-in-loop-i.ensures
     c.set.ensures in (
       turns.walk_miss (parent (goal.at.parents_declare-loop-i-preserved t c).After-parent_apart-c) _ c.interface_apart-w.ensures.interface_is c.if-w-eq0.false _ c.class_declares-r.ensures.meant_is c.if-r-ne0.false c.loop-i.invariant.0,
       bit,
@@ -127,7 +127,7 @@ parents_declare-loop-i-preserved t c =
 -- all parents are passed
 pub parents_declare-returns : goal.parents_declare-returns
 parents_declare-returns t c =
-    record { meant_is = steps.above_none _ _ _ _ _ _ c.loop-i.i c.requires.visit_placed.0.count c.loop-i-test.false c.loop-i.invariant.0; seen_none_2 = c.loop-i.invariant.1; slots_true_2 = c.loop-i.invariant.2 }
+    record { meant_is = steps.above_none _ _ _ _ _ _ c.loop-i.i c.requires.visit_placed.0.count (omega arith) c.loop-i.invariant.0; seen_none_2 = c.loop-i.invariant.1; slots_true_2 = c.loop-i.invariant.2 }
 
 -- the tables
 pub parents_declare-shape_of-slots-then-r-ne0 : goal.parents_declare-shape_of-slots-then-r-ne0

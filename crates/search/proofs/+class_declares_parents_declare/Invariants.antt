@@ -1,6 +1,6 @@
 -- `search::class_declares` and `search::parents_declare` end by a measure that falls: twice the rank of the class, and one more for the class
 -- itself. Assumes nothing.
-use Prim.Native.Nat.{ℕ, ◌+◌, ◌-◌, ◌*◌}
+use Prim.Native.Nat.{ℕ, ◌+◌, ◌*◌}
 use mathlib.Core.Path.{◌≡◌}
 use lib.ListN.{length}
 use Rattle.classes.specs.Say.{rank}
@@ -23,6 +23,3 @@ decreases-parents_declare l = 2 * rank_of l.v
 abbrev pub invariant-parents_declare-loop-i : goal.invariant-parents_declare-loop-i
 invariant-parents_declare-loop-i l = Above l.f l.s l.v l.i × Seen l.f l.s l.v l.seen × SlotsTrue l.f l.s l.slots × (length l.seen ≡ length l.initial.seen) ×
     (length l.slots ≡ length l.initial.slots)
-
-abbrev pub decreases-parents_declare-loop-i : goal.decreases-parents_declare-loop-i
-decreases-parents_declare-loop-i l = l.count - l.i

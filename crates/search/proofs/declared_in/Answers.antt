@@ -9,19 +9,19 @@ pub file_of-g-requires : goal.file_of-g-requires
 file_of-g-requires c = there_bounds _ _ _ _ c.requires.class_there.0
 
 pub find_method-requires : goal.find_method-requires
-find_method-requires c = class_there _ _ _ _ _ _ c.file_of-g.ensures c.place_of-at.ensures.record_at c.requires.class_there.0
+find_method-requires c = class_there _ _ _ _ _ _ c.file_of-g.ensures c.place_of-class.ensures.record_at c.requires.class_there.0
 
-pub returns-in-At : goal.returns-in-At
-returns-in-At c =
+pub returns : goal.returns
+returns c =
     let f = c.args.f.now in
     let s = c.args.s.now in
-    let found = subst (DeclaredPlaced c.file_of-g.result.now c.place_of-at.result c.args.name) c.in-At.is
+    let found = subst (DeclaredPlaced c.file_of-g.result.now c.place_of-class.result c.args.name) c.in_ok-method.was
     c.find_method.ensures in
-    record { declared_here = standing.declared_at_lem f s c.args.c c.args.name c.place_of-at.result c.place_of-at.ensures.record_at _ c.file_of-g.ensures _ found; slots_true_2 = c.place_of-at.ensures.slots_true_2 }
+    record { declared_here = standing.declared_at_lem f s c.args.c c.args.name c.place_of-class.result c.place_of-class.ensures.record_at _ c.file_of-g.ensures _ found; slots_true_2 = c.place_of-class.ensures.slots_true_2 }
 
-pub returns-in-Nothing : goal.returns-in-Nothing
-returns-in-Nothing c =
+pub returns-in_err-method : goal.returns-in_err-method
+returns-in_err-method c =
     let f = c.args.f.now in
     let s = c.args.s.now in
-    let found = subst (DeclaredPlaced c.file_of-g.result.now c.place_of-at.result c.args.name) c.in-Nothing.is c.find_method.ensures in
-    record { declared_here = standing.declared_none f s c.args.c c.args.name c.place_of-at.result c.place_of-at.ensures.record_at _ c.file_of-g.ensures found; slots_true_2 = c.place_of-at.ensures.slots_true_2 }
+    let found = subst (DeclaredPlaced c.file_of-g.result.now c.place_of-class.result c.args.name) c.in_err-method.was c.find_method.ensures in
+    record { declared_here = rw c.from_residual.ensures (standing.declared_none f s c.args.c c.args.name c.place_of-class.result c.place_of-class.ensures.record_at _ c.file_of-g.ensures found); slots_true_2 = c.place_of-class.ensures.slots_true_2 }

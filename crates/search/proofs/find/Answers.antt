@@ -1,7 +1,9 @@
 -- `search::find` meets its contract: the declaration of the class that is meant, or none. Assumes nothing.
+use Rattle.fields.specs.Told.{told}
+use Rattle.std.specs.Prelude.{Option as Optional}
+use Rattle.classes.specs.declared.ClassSpot.{ClassSpot}
 use mathlib.Core.Path.{subst}
-use Rattle.search.specs.Walk.{sought_spot, searched, MeantIs, class_found}
-use Rattle.classes.specs.declared.ClassFound.{ClassFound}
+use Rattle.search.specs.Walk.{sought_spot, searched, MeantIs}
 use Rattle.search.proofs.Standing as standing
 use Rattle.search.proofs.Chain as chain
 use Rattle.search.proofs.find.Goals as goal
@@ -15,21 +17,21 @@ declared_in-requires c =
     let f = c.args.f.now in
     let s = c.args.s.now in
     let x = c.args.x in
-    let m = subst (λ (o : ClassFound). MeantIs f s x.end (sought_spot x) x.name searched (class_found o)) c.in-At.is c.class_meant.ensures.meant_is in
+    let m = subst (λ (o : Optional ClassSpot). MeantIs f s x.end (sought_spot x) x.name searched (told o)) c.in_ok-c.was c.class_meant.ensures.meant_is in
     record { class_there = (standing.spot_class f s x.end _ (chain.meant_there f s x.end (sought_spot x) _ x.name searched m c.requires.sought_there.0), c.requires.sought_there.1); slots_true = c.class_meant.ensures.slots_true_2 }
 
-pub returns-in-At : goal.returns-in-At
-returns-in-At c =
+pub returns : goal.returns
+returns c =
     let f = c.args.f.now in
     let s = c.args.s.now in
     let x = c.args.x in
-    let m = subst (λ (o : ClassFound). MeantIs f s x.end (sought_spot x) x.name searched (class_found o))
-    c.in-At.is c.class_meant.ensures.meant_is in
+    let m = subst (λ (o : Optional ClassSpot). MeantIs f s x.end (sought_spot x) x.name searched (told o))
+    c.in_ok-c.was c.class_meant.ensures.meant_is in
     record { search_is = chain.declared_meant f s x.end (sought_spot x) x.name _ c.declared_in.result m c.declared_in.ensures.declared_here; slots_true_2 = c.declared_in.ensures.slots_true_2 }
 
-pub returns-in-Nothing : goal.returns-in-Nothing
-returns-in-Nothing c =
+pub returns-in_err-c : goal.returns-in_err-c
+returns-in_err-c c =
     let f = c.args.f.now in
     let s = c.args.s.now in
     let x = c.args.x in
-    record { search_is = subst (λ (o : ClassFound). MeantIs f s x.end (sought_spot x) x.name searched (class_found o)) c.in-Nothing.is c.class_meant.ensures.meant_is; slots_true_2 = c.class_meant.ensures.slots_true_2 }
+    record { search_is = rw c.from_residual.ensures (subst (λ (o : Optional ClassSpot). MeantIs f s x.end (sought_spot x) x.name searched (told o)) c.in_err-c.was c.class_meant.ensures.meant_is); slots_true_2 = c.class_meant.ensures.slots_true_2 }

@@ -24,7 +24,7 @@ asked-fits : (k : After-domain_fits) (b : Bool) → k.domain_fits.result ≡ b �
 asked-fits k b e d =
     let a = k.args in
     let fits = subst (Fits a.s.now a.used (domain d a.domain.now)) e (k.domain_fits.ensures d) in
-    creation.create_21 a.s.now a.used a.domain.now d (three (goal.at.After-domain_fits k).Else-not-length_ok) k.find_domain.result k.find_domain.ensures b k.in-Nothing.is fits
+    creation.create_21 a.s.now a.used a.domain.now d (three (goal.at.After-domain_fits k).Else-not-length_ok) k.find_domain.result k.find_domain.ensures b (sym k.is_some.ensures ∙ k.if-is_some.false) fits
 
 pub returns-then-not-length_ok : goal.returns-then-not-length_ok
 returns-then-not-length_ok c =
@@ -42,10 +42,10 @@ domain_fits-requires c =
 pub returns-then-not-domain_fits : goal.returns-then-not-domain_fits
 returns-then-not-domain_fits c = asked-fits (goal.at.returns-then-not-domain_fits c).After-domain_fits false (c.if-not-domain_fits.true)
 
-pub returns-in-At : goal.returns-in-At
-returns-in-At c =
+pub returns-then-is_some : goal.returns-then-is_some
+returns-then-is_some c =
     let a = c.args in
-    λ d. creation.create_4 a.s.now a.used a.domain.now d (three (goal.at.returns-in-At c).Else-not-length_ok) c.find_domain.result c.find_domain.ensures _ _ c.in-At.is
+    λ d. creation.create_4 a.s.now a.used a.domain.now d (three (goal.at.returns-then-is_some c).Else-not-length_ok) c.find_domain.result c.find_domain.ensures (sym c.is_some.ensures ∙ c.if-is_some.true)
 
-pub returns-else-not-domain_fits : goal.returns-else-not-domain_fits
-returns-else-not-domain_fits c = asked-fits (goal.at.returns-else-not-domain_fits c).After-domain_fits true (c.if-not-domain_fits.false)
+pub returns : goal.returns
+returns c = asked-fits (goal.at.returns c).After-domain_fits true (c.if-not-domain_fits.false)

@@ -36,16 +36,16 @@ domain_in_use-requires c =
 pub returns-then-domain_in_use : goal.returns-then-domain_in_use
 returns-then-domain_in_use c =
     let a = c.args in
-    cuts.delete_6 a.s.now a.used a.domain.now c.find_domain.result c.find_domain.ensures _ _ (three (goal.at.returns-then-domain_in_use c).Else-not-length_ok) c.in-At.is
+    cuts.delete_6 a.s.now a.used a.domain.now c.find_domain.result c.find_domain.ensures _ (three (goal.at.returns-then-domain_in_use c).Else-not-length_ok) c.in-Some.is
     (said (goal.at.returns-then-domain_in_use c).After-domain_in_use true c.if-domain_in_use.true)
 
-pub returns-else-domain_in_use : goal.returns-else-domain_in_use
-returns-else-domain_in_use c =
+pub returns : goal.returns
+returns c =
     let a = c.args in
-    cuts.delete_0 a.s.now a.used a.domain.now c.find_domain.result c.find_domain.ensures _ _ (three (goal.at.returns-else-domain_in_use c).Else-not-length_ok) c.in-At.is
-    (said (goal.at.returns-else-domain_in_use c).After-domain_in_use false c.if-domain_in_use.false)
+    cuts.delete_0 a.s.now a.used a.domain.now c.find_domain.result c.find_domain.ensures _ (three (goal.at.returns c).Else-not-length_ok) c.in-Some.is
+    (said (goal.at.returns c).After-domain_in_use false c.if-domain_in_use.false)
 
-pub returns-in-Nothing : goal.returns-in-Nothing
-returns-in-Nothing c =
+pub returns-in_default : goal.returns-in_default
+returns-in_default c =
     let a = c.args in
-    cuts.delete_5 a.s.now a.used a.domain.now c.find_domain.result c.find_domain.ensures (three (goal.at.returns-in-Nothing c).Else-not-length_ok) c.in-Nothing.is
+    cuts.delete_5 a.s.now a.used a.domain.now c.find_domain.result c.find_domain.ensures (three (goal.at.returns-in_default c).Else-not-length_ok) c.in_default.is

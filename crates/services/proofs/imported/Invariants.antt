@@ -5,8 +5,8 @@ use Rattle.services.specs.Answers.{importer}
 use Prim.Native.Nat.{◌-◌}
 use Rattle.services.proofs.imported.Given as goal
 
-abbrev pub invariant-loop-next : goal.invariant-loop-next
-invariant-loop-next l = found.Walks (importer (store_limits l.s) l.aid) l.s l.end l.at
+abbrev pub invariant-loop-part : goal.invariant-loop-part
+invariant-loop-part l = found.Walks (importer (store_limits l.s) l.aid) l.s l.end l.at
 
-abbrev pub decreases-loop-next : goal.decreases-loop-next
-decreases-loop-next l = l.end - l.at
+abbrev pub decreases-loop-part : goal.decreases-loop-part
+decreases-loop-part l = l.end - l.at

@@ -36,16 +36,16 @@ imported-requires c =
 pub returns-then-imported : goal.returns-then-imported
 returns-then-imported c =
     let a = c.args in
-    cuts.remove_8 a.s.now a.used a.«package».now c.find_package.result c.find_package.ensures _ _ _ (three (goal.at.returns-then-imported c).Else-not-length_ok) c.in-File.is
+    cuts.remove_8 a.s.now a.used a.«package».now c.find_package.result c.find_package.ensures _ (three (goal.at.returns-then-imported c).Else-not-length_ok) c.in-Some.is
     (said (goal.at.returns-then-imported c).After-imported true c.if-imported.true)
 
-pub returns-else-imported : goal.returns-else-imported
-returns-else-imported c =
+pub returns : goal.returns
+returns c =
     let a = c.args in
-    cuts.remove_0 a.s.now a.used a.«package».now c.find_package.result c.find_package.ensures _ _ _ (three (goal.at.returns-else-imported c).Else-not-length_ok) c.in-File.is
-    (said (goal.at.returns-else-imported c).After-imported false c.if-imported.false)
+    cuts.remove_0 a.s.now a.used a.«package».now c.find_package.result c.find_package.ensures _ (three (goal.at.returns c).Else-not-length_ok) c.in-Some.is
+    (said (goal.at.returns c).After-imported false c.if-imported.false)
 
-pub returns-in-Missing : goal.returns-in-Missing
-returns-in-Missing c =
+pub returns-in_default : goal.returns-in_default
+returns-in_default c =
     let a = c.args in
-    cuts.remove_7 a.s.now a.used a.«package».now c.find_package.result c.find_package.ensures (three (goal.at.returns-in-Missing c).Else-not-length_ok) c.in-Missing.is
+    cuts.remove_7 a.s.now a.used a.«package».now c.find_package.result c.find_package.ensures (three (goal.at.returns-in_default c).Else-not-length_ok) c.in_default.is

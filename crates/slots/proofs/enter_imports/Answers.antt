@@ -7,10 +7,10 @@ use Rattle.homes.specs.Homes.{home_of}
 use Rattle.slots.specs.Slots.{slots_length}
 use Rattle.slots.proofs.Entered as entered
 use Rattle.slots.proofs.enter_imports.Goals as goal
-use Rattle.slots.proofs.enter_imports.Goals.{After-long-place, At-loop-p}
+use Rattle.slots.proofs.enter_imports.Goals.{After-from-place, At-loop-p}
 
 -- a number of an import, below 16
-few : (k : After-long-place) → k.loop-p.p < 16
+few : (k : After-from-place) → k.loop-p.p < 16
 few k = k.loop-p-test.true
 
 -- the table of slots keeps its length, which is enough
@@ -30,10 +30,7 @@ take_slot-requires c =
 
 pub loop-p-init : goal.loop-p-init
 loop-p-init c =
-    (refl, omega arith, omega arith, entered.entered_start _ _ _ _ _ _ c.clear.ensures c.own_home.ensures c.take_slot.ensures)
-
-pub overflow_sub-p : goal.overflow_sub-p
-overflow_sub-p c = omega (arith, c.loop-p.invariant.1)
+    (refl, entered.entered_start _ _ _ _ _ _ c.clear.ensures c.own_home.ensures c.take_slot.ensures)
 
 pub offset_bounds-places-p : goal.offset_bounds-places-p
 offset_bounds-places-p c = omega (arith, c.loop-p-test.true)
@@ -45,37 +42,29 @@ pub shape_of-slots-then-place-eq0 : goal.shape_of-slots-then-place-eq0
 shape_of-slots-then-place-eq0 c = kept (goal.at.shape_of-slots-then-place-eq0 c).At-loop-p
 
 pub returns-then-place-eq0 : goal.returns-then-place-eq0
-returns-then-place-eq0 c = λ f i. (c.loop-p.invariant.3 f i).0
+returns-then-place-eq0 c = λ f i. (c.loop-p.invariant.1 f i).0
 
 pub overflow_mul-p : goal.overflow_mul-p
-overflow_mul-p c = omega (arith, few (goal.at.overflow_mul-p c).After-long-place)
+overflow_mul-p c = omega (arith, few (goal.at.overflow_mul-p c).After-from-place)
 
 pub overflow_add-p : goal.overflow_add-p
-overflow_add-p c = omega (arith, few (goal.at.overflow_add-p c).After-long-place)
+overflow_add-p c = omega (arith, few (goal.at.overflow_add-p c).After-from-place)
 
 pub home_at-requires : goal.home_at-requires
 home_at-requires c =
-    rw c.long-place.ensures.0 (c.requires.places_len.1 (c.loop-p.p - 1) (λ e. c.if-place-eq0.false (c.long-place.ensures.0 ∙ e)))
+    rw c.from-place.ensures (c.requires.places_len.1 (c.loop-p.p - 1) (λ e. c.if-place-eq0.false (c.from-place.ensures ∙ e)))
 
 pub put_home-requires : goal.put_home-requires
 put_home-requires c =
-    let place = c.requires.places_len.1 (c.loop-p.p - 1) (λ e. c.if-place-eq0.false (c.long-place.ensures.0 ∙ e)) in
+    let place = c.requires.places_len.1 (c.loop-p.p - 1) (λ e. c.if-place-eq0.false (c.from-place.ensures ∙ e)) in
     let small = entered.package_small c.args.s.now _ place c.requires.slots_length_in_bounds.2 in
-    record { at_in_bounds = (omega (arith, few (goal.at.put_home-requires c).After-long-place, long-enough (goal.at.put_home-requires c).At-loop-p), omega (arith, long-enough (goal.at.put_home-requires c).At-loop-p)); small_home = rw (c.home_at.ensures, c.long-place.ensures.0) small }
-
-pub overflow_add-p-in-loop-p : goal.overflow_add-p-in-loop-p
-overflow_add-p-in-loop-p c = omega (arith, few (goal.at.overflow_add-p-in-loop-p c).After-long-place)
-
-pub loop-p-smaller : goal.loop-p-smaller
-loop-p-smaller c = omega (arith, few (goal.at.loop-p-smaller c).After-long-place)
+    record { at_in_bounds = omega (arith, few (goal.at.put_home-requires c).After-from-place, long-enough (goal.at.put_home-requires c).At-loop-p); small_home = rw (c.home_at.ensures, c.from-place.ensures) small }
 
 pub loop-p-preserved : goal.loop-p-preserved
 loop-p-preserved c =
-    let next = entered.entered_more _ _ _ c.loop-p.slots c.loop-p.p _ (λ e. omega (arith, e, c.loop-p.invariant.1)) (few (goal.at.loop-p-preserved c).After-long-place)
-    (λ e. c.if-place-eq0.false (c.long-place.ensures.0 ∙ e)) (c.home_at.ensures ∙ ap (home_of c.args.s.now) c.long-place.ensures.0) c.loop-p.invariant.3 in (
+    let next = entered.entered_more _ _ _ c.loop-p.slots c.loop-p.p _ (λ e. omega (arith, e, c.loop-p.auto.p)) (few (goal.at.loop-p-preserved c).After-from-place)
+    (λ e. c.if-place-eq0.false (c.from-place.ensures ∙ e)) (c.home_at.ensures ∙ ap (home_of c.args.s.now) c.from-place.ensures) c.loop-p.invariant.1 in (
       omega (arith, c.put_home.auto, c.loop-p.invariant.0),
-      omega arith,
-      omega (arith, few (goal.at.loop-p-preserved c).After-long-place),
       subst (entered.Entered c.args.s.now c.args.end c.args.places.now) (sym c.put_home.ensures) next,
     )
 
@@ -83,4 +72,4 @@ pub shape_of-slots : goal.shape_of-slots
 shape_of-slots c = kept (goal.at.shape_of-slots c).At-loop-p
 
 pub returns : goal.returns
-returns c = λ f i. (c.loop-p.invariant.3 f i).0
+returns c = λ f i. (c.loop-p.invariant.1 f i).0

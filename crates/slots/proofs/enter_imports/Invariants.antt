@@ -1,5 +1,4 @@
 -- `slots::enter_imports` meets its contract: the loop keeps slots that are true, slot 0 being that of the own file. Assumes nothing.
-use Prim.Native.Nat.{◌-◌, ◌≤◌, ◌<◌}
 use mathlib.Core.Path.{◌≡◌}
 use lib.ListN.{length}
 use Rattle.slots.proofs.Entered as entered
@@ -7,7 +6,4 @@ use Rattle.slots.proofs.enter_imports.Given as goal
 
 abbrev pub invariant-loop-p : goal.invariant-loop-p
 invariant-loop-p l =
-    (length l.slots ≡ length l.initial.slots) × (0 < l.p) × (l.p ≤ 16) × entered.Entered l.s l.end l.places l.slots
-
-abbrev pub decreases-loop-p : goal.decreases-loop-p
-decreases-loop-p l = 16 - l.p
+    (length l.slots ≡ length l.initial.slots) × entered.Entered l.s l.end l.places l.slots

@@ -4,4 +4,4 @@ use Rattle.slots.proofs.home_in.Goals as goal
 
 pub returns : goal.returns
 returns c =
-    laws.home_is _ _ c.long.ensures.0 c.long-2.ensures.0 c.long-3.ensures.0
+    laws.home_is _ _ c.from.ensures c.from-2.ensures c.from-3.ensures

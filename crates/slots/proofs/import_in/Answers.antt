@@ -1,14 +1,14 @@
 -- `slots::import_in` meets its contract: what the slot knows is true, and what it does not know is found and written. Assumes nothing.
+use Rattle.std.specs.Prelude.{Some}
 use Prim.Native.Nat.{◌<◌, ◌≤◌}
 use native.Mathlib.Omega.{arith}
 use mathlib.Core.Path.{◌≡◌, sym, subst}
-use Rattle.homes.specs.declared.HomeFound.TheVariants.{At}
 use Rattle.homes.specs.Homes.{NumberedIs}
 use Rattle.homes.proofs.Lookups.{numbered_zero}
 use Rattle.slots.specs.Slots.{SlotsTrue}
 use Rattle.slots.proofs.Asked as laws
 use Rattle.slots.proofs.import_in.Goals as goal
-use Rattle.slots.proofs.import_in.Goals.{After-take_slot, In-At}
+use Rattle.slots.proofs.import_in.Goals.{After-take_slot, In_ok-g}
 
 -- the slot's number is below 8, and the import's is from 1 to 15
 few : (k : After-take_slot) →
@@ -21,12 +21,10 @@ slots-true : (k : After-take_slot) → SlotsTrue k.args.f.now k.args.s.now k.tak
 slots-true k = k.take_slot.ensures.true _ _ k.requires.slots_true
 
 -- the home found is the import's
-numbered : (k : In-At) →
+numbered : (k : In_ok-g) →
     let a = k.args in
-    NumberedIs a.f.now a.s.now a.x.home a.p (At k.in-At.g)
-numbered k =
-    let a = k.args in
-    subst (NumberedIs a.f.now a.s.now a.x.home a.p) k.in-At.is k.numbered-2.ensures
+    NumberedIs a.f.now a.s.now a.x.home a.p (Some k.in_ok-g.g)
+numbered k = k.in_ok-g.ensures
 
 pub returns-then-p-eq0 : goal.returns-then-p-eq0
 returns-then-p-eq0 c = record { numbered_is = numbered_zero _ _ _ c.args.p c.if-p-eq0.true; slots_true_2 = c.requires.slots_true }
@@ -55,7 +53,7 @@ overflow_add-at-2 c = omega (arith, (few (goal.at.overflow_add-at-2 c).After-tak
 pub home_in-kept-requires : goal.home_in-kept-requires
 home_in-kept-requires c =
     let size = (slots-true (goal.at.home_in-kept-requires c).After-take_slot).size in
-    record { at_in_bounds = omega (arith, (few (goal.at.home_in-kept-requires c).After-take_slot).0, (few (goal.at.home_in-kept-requires c).After-take_slot).2, size); slots_length_in_bounds = size }
+    omega (arith, (few (goal.at.home_in-kept-requires c).After-take_slot).0, (few (goal.at.home_in-kept-requires c).After-take_slot).2, size)
 
 pub returns-then-kept-ne0 : goal.returns-then-kept-ne0
 returns-then-kept-ne0 c =
@@ -68,18 +66,16 @@ numbered-requires-2 c = record { home_there = c.requires.home_there.0; indexed =
 pub put_home-requires : goal.put_home-requires
 put_home-requires c =
     let size = (slots-true (goal.at.put_home-requires c).After-take_slot).size in
-    record { at_in_bounds = (omega (arith, (few (goal.at.put_home-requires c).After-take_slot).0, (few (goal.at.put_home-requires c).After-take_slot).2, size), size); small_home = laws.import_small _ _ _ c.args.p (few (goal.at.put_home-requires c).After-take_slot).1 c.requires.home_there.0 c.requires.small_home.1 c.requires.small_home.0 _ (numbered (goal.at.put_home-requires c).In-At) }
+    record { at_in_bounds = omega (arith, (few (goal.at.put_home-requires c).After-take_slot).0, (few (goal.at.put_home-requires c).After-take_slot).2, size); small_home = laws.import_small _ _ _ c.args.p (few (goal.at.put_home-requires c).After-take_slot).1 c.requires.home_there.0 c.requires.small_home.1 c.requires.small_home.0 _ (numbered (goal.at.put_home-requires c).In_ok-g) }
 
-pub returns-in-At : goal.returns-in-At
-returns-in-At c =
-    let n = few (goal.at.returns-in-At c).After-take_slot in
+pub returns : goal.returns
+returns c =
+    let n = few (goal.at.returns c).After-take_slot in
     let a = c.args in record {
-      numbered_is = numbered (goal.at.returns-in-At c).In-At;
+      numbered_is = numbered (goal.at.returns c).In_ok-g;
       slots_true_2 = subst (SlotsTrue a.f.now a.s.now) (sym c.put_home.ensures)
-          (laws.import_put _ _ _ _ _ (slots-true (goal.at.returns-in-At c).After-take_slot) n.0 c.take_slot.ensures.home a.p n.1 n.2 _ (numbered (goal.at.returns-in-At c).In-At));
+          (laws.import_put _ _ _ _ _ (slots-true (goal.at.returns c).After-take_slot) n.0 c.take_slot.ensures.home a.p n.1 n.2 _ (numbered (goal.at.returns c).In_ok-g));
     }
 
-pub returns-in-Nothing : goal.returns-in-Nothing
-returns-in-Nothing c =
-    let a = c.args in
-    record { numbered_is = subst (NumberedIs a.f.now a.s.now a.x.home a.p) c.in-Nothing.is c.numbered-2.ensures; slots_true_2 = slots-true (goal.at.returns-in-Nothing c).After-take_slot }
+pub returns-in_err-g-clause-slots_true_2 : goal.returns-in_err-g-clause-slots_true_2
+returns-in_err-g-clause-slots_true_2 c = slots-true (goal.at.returns-in_err-g-clause-slots_true_2 c).After-take_slot

@@ -1,12 +1,8 @@
 -- `sorted::before` compares one byte of both a turn. Assumes nothing.
-use Prim.Native.Nat.{◌-◌, ◌≤◌}
 use mathlib.Core.Path.{◌≡◌}
-use lib.ListN.{length, drop}
+use lib.ListN.{drop}
 use Rattle.sorted.specs.Sorted.{below}
 use Rattle.sorted.proofs.before.Given as goal
 
 abbrev pub invariant-loop-i : goal.invariant-loop-i
-invariant-loop-i l = (l.i ≤ length l.a) × (below l.a l.b ≡ below (drop l.i l.a) (drop l.i l.b))
-
-abbrev pub decreases-loop-i : goal.decreases-loop-i
-decreases-loop-i l = length l.a - l.i
+invariant-loop-i l = below l.a l.b ≡ below (drop l.i l.a) (drop l.i l.b)

@@ -14,40 +14,34 @@ pub next_place-requires : goal.next_place-requires
 next_place-requires c =
     (c.loop-at.invariant.1, c.requires.1)
 
-pub enum_known-next : goal.enum_known-next
-enum_known-next c = c.in-To.in-To-own.keys1
-
 pub loop-at-smaller : goal.loop-at-smaller
 loop-at-smaller c =
     let s = c.args.s.now in
     let end = c.args.end in
     omega (
       arith,
-      (checks.fill_more s c.args.from c.loop-at.at c.in-To.next end c.loop-at.invariant.0
-          (subst (λ x. NextSays s c.loop-at.at end x) c.in-To.is c.next_place.ensures)).1,
-      (checks.fill_more s c.args.from c.loop-at.at c.in-To.next end c.loop-at.invariant.0
-          (subst (λ x. NextSays s c.loop-at.at end x) c.in-To.is c.next_place.ensures)).2,
+      (checks.fill_more s c.args.from c.loop-at.at c.in-Some.next end c.loop-at.invariant.0
+          (subst (λ x. NextSays s c.loop-at.at end x) c.in-Some.is c.next_place.ensures)).1,
+      (checks.fill_more s c.args.from c.loop-at.at c.in-Some.next end c.loop-at.invariant.0
+          (subst (λ x. NextSays s c.loop-at.at end x) c.in-Some.is c.next_place.ensures)).2,
     )
 
 pub loop-at-preserved : goal.loop-at-preserved
 loop-at-preserved c =
     let s = c.args.s.now in
     let end = c.args.end in (
-      (checks.fill_more s c.args.from c.loop-at.at c.in-To.next end c.loop-at.invariant.0
-          (subst (λ x. NextSays s c.loop-at.at end x) c.in-To.is c.next_place.ensures)).0,
-      (checks.fill_more s c.args.from c.loop-at.at c.in-To.next end c.loop-at.invariant.0
-          (subst (λ x. NextSays s c.loop-at.at end x) c.in-To.is c.next_place.ensures)).2,
+      (checks.fill_more s c.args.from c.loop-at.at c.in-Some.next end c.loop-at.invariant.0
+          (subst (λ x. NextSays s c.loop-at.at end x) c.in-Some.is c.next_place.ensures)).0,
+      (checks.fill_more s c.args.from c.loop-at.at c.in-Some.next end c.loop-at.invariant.0
+          (subst (λ x. NextSays s c.loop-at.at end x) c.in-Some.is c.next_place.ensures)).2,
     )
 
-pub enum_told-1 : goal.enum_told-1
-enum_told-1 c = c.in-Never.in-Never-own.keys2
-
-pub returns-in-Never : goal.returns-in-Never
-returns-in-Never c =
+pub returns-in_default : goal.returns-in_default
+returns-in_default c =
     let s = c.args.s.now in
     let end = c.args.end in
     checks.fill_never s c.args.from c.loop-at.at end c.loop-at-test.true c.loop-at.invariant.0
-    (subst (λ x. NextSays s c.loop-at.at end x) c.in-Never.is c.next_place.ensures)
+    (subst (λ x. NextSays s c.loop-at.at end x) c.in_default.is c.next_place.ensures)
 
 pub returns : goal.returns
 returns c =

@@ -2,36 +2,34 @@
 use Rattle.store.proofs.Walk.{Walk, walk_start, place_none}
 use Rattle.store.specs.Answers.{PartAt}
 use Rattle.store.specs.declared.EntryPart.TheVariants.{Domain, Package}
+use Rattle.std.specs.Prelude.{Some}
 use Rattle.store.proofs.Find as found
 use Rattle.rules.specs.Operations.{is_domain}
 use Rattle.rules.specs.Store.{first_entry}
 use mathlib.Core.Path.{refl, sym, ◌∙◌, subst}
 use native.Mathlib.Omega.{arith}
 use Rattle.store.proofs.find_domain.Goals as goal
-use Rattle.store.proofs.find_domain.Goals.{After-entry_at, At-loop-from, In-Domain, In-Domain-2, In-Package}
+use Rattle.store.proofs.find_domain.Goals.{After-entry_at, At-loop-part, In-Domain, In-Domain-2, In-Package}
 
 -- the turn's entry is a domain's, or a package's
 is_domain_lem : (k : In-Domain) →
-    PartAt k.args.s.now k.loop-from.at k.args.end (Domain k.in-Domain.from k.in-Domain.next)
-is_domain_lem k = found.part_told k.in-Domain.is k.entry_at.ensures
+    PartAt k.args.s.now k.loop-part.at k.args.end (Some (Domain k.in-Domain.from k.in-Domain.next))
+is_domain_lem k = found.part_told k.in-Some.is k.in-Domain.is k.entry_at.ensures
 
 is_package_lem : (k : In-Package) →
-    PartAt k.args.s.now k.loop-from.at k.args.end (Package k.in-Package.field-0 k.in-Package.field-1 k.in-Package.next)
-is_package_lem k = found.part_told k.in-Package.is k.entry_at.ensures
+    PartAt k.args.s.now k.loop-part.at k.args.end (Some (Package k.in-Package.from k.in-Package.file k.in-Package.next))
+is_package_lem k = found.part_told k.in-Some.is k.in-Package.is k.entry_at.ensures
 
 -- the domain's places
 domain_in : (k : In-Domain) →
-    found.DomainIn k.args.s.now k.args.end k.loop-from.at k.in-Domain.from k.in-Domain.next
-domain_in k = found.domain_in k.loop-from.invariant k.requires (is_domain_lem k)
+    found.DomainIn k.args.s.now k.args.end k.loop-part.at k.in-Domain.from k.in-Domain.next
+domain_in k = found.domain_in k.loop-part.invariant k.requires (is_domain_lem k)
 
-pub loop-from-init : goal.loop-from-init
-loop-from-init c = λ es r. subst (Walk _ _ es _) (sym c.first_entry-at.ensures) (walk_start r)
+pub loop-part-init : goal.loop-part-init
+loop-part-init c = λ es r. subst (Walk _ _ es _) (sym c.first_entry-at.ensures) (walk_start r)
 
 pub entry_at-requires : goal.entry_at-requires
-entry_at-requires c = found.walks_from c.loop-from.invariant c.requires
-
-pub enum_known-from : goal.enum_known-from
-enum_known-from c = c.in-Domain.in-Domain-own.keys1
+entry_at-requires c = found.walks_from c.loop-part.invariant c.requires
 
 pub slice_bounds-same_bytes-count : goal.slice_bounds-same_bytes-count
 slice_bounds-same_bytes-count c = omega (arith, domain_in c)
@@ -44,31 +42,25 @@ slice_bounds-same_bytes-end c = omega (arith, domain_in c)
 
 pub returns-then-same_bytes : goal.returns-then-same_bytes
 returns-then-same_bytes c =
-    let here = found.found_domain c.loop-from.invariant (is_domain_lem (goal.at.returns-then-same_bytes c).In-Domain) (sym c.same_bytes.ensures ∙ c.if-same_bytes.true) in
+    let here = found.found_domain c.loop-part.invariant (is_domain_lem (goal.at.returns-then-same_bytes c).In-Domain) (sym c.same_bytes.ensures ∙ c.if-same_bytes.true) in
     λ es r. sym (here es r)
 
-pub loop-from-smaller-in-Domain : goal.loop-from-smaller-in-Domain
-loop-from-smaller-in-Domain c = omega (arith, domain_in (goal.at.loop-from-smaller-in-Domain c).In-Domain)
+pub loop-part-smaller-in-Domain : goal.loop-part-smaller-in-Domain
+loop-part-smaller-in-Domain c = omega (arith, domain_in (goal.at.loop-part-smaller-in-Domain c).In-Domain)
 
-pub loop-from-preserved-in-Domain : goal.loop-from-preserved-in-Domain
-loop-from-preserved-in-Domain c =
-    found.walks_domain c.loop-from.invariant (is_domain_lem (goal.at.loop-from-preserved-in-Domain c).In-Domain) (sym c.same_bytes.ensures ∙ c.if-same_bytes.false)
+pub loop-part-preserved-in-Domain : goal.loop-part-preserved-in-Domain
+loop-part-preserved-in-Domain c =
+    found.walks_domain c.loop-part.invariant (is_domain_lem (goal.at.loop-part-preserved-in-Domain c).In-Domain) (sym c.same_bytes.ensures ∙ c.if-same_bytes.false)
 
-pub enum_known-next : goal.enum_known-next
-enum_known-next c = c.in-Package.in-Package-own.keys2
+pub loop-part-smaller : goal.loop-part-smaller
+loop-part-smaller c =
+    omega (arith, found.package_in c.loop-part.invariant c.requires (is_package_lem c))
 
-pub loop-from-smaller : goal.loop-from-smaller
-loop-from-smaller c =
-    omega (arith, found.package_in c.loop-from.invariant c.requires (is_package_lem c))
+pub loop-part-preserved : goal.loop-part-preserved
+loop-part-preserved c = found.walks_package c.loop-part.invariant (is_package_lem c) refl
 
-pub loop-from-preserved : goal.loop-from-preserved
-loop-from-preserved c = found.walks_package c.loop-from.invariant (is_package_lem c) refl
-
-pub enum_told-1 : goal.enum_told-1
-enum_told-1 c = c.in-AtEnd.in-AtEnd-own.keys3
-
-pub returns-in-AtEnd : goal.returns-in-AtEnd
-returns-in-AtEnd c =
+pub returns : goal.returns
+returns c =
     let a = c.args in
-    let none = found.found_none c.loop-from.invariant (found.part_told c.in-AtEnd.is c.entry_at.ensures) in
+    let none = found.found_none c.loop-part.invariant (found.none_told c.in_default.is c.entry_at.ensures) in
     λ es r. sym (place_none (is_domain a.aid.now) (first_entry a.s.now) es (none es r))

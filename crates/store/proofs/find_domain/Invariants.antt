@@ -4,8 +4,8 @@ use Rattle.rules.specs.Operations.{is_domain}
 use Prim.Native.Nat.{◌-◌}
 use Rattle.store.proofs.find_domain.Given as goal
 
-abbrev pub invariant-loop-from : goal.invariant-loop-from
-invariant-loop-from l = found.Walks (is_domain l.aid) l.s l.end l.at
+abbrev pub invariant-loop-part : goal.invariant-loop-part
+invariant-loop-part l = found.Walks (is_domain l.aid) l.s l.end l.at
 
-abbrev pub decreases-loop-from : goal.decreases-loop-from
-decreases-loop-from l = l.end - l.at
+abbrev pub decreases-loop-part : goal.decreases-loop-part
+decreases-loop-part l = l.end - l.at

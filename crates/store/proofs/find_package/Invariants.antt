@@ -4,8 +4,8 @@ use Rattle.store.proofs.Find as found
 use Prim.Native.Nat.{◌-◌}
 use Rattle.store.proofs.find_package.Given as goal
 
-abbrev pub invariant-loop-next : goal.invariant-loop-next
-invariant-loop-next l = found.Walks (asked.named_by l.aid) l.s l.end l.at
+abbrev pub invariant-loop-part : goal.invariant-loop-part
+invariant-loop-part l = found.Walks (asked.named_by l.aid) l.s l.end l.at
 
-abbrev pub decreases-loop-next : goal.decreases-loop-next
-decreases-loop-next l = l.end - l.at
+abbrev pub decreases-loop-part : goal.decreases-loop-part
+decreases-loop-part l = l.end - l.at

@@ -12,7 +12,7 @@ use Rattle.rules.proofs.Tests.{of_true, is_true}
 use Rattle.rules.proofs.Limits as limits
 use Rattle.store.specs.Entries.{Entries}
 use Rattle.store.specs.Answers.{LayoutSays, FillSays}
-use Rattle.store.specs.declared.Layout.TheVariants.{Broken}
+use Rattle.std.specs.Prelude.{None}
 use Rattle.store.proofs.Laid as laid
 use Rattle.store.proofs.Checks as checks
 use Rattle.store.proofs.laid_from.Goals as goal
@@ -20,7 +20,7 @@ use Rattle.store.proofs.laid_from.Goals.{After-shared_slice_known-1, After-u2_at
 
 -- no layout is told where nothing is laid out
 no-layout : (k : After-shared_slice_known-1) → ((es : List Entry) → laid.LaidBy k.args.s.now es → ⊥) →
-    LayoutSays k.args.s.now Broken
+    LayoutSays k.args.s.now None
 no-layout k = laid.laid_none _ (λ i. (k.type_inv.s i).fits)
 
 -- whether the bytes behind the entries are zeros

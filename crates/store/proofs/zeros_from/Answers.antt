@@ -3,31 +3,21 @@ use Rattle.rules.specs.Store.{is_zero}
 use Rattle.rules.specs.Bytes.{all}
 use Rattle.store.proofs.Checks as checks
 use Prim.Native.Nat.{ℕ, ◌+◌}
-use mathlib.Core.Path.{refl, sym, ◌∙◌, ap}
+use mathlib.Core.Path.{sym, ◌∙◌, ap}
 use mathlib.Core.Bool.{◌&&◌}
 use lib.Dec.{eqb}
 use native.Mathlib.Omega.{arith}
 use lib.ListN.{drop}
 use Rattle.store.proofs.zeros_from.Goals as goal
-use Rattle.store.proofs.zeros_from.Goals.{At-loop-i, In-loop-i}
-
-pub loop-i-init : goal.loop-i-init
-loop-i-init c = (c.requires, refl)
-
-pub overflow_add-i : goal.overflow_add-i
-overflow_add-i c = omega arith
-
-pub loop-i-smaller : goal.loop-i-smaller
-loop-i-smaller c = omega arith
 
 pub loop-i-preserved : goal.loop-i-preserved
 loop-i-preserved c =
     let a = c.args in
     let s = a.s.now in
     let more = checks.zero_more s c.loop-i.i c.loop-i.greatest c.loop-i-test.true in
-    (omega arith, c.loop-i.invariant.1 ∙ more ∙ ap (λ (g : ℕ). eqb g 0 && all is_zero (drop (c.loop-i.i + 1) s)) (sym c.greater-greatest.ensures))
+    c.loop-i.invariant ∙ more ∙ ap (λ (g : ℕ). eqb g 0 && all is_zero (drop (c.loop-i.i + 1) s)) (sym c.greater-greatest.ensures)
 
 pub returns : goal.returns
 returns c =
     let a = c.args in
-    sym (c.loop-i.invariant.1 ∙ checks.zero_end a.s.now c.loop-i.i c.loop-i.greatest (omega arith))
+    sym (c.loop-i.invariant ∙ checks.zero_end a.s.now c.loop-i.i c.loop-i.greatest (omega arith))

@@ -1,9 +1,6 @@
--- `streams::write_out`: each turn takes one from the turns left.
+-- `streams::write_out`: what is written stands in the bytes.
 use Rattle.std.proofs.Common.{length, ◌≤◌}
 use Rattle.streams.proofs.write_out.Given as goal
 
-abbrev pub invariant-loop-from : goal.invariant-loop-from
-invariant-loop-from l = l.from ≤ length l.bytes
-
-abbrev pub decreases-loop-from : goal.decreases-loop-from
-decreases-loop-from l = l.turns
+abbrev pub invariant-loop : goal.invariant-loop
+invariant-loop l = l.from ≤ length l.bytes

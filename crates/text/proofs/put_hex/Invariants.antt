@@ -1,12 +1,8 @@
--- `text::put_hex` meets its contract: after i turns the digits of the first i bytes are put. Assumes nothing.
-use Prim.Native.Nat.{◌≤◌, ◌-◌}
-use lib.ListN.{length, take}
+-- `text::put_hex` meets its contract: after each turn the digits of the bytes passed are put. Assumes nothing.
+use lib.ListN.{take}
 use Rattle.text.specs.Text.{hex_bytes}
 use Rattle.text.specs.Put.{Put}
 use Rattle.text.proofs.put_hex.Given as goal
 
-abbrev pub invariant-loop-i : goal.invariant-loop-i
-invariant-loop-i l = (l.i ≤ length l.bytes) × Put l.initial.out l.at (hex_bytes (take l.i l.bytes)) l.out l.to
-
-abbrev pub decreases-loop-i : goal.decreases-loop-i
-decreases-loop-i l = length l.bytes - l.i
+abbrev pub invariant-loop-b : goal.invariant-loop-b
+invariant-loop-b l = Put l.initial.out l.at (hex_bytes (take l.b-index l.bytes)) l.out l.to

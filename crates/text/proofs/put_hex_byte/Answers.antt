@@ -5,17 +5,17 @@ use mathlib.Core.List.{[], ◌∷◌}
 use Rattle.text.specs.Text.{hex_digit}
 use Rattle.text.proofs.Puts.{put_then, put_as}
 use Rattle.text.proofs.put_hex_byte.Goals as goal
-use Rattle.text.proofs.put_hex_byte.Goals.{After-put_byte, After-put_byte-middle, After-wide-n}
+use Rattle.text.proofs.put_hex_byte.Goals.{After-put_byte, After-put_byte-middle, After-from-n}
 
 -- the byte as a number, and its digits
-number : (k : After-wide-n) → k.wide-n.result ≡ k.args.b
-number k = k.wide-n.ensures.0
+number : (k : After-from-n) → k.from-n.result ≡ k.args.b
+number k = k.from-n.ensures
 
 high : (k : After-put_byte-middle) → k.hex_digit.result ≡ hex_digit (k.args.b / 16)
-high k = k.hex_digit.ensures ∙ ap (λ (x : ℕ). hex_digit (x / 16)) (number (goal.at.After-put_byte-middle k).After-wide-n)
+high k = k.hex_digit.ensures ∙ ap (λ (x : ℕ). hex_digit (x / 16)) (number (goal.at.After-put_byte-middle k).After-from-n)
 
 low : (k : After-put_byte) → k.hex_digit-2.result ≡ hex_digit (k.args.b % 16)
-low k = k.hex_digit-2.ensures ∙ ap (λ (x : ℕ). hex_digit (x % 16)) (number (goal.at.After-put_byte k).After-wide-n)
+low k = k.hex_digit-2.ensures ∙ ap (λ (x : ℕ). hex_digit (x % 16)) (number (goal.at.After-put_byte k).After-from-n)
 
 pub returns : goal.returns
 returns c =

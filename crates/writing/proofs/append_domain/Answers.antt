@@ -1,7 +1,7 @@
 -- `writing::append_domain` leaves the layout of the entries with a domain's entry behind them. Assumes nothing.
-use Rattle.store.specs.Entries.{kind_of}
+use Rattle.writing.specs.Changes.{kind_said}
 use Rattle.writing.proofs.Append as append
-use mathlib.Core.Path.{◌≡◌, ◌∙◌}
+use mathlib.Core.Path.{◌≡◌, sym, ◌∙◌}
 use native.Mathlib.Omega.{arith}
 use lib.ListN.{length}
 use Rattle.writing.proofs.append_domain.Goals as goal
@@ -9,7 +9,7 @@ use Rattle.writing.proofs.append_domain.Goals.{After-copy_in, After-put_head, Af
 
 -- there is room for the entry
 room : (b : Start) → append.RoomBy b.args.store.now b.args.end (length b.args.aid.now)
-room b = append.domain_room b.requires.0
+room b = append.domain_room b.requires
 
 -- the store is as long as at the start, once the AID is written
 long : (k : After-copy_in) → length k.copy_in.new.store ≡ length k.args.store.now
@@ -41,5 +41,5 @@ shape_of-store c = c.put_u2.auto.store ∙ long (goal.at.shape_of-store c).After
 
 pub returns : goal.returns
 returns c =
-    append.domain_appended c.args.store.now c.put_head.new.store c.copy_in.new.store _ c.args.end c.args.kind (kind_of c.args.kind)
-    c.args.aid.now c.requires.0 c.requires.1 c.put_head.ensures c.copy_in.ensures c.put_u2.ensures
+    append.domain_appended c.args.store.now c.put_head.new.store c.copy_in.new.store _ c.args.end c.byte.result (kind_said c.args.kind)
+    c.args.aid.now c.requires (sym c.byte.ensures) c.put_head.ensures c.copy_in.ensures c.put_u2.ensures

@@ -1,12 +1,8 @@
 -- `writing::copy_in` copies bytes: those up to the index are pasted. Assumes nothing.
 use lib.Seq.{paste}
 use lib.ListN.{length}
-use Prim.Native.Nat.{◌-◌, ◌≤◌}
 use mathlib.Core.Path.{◌≡◌}
 use Rattle.writing.proofs.copy_in.Given as goal
 
 abbrev pub invariant-loop-i : goal.invariant-loop-i
-invariant-loop-i l = (l.i ≤ length l.from) × (l.store ≡ paste l.initial.store l.at l.from l.i) × (length l.store ≡ length l.initial.store)
-
-abbrev pub decreases-loop-i : goal.decreases-loop-i
-decreases-loop-i l = length l.from - l.i
+invariant-loop-i l = (l.store ≡ paste l.initial.store l.at l.from l.i) × (length l.store ≡ length l.initial.store)

@@ -8,7 +8,7 @@ use Prim.Native.Nat.{◌-◌}
 use mathlib.Core.Path.{◌≡◌, refl, ap, ◌∙◌}
 use native.Mathlib.Omega.{arith}
 use Rattle.writing.proofs.cut_entry.Goals as goal
-use Rattle.writing.proofs.cut_entry.Goals.{After-move_up, After-put_u2, After-zero_out, Start}
+use Rattle.writing.proofs.cut_entry.Goals.{After-copy_within, After-put_u2, After-zero_out, Start}
 
 -- the places of the entry that is cut out
 places : (b : Start) → cut.CutBy b.args.end b.args.at b.args.next (length b.args.store.now)
@@ -16,7 +16,7 @@ places b = cut.cut_by b.requires
 
 -- the store is as long as at the start, once the end is zeroed
 long : (k : After-zero_out) → length k.zero_out.new.store ≡ length k.args.store.now
-long k = k.zero_out.auto.store ∙ k.move_up.auto.store
+long k = k.zero_out.auto.store ∙ k.copy_within.ensures.len
 
 pub overflow_sub-k : goal.overflow_sub-k
 overflow_sub-k c = omega (arith, places (goal.at.overflow_sub-k c).Start)
@@ -24,17 +24,20 @@ overflow_sub-k c = omega (arith, places (goal.at.overflow_sub-k c).Start)
 pub overflow_sub-end : goal.overflow_sub-end
 overflow_sub-end c = omega (arith, places (goal.at.overflow_sub-end c).Start)
 
-pub move_up-requires : goal.move_up-requires
-move_up-requires c = let x = places (goal.at.move_up-requires c).Start in (omega arith, omega arith)
+pub copy_within-requires-clause-start_le_end : goal.copy_within-requires-clause-start_le_end
+copy_within-requires-clause-start_le_end c = omega (arith, places (goal.at.copy_within-requires-clause-start_le_end c).Start)
+
+pub copy_within-requires-clause-in_bounds : goal.copy_within-requires-clause-in_bounds
+copy_within-requires-clause-in_bounds c = omega (arith, places (goal.at.copy_within-requires-clause-in_bounds c).Start)
+
+pub copy_within-requires-clause-dest_in_bounds : goal.copy_within-requires-clause-dest_in_bounds
+copy_within-requires-clause-dest_in_bounds c = omega (arith, places (goal.at.copy_within-requires-clause-dest_in_bounds c).Start)
 
 pub overflow_sub-end-2 : goal.overflow_sub-end-2
 overflow_sub-end-2 c = omega (arith, places (goal.at.overflow_sub-end-2 c).Start)
 
 pub zero_out-requires : goal.zero_out-requires
-zero_out-requires c = omega (arith, places (goal.at.zero_out-requires c).Start, c.move_up.auto.store)
-
-pub overflow_sub-end-3 : goal.overflow_sub-end-3
-overflow_sub-end-3 c = omega (arith, places (goal.at.overflow_sub-end-3 c).Start)
+zero_out-requires c = omega (arith, places (goal.at.zero_out-requires c).Start, c.copy_within.ensures.len)
 
 pub put_u2-requires : goal.put_u2-requires
 put_u2-requires c =
@@ -48,7 +51,7 @@ pub returns : goal.returns
 returns c =
     let end = c.args.end in
     let n = c.args.next - c.args.at in
-    let e : c.zero_out.new.store ≡ paste c.move_up.new.store (end - n) (replicate n 0) n = c.zero_out.ensures in
+    let e : c.zero_out.new.store ≡ paste c.copy_within.new.self (end - n) (replicate n 0) n = c.zero_out.ensures in
     cut.cut_is c.args.store.now _ end c.args.at c.args.next n c.requires refl
     (c.put_u2.ensures ∙ ap (λ (t : Bytes). paste t 5 (two (end - n)) 2)
-    (e ∙ ap (λ (t : Bytes). paste t (end - n) (replicate n 0) n) c.move_up.ensures))
+    (e ∙ ap (λ (t : Bytes). paste t (end - n) (replicate n 0) n) c.copy_within.ensures.after))

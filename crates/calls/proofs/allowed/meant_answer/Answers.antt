@@ -6,6 +6,7 @@ use Rattle.homes.specs.Homes.{aid_at}
 use Rattle.homes.proofs.Lookups.{there_bounds}
 use Rattle.calls.specs.Named.{CallNamedIs}
 use Rattle.calls.specs.Rights.{CallAllowedIs}
+use Rattle.refusals.proofs.Said.{reference_before, policy_before}
 use Rattle.calls.proofs.Asked as asked
 use Rattle.calls.proofs.Forms as forms
 use Rattle.calls.proofs.Rights as rights
@@ -44,7 +45,7 @@ named_well-requires c =
 
 pub returns-then-not-named_well : goal.returns-then-not-named_well
 returns-then-not-named_well c =
-    record { call_number_is = asked.call_18 c.args.c.kind (subst (Named (goal.at.returns-then-not-named_well c).Start) (c.if-not-named_well.true) (well (goal.at.returns-then-not-named_well c).After-named_well)); map_true_2 = c.requires.map_true }
+    record { call_number_is = asked.call_18 c.args.c.kind (subst (Named (goal.at.returns-then-not-named_well c).Start) (c.if-not-named_well.true) (well (goal.at.returns-then-not-named_well c).After-named_well)); before = reference_before; map_true_2 = c.requires.map_true }
 
 pub callee_allows-requires : goal.callee_allows-requires
 callee_allows-requires c =
@@ -53,9 +54,9 @@ callee_allows-requires c =
 pub returns-then-not-callee_allows : goal.returns-then-not-callee_allows
 returns-then-not-callee_allows c =
     let no = subst (Allowed (goal.at.returns-then-not-callee_allows c).Start) (c.if-not-callee_allows.true) (allows (goal.at.returns-then-not-callee_allows c).After-callee_allows) in
-    record { call_number_is = asked.call_19 c.args.c.kind (yes-named (goal.at.returns-then-not-callee_allows c).Else-not-named_well) no; map_true_2 = c.callee_allows.ensures.map_true_2 }
+    record { call_number_is = asked.call_19 c.args.c.kind (yes-named (goal.at.returns-then-not-callee_allows c).Else-not-named_well) no; before = policy_before; map_true_2 = c.callee_allows.ensures.map_true_2 }
 
 pub returns : goal.returns
 returns c =
     let allowed = subst (Allowed (goal.at.returns c).Start) (c.if-not-callee_allows.false) (allows (goal.at.returns c).After-callee_allows) in
-    record { call_number_is = asked.call_0 c.args.c.kind (yes-named (goal.at.returns c).Else-not-named_well) allowed; map_true_2 = c.callee_allows.ensures.map_true_2 }
+    record { call_number_is = asked.call_0 c.args.c.kind (yes-named (goal.at.returns c).Else-not-named_well) allowed; before = tt; map_true_2 = c.callee_allows.ensures.map_true_2 }

@@ -6,6 +6,7 @@ use Rattle.references.specs.Kept.{is_told, in_group, told_in}
 use Rattle.references.specs.declared.Told.{Told}
 use Rattle.references.proofs.Filled.{told_true, told_stays}
 use Rattle.calls.specs.Calls.{with_table}
+use Rattle.refusals.proofs.Said.{reference_before}
 use Rattle.calls.proofs.Asked as asked
 use Rattle.calls.proofs.Forms as forms
 use Rattle.calls.proofs.walk.call_answer.Goals as goal
@@ -33,7 +34,7 @@ pub returns-then-not-in_group : goal.returns-then-not-in_group
 returns-then-not-in_group c =
     let a = c.args in
     let no = sym c.in_group.ensures ∙ c.if-not-in_group.true in
-    record { call_number_is = asked.call_passed (with_table a.a.group a.kept.now) a.c.kind a.c.reference no; map_true_2 = c.requires.map_true; same_told = told_stays refl }
+    record { call_number_is = asked.call_passed (with_table a.a.group a.kept.now) a.c.kind a.c.reference no; before = tt; map_true_2 = c.requires.map_true; same_told = told_stays refl }
 
 pub told_in-requires : goal.told_in-requires
 told_in-requires c = (c.requires.kept_true.size, there c)
@@ -52,18 +53,18 @@ returns-in-Method c =
     let known = ap is_told (is-told (goal.at.returns-in-Method c).After-told_in _ c.in-Method.is) in
     let which = with_table a.a.group a.kept.now in
     let answer = asked.call_asked which a.c.kind a.c.reference (there (goal.at.returns-in-Method c).Else-not-in_group) known _ c.meant_answer.ensures.call_number_is in
-    record { call_number_is = answer; map_true_2 = c.meant_answer.ensures.map_true_2; same_told = told_stays refl }
+    record { call_number_is = answer; before = c.meant_answer.ensures.before; map_true_2 = c.meant_answer.ensures.map_true_2; same_told = told_stays refl }
 
 pub returns-in-Nothing : goal.returns-in-Nothing
 returns-in-Nothing c =
     let a = c.args in
     let none = asked.call_18 a.c.kind (forms.call_unnamed a.c.kind (told (goal.at.returns-in-Nothing c).After-told_in _ c.in-Nothing.is)) in
     let which = with_table a.a.group a.kept.now in
-    record { call_number_is = asked.call_asked which a.c.kind a.c.reference (there (goal.at.returns-in-Nothing c).Else-not-in_group) (ap is_told (is-told (goal.at.returns-in-Nothing c).After-told_in _ c.in-Nothing.is)) _ none; map_true_2 = c.requires.map_true; same_told = told_stays refl }
+    record { call_number_is = asked.call_asked which a.c.kind a.c.reference (there (goal.at.returns-in-Nothing c).Else-not-in_group) (ap is_told (is-told (goal.at.returns-in-Nothing c).After-told_in _ c.in-Nothing.is)) _ none; before = reference_before; map_true_2 = c.requires.map_true; same_told = told_stays refl }
 
 pub returns-in-Open : goal.returns-in-Open
 returns-in-Open c =
     let a = c.args in
     let open_told = ap is_told (is-told (goal.at.returns-in-Open c).After-told_in _ c.in-Open.is) in
     let which = with_table a.a.group a.kept.now in
-    record { call_number_is = asked.call_open which a.c.kind a.c.reference (there (goal.at.returns-in-Open c).Else-not-in_group) open_told; map_true_2 = c.requires.map_true; same_told = c.want_in.ensures }
+    record { call_number_is = asked.call_open which a.c.kind a.c.reference (there (goal.at.returns-in-Open c).Else-not-in_group) open_told; before = reference_before; map_true_2 = c.requires.map_true; same_told = c.want_in.ensures }

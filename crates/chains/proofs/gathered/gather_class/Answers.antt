@@ -2,6 +2,7 @@
 use Rattle.files.proofs.Steps as steps
 use Rattle.chains.proofs.Gathering as gathering
 use native.Mathlib.Omega.{arith}
+use Prim.Native.Nat.{◌-◌}
 use Rattle.chains.proofs.gathered.gather_class.Goals as goal
 
 pub methods_of-start-requires : goal.methods_of-start-requires
@@ -16,53 +17,47 @@ pub overflow_add-m : goal.overflow_add-m
 overflow_add-m c =
     omega (arith, steps.methods_in_lem (steps.methods_there c.methods_of-start.ensures c.requires.record_there.0))
 
-pub loop-left-init : goal.loop-left-init
-loop-left-init c =
+pub loop-init : goal.loop-init
+loop-init c =
     let a = c.args in
-    gathering.gathering_start a.g.now a.t.now a.names.now c.methods_of-start.result a.base a.a a.e c.requires.record_there.1 c.wide-left.result
-    c.wide-left.ensures.0 (steps.methods_there c.methods_of-start.ensures c.requires.record_there.0) c.requires.sorted.0
+    gathering.gathering_start a.g.now a.t.now a.names.now c.methods_of-start.result a.base a.a a.e c.requires.record_there.1 (c.from-end.result - 0)
+    (omega (arith, c.from-end.ensures)) (steps.methods_there c.methods_of-start.ensures c.requires.record_there.0) c.requires.sorted.0
 
 pub add_method-to-requires : goal.add_method-to-requires
 add_method-to-requires c =
     let a = c.args in
     record {
       method_here = (
-        gathering.gathering_here a.g.now a.t.now a.names.now c.methods_of-start.result a.base a.a a.e c.requires.record_there.1 c.loop-left.names
-            c.loop-left.left c.loop-left.m c.loop-left.to c.loop-left.invariant c.loop-left-test.true (steps.methods_there c.methods_of-start.ensures c.requires.record_there.0),
+        gathering.gathering_here a.g.now a.t.now a.names.now c.methods_of-start.result a.base a.a a.e c.requires.record_there.1 c.loop.names
+            (c.from-end.result - c.loop.counter) c.loop.m c.loop.to c.loop.invariant (omega (arith, c.loop-test.true)) (steps.methods_there c.methods_of-start.ensures c.requires.record_there.0),
         c.requires.record_there.1,
       );
       sorted = (
-        c.loop-left.invariant.sorted,
+        c.loop.invariant.sorted,
         gathering.gathering_room a.g.now a.t.now a.names.now c.methods_of-start.result a.base a.a a.e c.requires.record_there.1
-            c.loop-left.names c.loop-left.left c.loop-left.m c.loop-left.to c.loop-left.invariant c.loop-left-test.true c.requires.sorted.1,
+            c.loop.names (c.from-end.result - c.loop.counter) c.loop.m c.loop.to c.loop.invariant (omega (arith, c.loop-test.true)) c.requires.sorted.1,
       );
     }
 
 pub after_method-m-requires : goal.after_method-m-requires
 after_method-m-requires c =
     let a = c.args in
-    gathering.gathering_here a.g.now a.t.now a.names.now c.methods_of-start.result a.base a.a a.e c.requires.record_there.1 c.loop-left.names
-    c.loop-left.left c.loop-left.m c.loop-left.to c.loop-left.invariant c.loop-left-test.true (steps.methods_there c.methods_of-start.ensures c.requires.record_there.0)
+    gathering.gathering_here a.g.now a.t.now a.names.now c.methods_of-start.result a.base a.a a.e c.requires.record_there.1 c.loop.names
+    (c.from-end.result - c.loop.counter) c.loop.m c.loop.to c.loop.invariant (omega (arith, c.loop-test.true)) (steps.methods_there c.methods_of-start.ensures c.requires.record_there.0)
 
-pub overflow_sub-left : goal.overflow_sub-left
-overflow_sub-left c = omega arith
-
-pub loop-left-smaller : goal.loop-left-smaller
-loop-left-smaller c = omega arith
-
-pub loop-left-preserved : goal.loop-left-preserved
-loop-left-preserved c =
+pub loop-preserved : goal.loop-preserved
+loop-preserved c =
     let a = c.args in
-    gathering.gathering_step a.g.now a.t.now a.names.now c.methods_of-start.result a.base a.a a.e c.requires.record_there.1 c.loop-left.names
-    c.loop-left.left c.loop-left.m c.loop-left.to c.loop-left.invariant c.loop-left-test.true (steps.methods_there c.methods_of-start.ensures c.requires.record_there.0)
-    c.add_method-to.new.names c.add_method-to.result c.after_method-m.result c.after_method-m.ensures c.add_method-to.ensures
+    gathering.gathering_step a.g.now a.t.now a.names.now c.methods_of-start.result a.base a.a a.e c.requires.record_there.1 c.loop.names
+    (c.from-end.result - c.loop.counter) c.loop.m c.loop.to c.loop.invariant (omega (arith, c.loop-test.true)) (steps.methods_there c.methods_of-start.ensures c.requires.record_there.0)
+    c.add_method-to.new.names c.add_method-to.result c.after_method-m.result c.after_method-m.ensures _ (omega arith) c.add_method-to.ensures
 
 pub shape_of-names : goal.shape_of-names
-shape_of-names c = c.loop-left.invariant.size
+shape_of-names c = c.loop.invariant.size
 
 pub returns : goal.returns
 returns c =
     let a = c.args in
     gathering.gathering_end a.g.now a.t.now a.names.now c.methods_of-start.result a.base a.a a.e c.requires.record_there.1
-    c.loop-left.names c.loop-left.left c.loop-left.m c.loop-left.to a.c c.loop-left.invariant c.loop-left-test.false
+    c.loop.names (c.from-end.result - c.loop.counter) c.loop.m c.loop.to a.c c.loop.invariant (omega (arith, c.loop-test.false))
     c.methods_of-start.ensures

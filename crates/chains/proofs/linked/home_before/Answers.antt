@@ -4,7 +4,7 @@ use native.Mathlib.Omega.{arith}
 use Rattle.chains.proofs.linked.home_before.Goals as goal
 
 pub loop-k-init : goal.loop-k-init
-loop-k-init c = (omega arith, λ j u v. absurd (omega arith))
+loop-k-init c = λ j u v. absurd (omega arith)
 
 pub link_home-h-requires : goal.link_home-h-requires
 link_home-h-requires c =
@@ -13,26 +13,15 @@ link_home-h-requires c =
 pub returns-then-h-q : goal.returns-then-h-q
 returns-then-h-q c =
     let a = c.args in
-    running.home_found a.names.now a.i a.q c.loop-k.k c.loop-k.invariant.1 c.link_home-h.result c.loop-k.invariant.0 c.link_home-h.ensures c.if-h-q.true
-
-pub overflow_add-k : goal.overflow_add-k
-overflow_add-k c =
-    omega (arith, c.loop-k-test.true)
-
-pub loop-k-smaller : goal.loop-k-smaller
-loop-k-smaller c =
-    omega (arith, c.loop-k-test.true)
+    running.home_found a.names.now a.i a.q c.loop-k.k c.loop-k.invariant c.link_home-h.result c.loop-k.auto.k c.link_home-h.ensures c.if-h-q.true
 
 pub loop-k-preserved : goal.loop-k-preserved
 loop-k-preserved c =
-    let a = c.args in (
-      omega (arith, c.loop-k.invariant.0),
-      running.home_next a.names.now a.i a.q c.loop-k.k c.loop-k.invariant.1 c.link_home-h.result c.link_home-h.ensures
-          c.if-h-q.false,
-    )
+    let a = c.args in
+    running.home_next a.names.now a.i a.q c.loop-k.k c.loop-k.invariant c.link_home-h.result c.link_home-h.ensures c.if-h-q.false
 
 pub returns : goal.returns
 returns c =
     let a = c.args in
-    running.home_none a.names.now a.i a.q c.loop-k.k c.loop-k.invariant.1 (record { from = 0; to = 0; before = 0 })
+    running.home_none a.names.now a.i a.q c.loop-k.k c.loop-k.invariant (record { from = 0; to = 0; before = 0 })
     c.requires.0 c.loop-k-test.false

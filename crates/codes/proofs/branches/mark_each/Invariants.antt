@@ -9,11 +9,8 @@ use Rattle.bits.specs.Bits.{bit_at}
 use Rattle.codes.specs.Marks.{Adds}
 use Rattle.codes.proofs.branches.mark_each.Given as goal
 
-abbrev pub invariant-loop-left : goal.invariant-loop-left
-invariant-loop-left l =
-    (length l.targets ≡ length l.initial.targets) × (l.field + l.step * l.left ≤ length l.code + (l.step - 2))
-    × ((new : Bytes) (r : Bool) → Adds (length l.code) (bit_at l.targets) new r (targets_each l.left l.code l.at l.field l.step) → Adds (length l.code)
+abbrev pub invariant-loop : goal.invariant-loop
+invariant-loop l =
+    (length l.targets ≡ length l.initial.targets) × (l.field + l.step * (l.n - l.counter) ≤ length l.code + (l.step - 2))
+    × ((new : Bytes) (r : Bool) → Adds (length l.code) (bit_at l.targets) new r (targets_each (l.n - l.counter) l.code l.at l.field l.step) → Adds (length l.code)
     (bit_at l.initial.targets) new r (targets_each l.n l.code l.at l.first l.step))
-
-abbrev pub decreases-loop-left : goal.decreases-loop-left
-decreases-loop-left l = l.left

@@ -2,15 +2,14 @@
 use native.Mathlib.Omega.{arith}
 use Rattle.cursor.proofs.Aids.{too_short, too_long, made}
 use Rattle.cursor.proofs.Aid.from_bytes.Goals as goal
-use Rattle.cursor.proofs.Aid.from_bytes.Goals.{Start}
 
-pub returns-then-s-lt-MIN : goal.returns-then-s-lt-MIN
-returns-then-s-lt-MIN c =
-    too_short c.args.s.now _ (omega arith)
+pub returns-then-len-lt-MIN : goal.returns-then-len-lt-MIN
+returns-then-len-lt-MIN c =
+    too_short c.args.s.now (omega arith)
 
-pub returns-then-s-gt-MAX : goal.returns-then-s-gt-MAX
-returns-then-s-gt-MAX c =
-    too_long c.args.s.now _ (omega arith) (omega arith)
+pub returns-then-len-gt-MAX : goal.returns-then-len-gt-MAX
+returns-then-len-gt-MAX c =
+    too_long c.args.s.now (omega arith) (omega arith)
 
 pub returns : goal.returns
 returns c =

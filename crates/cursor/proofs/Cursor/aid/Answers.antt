@@ -2,18 +2,17 @@
 use native.Mathlib.Omega.{arith}
 use Rattle.cursor.proofs.Fields.{aid_ends, aid_low, aid_high, aid_cut, aid_says}
 use Rattle.cursor.proofs.Cursor.aid.Goals as goal
-use Rattle.cursor.proofs.Cursor.aid.Goals.{After-wide-n, Start}
 
 pub returns-then-s-at : goal.returns-then-s-at
 returns-then-s-at c =
     aid_ends c.args.s.now c.args.self.at.0 (omega arith)
 
-pub returns-then-n-lt-MIN : goal.returns-then-n-lt-MIN
-returns-then-n-lt-MIN c =
+pub returns-then-len-lt-MIN : goal.returns-then-len-lt-MIN
+returns-then-len-lt-MIN c =
     aid_low c.args.s.now c.args.self.at.0 (omega arith) (omega arith)
 
-pub returns-then-n-gt-MAX : goal.returns-then-n-gt-MAX
-returns-then-n-gt-MAX c =
+pub returns-then-len-gt-MAX : goal.returns-then-len-gt-MAX
+returns-then-len-gt-MAX c =
     aid_high c.args.s.now c.args.self.at.0 (omega arith) (omega arith) (omega arith)
 
 pub returns-then-s-start : goal.returns-then-s-start
@@ -22,4 +21,4 @@ returns-then-s-start c =
 
 pub returns : goal.returns
 returns c =
-    aid_says c.args.s.now c.args.self.at.0 (omega arith) (omega arith) (omega arith) (omega arith) c.wide-n.result c.wide-n.ensures.0
+    rw c.new.ensures (aid_says c.args.s.now c.args.self.at.0 (omega arith) (omega arith) (omega arith) (omega arith) c.from-len.result c.from-len.ensures)

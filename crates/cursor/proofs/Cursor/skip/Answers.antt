@@ -11,4 +11,4 @@ returns-then-s-at c =
 
 pub returns : goal.returns
 returns c =
-    span_stops c.args.n c.args.s.now c.args.self.at.0 (omega arith)
+    rw c.new.ensures (span_stops c.args.n c.args.s.now c.args.self.at.0 (omega arith))

@@ -6,7 +6,7 @@ use Rattle.cursor.proofs.Cursor.u1.Goals.{Start}
 
 pub returns-then-at-s : goal.returns-then-at-s
 returns-then-at-s c =
-    rw c.wide.ensures.0 (u1_says c.args.s.now c.args.self.at.0 (omega arith))
+    rw (c.new.ensures, c.from.ensures) (u1_says c.args.s.now c.args.self.at.0 (omega arith))
 
 pub returns-else-at-s : goal.returns-else-at-s
 returns-else-at-s c =

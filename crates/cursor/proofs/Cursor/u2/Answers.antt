@@ -14,4 +14,4 @@ returns-then-len-at c =
 
 pub returns : goal.returns
 returns c =
-    rw c.u2_at.ensures.0 (u2_says c.args.s.now c.args.self.at.0 (omega arith))
+    rw (c.new.ensures, c.u2_at.ensures.0) (u2_says c.args.s.now c.args.self.at.0 (omega arith))

@@ -41,12 +41,6 @@ returns-then-not-parent_exists c =
       rows_true = c.parent_exists.ensures.rows_true;
     }
 
-pub overflow_add-i : goal.overflow_add-i
-overflow_add-i c = omega (arith, c.parent_count-k.ensures.1, c.loop-i-test.true)
-
-pub loop-i-smaller : goal.loop-i-smaller
-loop-i-smaller c = omega (arith, c.loop-i-test.true)
-
 pub loop-i-preserved : goal.loop-i-preserved
 loop-i-preserved c = (
   exist.exist_more _ _ _ _ _ c.requires.class_from _ _ _ _ c.parent_count-k.ensures.0 c.loop-i-test.true c.parent_at-x.ensures.0

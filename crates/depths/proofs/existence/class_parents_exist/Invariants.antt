@@ -1,5 +1,4 @@
 -- `depths::existence::class_parents_exist` meets its contract: a turn for each parent, those before it exist. Assumes nothing.
-use Prim.Native.Nat.{◌-◌}
 use mathlib.Core.Path.{◌≡◌}
 use lib.ListN.{length}
 use Rattle.named.specs.Named.{RowsTrue}
@@ -8,6 +7,3 @@ use Rattle.depths.proofs.existence.class_parents_exist.Given as goal
 
 abbrev pub invariant-loop-i : goal.invariant-loop-i
 invariant-loop-i l = exist.ExistLeft l.f l.s l.o.end l.o.number l.i × RowsTrue l.f l.s l.o.end l.places l.rows × (length l.rows ≡ length l.initial.rows)
-
-abbrev pub decreases-loop-i : goal.decreases-loop-i
-decreases-loop-i l = l.k - l.i

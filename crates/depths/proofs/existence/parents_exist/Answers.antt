@@ -10,7 +10,7 @@ use Rattle.depths.specs.Depths.{AllExist}
 use Rattle.depths.proofs.ByNumber.{not_true, not_false}
 use Rattle.depths.proofs.Exist as exist
 use Rattle.depths.proofs.existence.parents_exist.Goals as goal
-use Rattle.depths.proofs.existence.parents_exist.Goals.{After-class_parents_exist, After-stands_at, In-At, Start}
+use Rattle.depths.proofs.existence.parents_exist.Goals.{After-class_parents_exist, After-stands_at, In-Some, Start}
 
 -- the file reads
 reads : (b : Start) → Readable b.args.f.now
@@ -23,13 +23,13 @@ rows_true : (k : After-stands_at) →
 rows_true k = exist.own_written _ _ _ _ _ _ k.stands_at.auto.rows k.loop-place.invariant.1 k.stands_at.ensures.row_true
 
 -- the class of the turn stands at the place found; its number is below 32
-stands : (k : In-At) →
-    ClassFrom k.args.f.now k.loop-place.n k.in-At.place
+stands : (k : In-Some) →
+    ClassFrom k.args.f.now k.loop-place.n k.in-Some.place
 stands k =
-    subst (ClassStands k.args.f.now k.loop-place.n) k.in-At.is k.stands_at.ensures.class_stands
+    subst (ClassStands k.args.f.now k.loop-place.n) k.in-Some.is k.stands_at.ensures.class_stands
 
-few : (k : In-At) → k.loop-place.n < 32
-few k = exist.own_few _ _ _ (reads (goal.at.In-At k).Start) (stands k)
+few : (k : In-Some) → k.loop-place.n < 32
+few k = exist.own_few _ _ _ (reads (goal.at.In-Some k).Start) (stands k)
 
 -- whether its parents exist, by the answer; the rows are as long as at the start
 said : (k : After-class_parents_exist) (r : Bool) → k.class_parents_exist.result ≡ r →
@@ -55,33 +55,33 @@ stands_at-requires c = (reads (goal.at.stands_at-requires c).Start, exist.own_ro
 
 pub class_parents_exist-requires : goal.class_parents_exist-requires
 class_parents_exist-requires c =
-    record { judged = c.requires.judged; import_count = (c.import_count-imports.ensures, rows_true (goal.at.class_parents_exist-requires c).After-stands_at); class_from = stands (goal.at.class_parents_exist-requires c).In-At }
+    record { judged = c.requires.judged; import_count = (c.import_count-imports.ensures, rows_true (goal.at.class_parents_exist-requires c).After-stands_at); class_from = stands (goal.at.class_parents_exist-requires c).In-Some }
 
 pub shape_of-rows-then-not-class_parents_exist : goal.shape_of-rows-then-not-class_parents_exist
 shape_of-rows-then-not-class_parents_exist c = rows_long (goal.at.shape_of-rows-then-not-class_parents_exist c).After-class_parents_exist
 
 pub returns-then-not-class_parents_exist : goal.returns-then-not-class_parents_exist
 returns-then-not-class_parents_exist c =
-    record { parents_exist = exist.classes_bad _ _ _ _ c.loop-place.invariant.0 _ (stands (goal.at.returns-then-not-class_parents_exist c).In-At) (said (goal.at.returns-then-not-class_parents_exist c).After-class_parents_exist _ (not_true _ c.if-not-class_parents_exist.true-raw)); rows_true_2 = c.class_parents_exist.ensures.rows_true }
+    record { parents_exist = exist.classes_bad _ _ _ _ c.loop-place.invariant.0 _ (stands (goal.at.returns-then-not-class_parents_exist c).In-Some) (said (goal.at.returns-then-not-class_parents_exist c).After-class_parents_exist _ (not_true _ c.if-not-class_parents_exist.true-raw)); rows_true_2 = c.class_parents_exist.ensures.rows_true }
 
 pub overflow_add-n : goal.overflow_add-n
-overflow_add-n c = omega (arith, few (goal.at.overflow_add-n c).In-At)
+overflow_add-n c = omega (arith, few (goal.at.overflow_add-n c).In-Some)
 
 pub loop-place-smaller : goal.loop-place-smaller
-loop-place-smaller c = omega (arith, few (goal.at.loop-place-smaller c).In-At)
+loop-place-smaller c = omega (arith, few (goal.at.loop-place-smaller c).In-Some)
 
 pub loop-place-preserved : goal.loop-place-preserved
 loop-place-preserved c = (
-  exist.classes_more _ _ _ _ c.loop-place.invariant.0 _ (stands (goal.at.loop-place-preserved c).In-At) (said (goal.at.loop-place-preserved c).After-class_parents_exist _ (not_false _ c.if-not-class_parents_exist.false-raw)),
+  exist.classes_more _ _ _ _ c.loop-place.invariant.0 _ (stands (goal.at.loop-place-preserved c).In-Some) (said (goal.at.loop-place-preserved c).After-class_parents_exist _ (not_false _ c.if-not-class_parents_exist.false-raw)),
   c.class_parents_exist.ensures.rows_true,
   rows_long (goal.at.loop-place-preserved c).After-class_parents_exist,
-  omega (arith, few (goal.at.loop-place-preserved c).In-At),
+  omega (arith, few (goal.at.loop-place-preserved c).In-Some),
 )
 
-pub shape_of-rows-in-Nothing : goal.shape_of-rows-in-Nothing
-shape_of-rows-in-Nothing c = omega (arith, c.loop-place.invariant.2, c.stands_at.auto.rows)
+pub shape_of-rows : goal.shape_of-rows
+shape_of-rows c = omega (arith, c.loop-place.invariant.2, c.stands_at.auto.rows)
 
-pub returns-in-Nothing : goal.returns-in-Nothing
-returns-in-Nothing c =
-    let none = subst (ClassStands c.args.f.now c.loop-place.n) c.in-Nothing.is c.stands_at.ensures.class_stands in
-    record { parents_exist = exist.classes_done _ _ _ _ c.loop-place.invariant.0 none; rows_true_2 = rows_true (goal.at.returns-in-Nothing c).After-stands_at }
+pub returns : goal.returns
+returns c =
+    let none = subst (ClassStands c.args.f.now c.loop-place.n) c.in_default.is c.stands_at.ensures.class_stands in
+    record { parents_exist = exist.classes_done _ _ _ _ c.loop-place.invariant.0 none; rows_true_2 = rows_true (goal.at.returns c).After-stands_at }

@@ -46,17 +46,11 @@ pub overflow_add-found : goal.overflow_add-found
 overflow_add-found c =
     omega (arith, c.loop-i.invariant.2, c.parent_count-k.ensures.1, c.loop-i-test.true, c.parent_told-w.ensures.kind0is.1)
 
-pub overflow_add-i : goal.overflow_add-i
-overflow_add-i c = omega (arith, c.parent_count-k.ensures.1, c.loop-i-test.true)
-
-pub loop-i-smaller : goal.loop-i-smaller
-loop-i-smaller c = omega (arith, c.loop-i-test.true)
-
 pub loop-i-preserved : goal.loop-i-preserved
 loop-i-preserved c =
     let l = listed (goal.at.loop-i-preserved c).After-parent_at-x in (
       kinds.kinds_more _ _ _ _ _ _ _ _ _ c.loop-i.invariant.0 l.is c.parent_told-w.ensures.kind0is.0,
-      walk.deepest_more _ _ _ _ _ _ _ _ _ _ c.loop-i.invariant.1 l.is c.parent_told-w.ensures.depth_is.0 c.larger-deepest.ensures,
+      walk.deepest_more _ _ _ _ _ _ _ _ _ _ c.loop-i.invariant.1 l.is c.parent_told-w.ensures.depth_is.0 c.max-deepest.ensures,
       omega (arith, c.loop-i.invariant.2, c.parent_told-w.ensures.kind0is.1),
       c.parent_told-w.ensures.rows_true_2,
       omega (arith, c.loop-i.invariant.4, c.parent_told-w.auto.rows),

@@ -11,7 +11,7 @@ use Rattle.named.proofs.Numbers as numbers
 use Rattle.depths.proofs.Width.{width_few, field_room}
 use Rattle.depths.proofs.ByTable as kept
 use Rattle.depths.proofs.parents.parent_told.Goals as goal
-use Rattle.depths.proofs.parents.parent_told.Goals.{After-home_at-h, After-stands_at, In-At, Start}
+use Rattle.depths.proofs.parents.parent_told.Goals.{After-home_at-h, After-stands_at, In-Some, Start}
 
 -- the file is judged over these entries, and the package number is small
 judged : (b : Start) → Judged b.args.f.now b.args.s.now b.args.x.end
@@ -25,9 +25,9 @@ there : (k : After-home_at-h) → HomeThere k.args.f.now k.args.s.now k.home_at-
 there k = numbers.number_at _ _ _ _ k.requires.import_places.0 _ _ k.home_at-h.ensures k.requires.import_places.1 (judged (goal.at.After-home_at-h k).Start)
 
 -- the class stands at the place found
-stands : (k : In-At) → ClassFrom k.file_of-g.result.now k.args.x.class k.in-At.i
+stands : (k : In-Some) → ClassFrom k.file_of-g.result.now k.args.x.class k.in-Some.i
 stands k =
-    subst (ClassStands k.file_of-g.result.now k.args.x.class) k.in-At.is k.stands_at.ensures.class_stands
+    subst (ClassStands k.file_of-g.result.now k.args.x.class) k.in-Some.is k.stands_at.ensures.class_stands
 
 -- the rows are true behind the search
 rows_true : (k : After-stands_at) →
@@ -54,14 +54,14 @@ stands_at-requires c = (
 )
 
 pub bounds-g-i : goal.bounds-g-i
-bounds-g-i c = (stands (goal.at.bounds-g-i c).In-At).inside
+bounds-g-i c = (stands (goal.at.bounds-g-i c).In-Some).inside
 
 pub overflow_add-i : goal.overflow_add-i
-overflow_add-i c = omega (arith, (stands (goal.at.overflow_add-i c).In-At).inside)
+overflow_add-i c = omega (arith, (stands (goal.at.overflow_add-i c).In-Some).inside)
 
-pub bounds-g-i-in-At : goal.bounds-g-i-in-At
-bounds-g-i-in-At c =
-    kept.parent_inside _ _ _ _ c.requires.import_places.0 _ _ _ c.requires.import_places.1 _ c.home_at-h.ensures _ c.file_of-g.ensures (stands (goal.at.bounds-g-i-in-At c).In-At) c.requires.class_there
+pub bounds-g-i-in-Some : goal.bounds-g-i-in-Some
+bounds-g-i-in-Some c =
+    kept.parent_inside _ _ _ _ c.requires.import_places.0 _ _ _ c.requires.import_places.1 _ c.home_at-h.ensures _ c.file_of-g.ensures (stands (goal.at.bounds-g-i-in-Some c).In-Some) c.requires.class_there
 
 pub depth_told-requires : goal.depth_told-requires
 depth_told-requires c =
@@ -69,36 +69,36 @@ depth_told-requires c =
     record {
       c_in_bounds = (
         λ e. (c.requires.class_in_bounds (kept.from_own _ _ _ _ c.requires.import_places.0 _ _ c.requires.import_places.1 _ c.home_at-h.ensures c.requires.class_there e)).0,
-        λ n. let m = kept.parent_room _ _ _ _ c.requires.import_places.0 _ _ _ c.requires.import_places.1 _ c.home_at-h.ensures _ c.file_of-g.ensures (stands (goal.at.depth_told-requires c).In-At) c.requires.class_there n in
+        λ n. let m = kept.parent_room _ _ _ _ c.requires.import_places.0 _ _ _ c.requires.import_places.1 _ c.home_at-h.ensures _ c.file_of-g.ensures (stands (goal.at.depth_told-requires c).In-Some) c.requires.class_there n in
             (omega (arith, m, c.requires.depths_kept.1), field_room a.s.now a.x.width c.requires.depths_kept.2 m c.requires.depths_kept.0.room),
       );
       width_bound = omega (arith, c.requires.depths_kept.2, width_few (store_limits a.s.now).depth);
     }
 
-pub shape_of-rows-in-At : goal.shape_of-rows-in-At
-shape_of-rows-in-At c = c.stands_at.auto.rows
+pub shape_of-rows-in-Some : goal.shape_of-rows-in-Some
+shape_of-rows-in-Some c = c.stands_at.auto.rows
 
-pub returns-in-At : goal.returns-in-At
-returns-in-At c =
+pub returns-in-Some : goal.returns-in-Some
+returns-in-Some c =
     let a = c.args in
     record {
       kind0is = (
-        kept.parent_kind _ _ _ _ c.requires.import_places.0 _ _ _ c.requires.import_places.1 _ c.home_at-h.ensures _ c.file_of-g.ensures (stands (goal.at.returns-in-At c).In-At) _ _ c.wide.ensures.0
+        kept.parent_kind _ _ _ _ c.requires.import_places.0 _ _ _ c.requires.import_places.1 _ c.home_at-h.ensures _ c.file_of-g.ensures (stands (goal.at.returns-in-Some c).In-Some) _ _ c.wide.ensures.0
             c.flag.ensures.0.0 c.flag.ensures.0.1,
         c.flag.ensures.1,
       );
       depth_is = (
-        kept.told_is _ _ _ _ c.requires.import_places.0 _ _ _ c.requires.import_places.1 _ c.home_at-h.ensures _ c.file_of-g.ensures (stands (goal.at.returns-in-At c).In-At) a.depths.now a.t.now c.requires.depths_kept.0
-            (λ z. (c.requires.class_in_bounds z).1) _ _ _ c.wide-in-At.ensures.0 c.requires.depths_kept.2 c.depth_told.ensures.0,
+        kept.told_is _ _ _ _ c.requires.import_places.0 _ _ _ c.requires.import_places.1 _ c.home_at-h.ensures _ c.file_of-g.ensures (stands (goal.at.returns-in-Some c).In-Some) a.depths.now a.t.now c.requires.depths_kept.0
+            (λ z. (c.requires.class_in_bounds z).1) _ _ _ c.wide-in-Some.ensures.0 c.requires.depths_kept.2 c.depth_told.ensures.0,
         c.depth_told.ensures.1,
       );
-      rows_true_2 = rows_true (goal.at.returns-in-At c).After-stands_at;
+      rows_true_2 = rows_true (goal.at.returns-in-Some c).After-stands_at;
     }
 
-pub shape_of-rows-in-Nothing : goal.shape_of-rows-in-Nothing
-shape_of-rows-in-Nothing c = c.stands_at.auto.rows
+pub shape_of-rows-in-None : goal.shape_of-rows-in-None
+shape_of-rows-in-None c = c.stands_at.auto.rows
 
-pub returns-in-Nothing : goal.returns-in-Nothing
-returns-in-Nothing c =
-    let none = subst (ClassStands c.file_of-g.result.now c.args.x.class) c.in-Nothing.is c.stands_at.ensures.class_stands in
+pub returns-in-None : goal.returns-in-None
+returns-in-None c =
+    let none = subst (ClassStands c.file_of-g.result.now c.args.x.class) c.in-None.is c.stands_at.ensures.class_stands in
     absurd (kept.parent_never _ _ _ _ c.requires.import_places.0 c.args.x.pack _ _ c.home_at-h.ensures _ c.file_of-g.ensures c.requires.class_there none)

@@ -1,6 +1,6 @@
 -- `inclusion::order::index_bits` meets its contract: the indexes passed are bits. Assumes nothing.
-use Prim.Native.Nat.{ℕ, ◌+◌, ◌%◌, ◌≤◌}
-use lib.ListN.{length}
+use Prim.Native.Nat.{ℕ, ◌%◌}
+use Rattle.policies.specs.Say.{indexes_at}
 use Rattle.policies.proofs.Gathered as gathered
 use Rattle.inclusion.specs.Order.{slot_as}
 use Rattle.inclusion.proofs.order.index_bits.Given as goal
@@ -9,8 +9,5 @@ use Rattle.inclusion.proofs.order.index_bits.Given as goal
 abbrev pub bit : ℕ → ℕ → ℕ
 bit own k = slot_as own k % 64
 
-abbrev pub invariant-loop-left : goal.invariant-loop-left
-invariant-loop-left l = (l.c + l.left ≤ length l.s) × gathered.Gathered (bit l.own) l.s l.at l.left l.c l.m
-
-abbrev pub decreases-loop-left : goal.decreases-loop-left
-decreases-loop-left l = l.left
+abbrev pub invariant-loop-i : goal.invariant-loop-i
+invariant-loop-i l = gathered.Gathered (bit l.own) (indexes_at l.s l.at) l.i-index l.m

@@ -59,21 +59,21 @@ pub parents_ok-requires : goal.parents_ok-requires
 parents_ok-requires c =
     record { judged = (judged (goal.at.parents_ok-requires c).Else-not-imports_there, c.imports_there.ensures.import_places); rows_true = rows_empty c.args.file.now c.args.s.now c.args.end _ _ refl (zeros 512); depths_kept = (c.requires.indexed.1, c.requires.indexed.2); most_value = (settings.depth_limit _ _ c.limits_of-limits.ensures, c.requires.own_len.0) }
 
-pub returns-in-Yes : goal.returns-in-Yes
-returns-in-Yes c =
+pub returns-in-Some : goal.returns-in-Some
+returns-in-Some c =
     let a = c.args in
-    let yes = subst (ParentedIs a.file.now a.s.now a.end) c.in-Yes.is c.parents_ok.ensures.parented_is in
-    let own = subst (OwnTold a.file.now a.s.now a.end _) c.in-Yes.is c.parents_ok.ensures.own_told in record {
-      parents_answer = parents.parents_yes _ _ _ c.requires.over_some.1 c.requires.over_some.2.0 c.requires.over_some.2.1 (is_new (goal.at.returns-in-Yes c).After-imports_there) (is-imported (goal.at.returns-in-Yes c).Else-not-imports_there) c.in-Yes.depth yes;
+    let yes = subst (ParentedIs a.file.now a.s.now a.end) c.in-Some.is c.parents_ok.ensures.parented_is in
+    let own = subst (OwnTold a.file.now a.s.now a.end _) c.in-Some.is c.parents_ok.ensures.own_told in record {
+      parents_answer = parents.parents_yes _ _ _ c.requires.over_some.1 c.requires.over_some.2.0 c.requires.over_some.2.1 (is_new (goal.at.returns-in-Some c).After-imports_there) (is-imported (goal.at.returns-in-Some c).Else-not-imports_there) c.in-Some.depth yes;
       tables_told = (
         own,
-        depths_fit a.file.now a.s.now a.end c.in-Yes.depth _ (judged (goal.at.returns-in-Yes c).Else-not-imports_there) yes own (omega (arith, c.parents_ok.auto.depths, c.requires.own_len.0)),
+        depths_fit a.file.now a.s.now a.end c.in-Some.depth _ (judged (goal.at.returns-in-Some c).Else-not-imports_there) yes own (omega (arith, c.parents_ok.auto.depths, c.requires.own_len.0)),
         c.imports_there.ensures.import_places,
       );
     }
 
-pub returns-in-No : goal.returns-in-No
-returns-in-No c =
+pub returns-in-None : goal.returns-in-None
+returns-in-None c =
     let a = c.args in
-    let no = subst (ParentedIs a.file.now a.s.now a.end) c.in-No.is c.parents_ok.ensures.parented_is in
-    record { parents_answer = parents.parents_14 _ _ _ c.requires.over_some.1 c.requires.over_some.2.0 c.requires.over_some.2.1 (is_new (goal.at.returns-in-No c).After-imports_there) (is-imported (goal.at.returns-in-No c).Else-not-imports_there) no; tables_told = tt }
+    let no = subst (ParentedIs a.file.now a.s.now a.end) c.in-None.is c.parents_ok.ensures.parented_is in
+    record { parents_answer = parents.parents_14 _ _ _ c.requires.over_some.1 c.requires.over_some.2.0 c.requires.over_some.2.1 (is_new (goal.at.returns-in-None c).After-imports_there) (is-imported (goal.at.returns-in-None c).Else-not-imports_there) no; tables_told = tt }

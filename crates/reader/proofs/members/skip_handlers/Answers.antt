@@ -5,7 +5,7 @@ use mathlib.Core.Option.{none}
 use Rattle.rules.specs.Bytes.{u1, counted}
 use Rattle.rules.specs.Package.{most_handlers, edition1, edition2, edition_of, handler, handlers_if}
 use Rattle.fields.specs.Editions.{edition_if}
-use Rattle.cursor.proofs.Steps.{Leads, said_inside, field_is, field_bad}
+use Rattle.cursor.proofs.Steps.{Leads, said_inside}
 use Rattle.cursor.proofs.Counts.{count_none, count_many, count_leads}
 use Rattle.reader.proofs.Formats.{wide_handler, wide_span, handlers_absent, handlers_first, handlers_lead}
 use Rattle.reader.proofs.members.skip_handlers.Goals as goal
@@ -28,21 +28,19 @@ counts c =
     let edition : edition_of c.args.f.now ≡ edition2 = c.is_second.ensures ∙ ap edition_if c.if-not-is_second.false in
     handlers_lead c.if-not-implemented.false edition
 
-pub returns-in_default : goal.returns-in_default
-returns-in_default c =
-    counts (goal.at.returns-in_default c).Else-not-is_second none (count_none most_handlers handler (field_bad c.in_default.is c.u1.ensures))
+pub returns-in_err-count : goal.returns-in_err-count
+returns-in_err-count c =
+    rw c.from_residual.ensures (counts (goal.at.returns-in_err-count c).Else-not-is_second none (count_none most_handlers handler c.in_err-count.ensures))
 
 pub returns-then-count-gt-MOST_HANDLERS : goal.returns-then-count-gt-MOST_HANDLERS
 returns-then-count-gt-MOST_HANDLERS c =
-    let field = field_is c.in-Is.is c.u1.ensures in
-    counts (goal.at.returns-then-count-gt-MOST_HANDLERS c).Else-not-is_second none (count_many most_handlers handler field (omega arith))
+    counts (goal.at.returns-then-count-gt-MOST_HANDLERS c).Else-not-is_second none (count_many most_handlers handler c.in_ok-count.ensures (omega arith))
 
 pub skip-requires : goal.skip-requires
 skip-requires c =
-    said_inside (field_is c.in-Is.is c.u1.ensures)
+    said_inside c.in_ok-count.ensures
 
 pub returns : goal.returns
 returns c =
-    let field = field_is c.in-Is.is c.u1.ensures in
-    let list = wide_span (wide_handler c.args.f.now) c.in-Is.count c.in-Is.first.at.0 (said_inside field) _ c.skip.ensures in
-    counts (goal.at.returns c).Else-not-is_second _ (count_leads most_handlers handler field (omega arith) _ list)
+    let list = wide_span (wide_handler c.args.f.now) c.in_ok-count.count c.in_ok-count.first.at.0 (said_inside c.in_ok-count.ensures) _ c.skip.ensures in
+    counts (goal.at.returns c).Else-not-is_second _ (count_leads most_handlers handler c.in_ok-count.ensures (omega arith) _ list)

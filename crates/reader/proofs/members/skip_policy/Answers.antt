@@ -1,29 +1,25 @@
 -- `reader::members::skip_policy` meets its contract: FF alone, or the indexes. Assumes nothing.
 use native.Mathlib.Omega.{arith}
-use Rattle.cursor.proofs.Steps.{said_inside, field_is, field_bad}
+use Rattle.cursor.proofs.Steps.{said_inside}
 use Rattle.reader.proofs.Formats.{policy_none, policy_every, policy_many, policy_leads}
 use Rattle.reader.proofs.members.skip_policy.Goals as goal
 
-pub returns-in_default : goal.returns-in_default
-returns-in_default c =
-    λ ds e. policy_none ds (field_bad c.in_default.is c.u1.ensures)
+pub returns-in_err-count : goal.returns-in_err-count
+returns-in_err-count c =
+    λ ds e. rw c.from_residual.ensures (policy_none ds c.in_err-count.ensures)
 
 pub returns-then-count-eq-EVERY : goal.returns-then-count-eq-EVERY
 returns-then-count-eq-EVERY c =
-    let field = field_is c.in-Is.is c.u1.ensures in
-    λ ds e. policy_every ds field (omega arith)
+    λ ds e. policy_every ds c.in_ok-count.ensures (omega arith)
 
 pub returns-then-count-gt-MOST_ALLOWED : goal.returns-then-count-gt-MOST_ALLOWED
 returns-then-count-gt-MOST_ALLOWED c =
-    let field = field_is c.in-Is.is c.u1.ensures in
-    λ ds e. policy_many ds field c.if-count-eq-EVERY.false (omega arith)
+    λ ds e. policy_many ds c.in_ok-count.ensures c.if-count-eq-EVERY.false (omega arith)
 
 pub skip_indexes-requires : goal.skip_indexes-requires
 skip_indexes-requires c =
-    let field = field_is c.in-Is.is c.u1.ensures in
-    said_inside field
+    said_inside c.in_ok-count.ensures
 
 pub returns : goal.returns
 returns c =
-    let field = field_is c.in-Is.is c.u1.ensures in
-    λ ds e. policy_leads ds field c.if-count-eq-EVERY.false (omega arith) _ (c.skip_indexes.ensures ds e)
+    λ ds e. policy_leads ds c.in_ok-count.ensures c.if-count-eq-EVERY.false (omega arith) _ (c.skip_indexes.ensures ds e)

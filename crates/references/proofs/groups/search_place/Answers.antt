@@ -1,7 +1,8 @@
 -- `references::groups::search_place` meets its contract: what is open is searched from the class named, the rest stays Assumes nothing.
 use Prim.Native.Nat.{◌+◌}
 use native.Mathlib.Omega.{arith}
-use mathlib.Core.Path.{◌≡◌, sym, ◌∙◌, ap, subst}
+use mathlib.Core.Path.{◌≡◌, sym, ◌∙◌, subst}
+use mathlib.Core.Bool.{true}
 use Rattle.references.specs.Named.{ToldIs}
 use Rattle.references.specs.Kept.{told_at, is_told}
 use Rattle.references.specs.declared.Told.{Told}
@@ -42,10 +43,7 @@ pub returns-in-Open : goal.returns-in-Open
 returns-in-Open c =
     record { searched_in = filled.searched _ _ _ c.args.x.k c.requires.judged.2 c.search_reference-found.result c.search_reference-found.ensures.reference_is c.keep.ensures (omega (arith, c.keep.auto)); slots_true_2 = c.search_reference-found.ensures.slots_true_2 }
 
-pub returns-in-Method : goal.returns-in-Method
-returns-in-Method c =
-    record { searched_in = filled.not_open _ _ _ c.args.x.k c.requires.judged.2 (ap is_told (is-told (goal.at.returns-in-Method c).After-told_at _ c.in-Method.is)); slots_true_2 = c.requires.slots_true }
-
-pub returns-in-Nothing : goal.returns-in-Nothing
-returns-in-Nothing c =
-    record { searched_in = filled.not_open _ _ _ c.args.x.k c.requires.judged.2 (ap is_told (is-told (goal.at.returns-in-Nothing c).After-told_at _ c.in-Nothing.is)); slots_true_2 = c.requires.slots_true }
+pub returns-in_default : goal.returns-in_default
+returns-in_default c =
+    let done : is_told (told_at c.args.table.now c.args.x.k) ≡ true = subst (λ (r : Told). is_told r ≡ true) c.told_at.ensures (filled.told_unless _ c.in_default.not-Open) in
+    record { searched_in = filled.not_open _ _ _ c.args.x.k c.requires.judged.2 done; slots_true_2 = c.requires.slots_true }

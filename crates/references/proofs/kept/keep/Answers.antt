@@ -5,22 +5,22 @@ use Rattle.references.specs.Kept.{told_of, SmallFound}
 use Rattle.references.specs.declared.Meant.{Meant}
 use Rattle.references.proofs.Table as table
 use Rattle.references.proofs.kept.keep.Goals as goal
-use Rattle.references.proofs.kept.keep.Goals.{In-Method}
+use Rattle.references.proofs.kept.keep.Goals.{In-Some}
 
 -- the declaration
-abbrev meant : In-Method → Meant
-meant k = k.in-Method.m
+abbrev meant : In-Some → Meant
+meant k = k.in-Some.m
 
 pub keep_meant-requires : goal.keep_meant-requires
 keep_meant-requires c =
-    (c.requires.0, c.requires.1, subst SmallFound c.in-Method.is c.requires.2)
+    (c.requires.0, c.requires.1, subst SmallFound c.in-Some.is c.requires.2)
 
-pub returns-in-Method : goal.returns-in-Method
-returns-in-Method c =
-    table.kept_meant_lem c.args.table.now _ c.args.k (omega (arith, c.requires.0, c.requires.1)) (told_of c.args.x) (meant (goal.at.returns-in-Method c).In-Method)
-    (ap told_of c.in-Method.is) c.keep_meant.ensures
+pub returns-in-Some : goal.returns-in-Some
+returns-in-Some c =
+    table.kept_meant_lem c.args.table.now _ c.args.k (omega (arith, c.requires.0, c.requires.1)) (told_of c.args.x) (meant (goal.at.returns-in-Some c).In-Some)
+    (ap told_of c.in-Some.is) c.keep_meant.ensures
 
-pub returns-in-Nothing : goal.returns-in-Nothing
-returns-in-Nothing c =
+pub returns-in-None : goal.returns-in-None
+returns-in-None c =
     table.kept_nothing c.args.table.now _ c.args.k (omega (arith, c.requires.0, c.requires.1)) (told_of c.args.x)
-    (ap told_of c.in-Nothing.is) c.keep_nothing.ensures
+    (ap told_of c.in-None.is) c.keep_nothing.ensures

@@ -1,10 +1,10 @@
 -- `running::visited::package_home` meets its contract: the slot or the index tells the home of a package that is never missing. Assumes nothing.
+use Rattle.std.specs.Prelude.{Some, None}
+use Rattle.std.specs.Prelude.{Option as Optional}
 use Prim.Native.Nat.{◌≤◌}
 use mathlib.Core.Path.{◌≡◌, sym, subst}
 use Rattle.homes.specs.Homes.{HomeThere, NumberedIs}
 use Rattle.homes.specs.declared.Home.{Home}
-use Rattle.homes.specs.declared.HomeFound.{HomeFound}
-use Rattle.homes.specs.declared.HomeFound.TheVariants.{At, Nothing}
 use Rattle.slots.specs.Slots.{SmallHome}
 use Rattle.running.specs.Walk.{visit_home}
 use Rattle.running.proofs.Visits as visits
@@ -12,7 +12,7 @@ use Rattle.running.proofs.visited.package_home.Goals as goal
 use Rattle.running.proofs.visited.package_home.Goals.{After-import_in}
 
 -- the package of the number
-found : (k : After-import_in) (r : HomeFound) → k.import_in.result ≡ r →
+found : (k : After-import_in) (r : Optional Home) → k.import_in.result ≡ r →
     let a = k.args in
     NumberedIs a.f.now a.s.now (visit_home a.v) a.p r
 found k r e =
@@ -30,10 +30,10 @@ import_in-requires c =
     let r = subst (λ (h : Home). HomeThere f s h × (h.before ≤ v.end) × SmallHome h) (sym c.home_of-h.ensures) q in
     record { home_there = (r.0, c.requires.visit_placed.0.slot); indexed = (c.requires.numbered_there.1, r.1); small_home = (r.2, c.requires.visit_placed.1); slots_true = c.requires.slots_true }
 
-pub returns-in-At : goal.returns-in-At
-returns-in-At c =
-    record { numbered_at = found (goal.at.returns-in-At c).After-import_in (At c.in-At.g) c.in-At.is; slots_true_2 = c.import_in.ensures.slots_true_2 }
+pub returns-in-Some : goal.returns-in-Some
+returns-in-Some c =
+    record { numbered_at = found (goal.at.returns-in-Some c).After-import_in (Some c.in-Some.g) c.in-Some.is; slots_true_2 = c.import_in.ensures.slots_true_2 }
 
-pub returns-in-Nothing : goal.returns-in-Nothing
-returns-in-Nothing c =
-    absurd (c.requires.numbered_there.0 (found (goal.at.returns-in-Nothing c).After-import_in Nothing c.in-Nothing.is))
+pub returns-in-None : goal.returns-in-None
+returns-in-None c =
+    absurd (c.requires.numbered_there.0 (found (goal.at.returns-in-None c).After-import_in None c.in-None.is))

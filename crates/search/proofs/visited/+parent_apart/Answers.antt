@@ -1,12 +1,12 @@
 -- `search::visited::parent_apart` meets its contract: the package that the record names, which is never missing, and the class there. It never
 -- calls itself, since no store is that long. Assumes nothing.
+use Rattle.std.specs.Prelude.{Some, None}
+use Rattle.std.specs.Prelude.{Option as Optional}
 use Prim.Native.Nat.{ℕ, ◌≤◌}
 use native.Mathlib.Omega.{arith}
 use mathlib.Core.Path.{◌≡◌, sym, ap, subst}
 use Rattle.homes.specs.Homes.{HomeThere, NumberedIs}
 use Rattle.homes.specs.declared.Home.{Home}
-use Rattle.homes.specs.declared.HomeFound.{HomeFound}
-use Rattle.homes.specs.declared.HomeFound.TheVariants.{At, Nothing}
 use Rattle.classes.specs.declared.ClassSpot.{ClassSpot}
 use Rattle.classes.proofs.Records.{home_there}
 use Rattle.slots.specs.Slots.{SmallHome}
@@ -21,7 +21,7 @@ home_is : {t : ℕ} (k : After-spot_of-c t) → k.spot_of-c.result.home ≡ (vis
 home_is k = ap (λ (d : ClassSpot). d.home) k.spot_of-c.ensures
 
 -- the package that the number stands for, and the class there
-package_is : {t : ℕ} (k : After-import_in t) (r : HomeFound) → k.import_in.result ≡ r →
+package_is : {t : ℕ} (k : After-import_in t) (r : Optional Home) → k.import_in.result ≡ r →
     let a = k.args in
     NumberedIs a.f.now a.s.now (visit_spot a.v).home k.named_in-p.result.pack r
 package_is {t = t} k r e =
@@ -32,10 +32,10 @@ package_is {t = t} k r e =
 
 same_package_lem : {t : ℕ} (k : After-spot_of-c t) → k.named_in-p.result.pack ≡ 0 →
     let a = k.args in
-    NumberedIs a.f.now a.s.now (visit_spot a.v).home k.named_in-p.result.pack (At k.spot_of-c.result.home)
+    NumberedIs a.f.now a.s.now (visit_spot a.v).home k.named_in-p.result.pack (Some k.spot_of-c.result.home)
 same_package_lem k z =
     let a = k.args in
-    subst (λ p. NumberedIs a.f.now a.s.now (visit_spot a.v).home p (At k.spot_of-c.result.home)) (sym z) (ap At (home_is k))
+    subst (λ p. NumberedIs a.f.now a.s.now (visit_spot a.v).home p (Some k.spot_of-c.result.home)) (sym z) (ap Some (home_is k))
 
 pub parent_apart-c-requires : goal.parent_apart-c-requires
 parent_apart-c-requires t c = absurd (omega (arith, c.if-s-gt65535.true, c.requires.parent_inside.1))
@@ -68,15 +68,15 @@ import_in-requires t c =
     record { home_there = (r.0, c.slot_for-k.ensures); indexed = (c.requires.indexed, r.1); small_home = (r.2, c.requires.parent_inside.1); slots_true = c.requires.slots_true }
 
 -- another
-pub class_of-requires-in-At : goal.class_of-requires-in-At
-class_of-requires-in-At t c =
-    visits.parent_small _ _ _ _ c.requires.parent_inside.0 c.requires.parent_inside.1 _ c.named_in-p.ensures _ (package_is (goal.at.class_of-requires-in-At t c).After-import_in _ c.in-At.is)
+pub class_of-requires-2 : goal.class_of-requires-2
+class_of-requires-2 t c =
+    visits.parent_small _ _ _ _ c.requires.parent_inside.0 c.requires.parent_inside.1 _ c.named_in-p.ensures _ (package_is (goal.at.class_of-requires-2 t c).After-import_in _ c.in-Some.is)
 
-pub returns-in-At : goal.returns-in-At
-returns-in-At t c =
-    let is = package_is (goal.at.returns-in-At t c).After-import_in _ c.in-At.is in
-    record { parent_is = visits.parent_told _ _ _ _ c.requires.parent_inside.0 c.requires.parent_inside.1 _ c.named_in-p.ensures _ is _ c.class_of-in-At.ensures; slots_true_2 = c.import_in.ensures.slots_true_2 }
+pub returns : goal.returns
+returns t c =
+    let is = package_is (goal.at.returns t c).After-import_in _ c.in-Some.is in
+    record { parent_is = visits.parent_told _ _ _ _ c.requires.parent_inside.0 c.requires.parent_inside.1 _ c.named_in-p.ensures _ is _ c.class_of-2.ensures; slots_true_2 = c.import_in.ensures.slots_true_2 }
 
-pub returns-in-Nothing : goal.returns-in-Nothing
-returns-in-Nothing t c =
-    absurd (visits.parent_never _ _ _ _ c.requires.parent_inside.0 c.requires.parent_inside.1 _ c.named_in-p.ensures (package_is (goal.at.returns-in-Nothing t c).After-import_in Nothing c.in-Nothing.is))
+pub unreachable-requires : goal.unreachable-requires
+unreachable-requires t c =
+    absurd (visits.parent_never _ _ _ _ c.requires.parent_inside.0 c.requires.parent_inside.1 _ c.named_in-p.ensures (package_is (goal.at.unreachable-requires t c).After-import_in None c.in_default.is))

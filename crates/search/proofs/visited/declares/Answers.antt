@@ -2,11 +2,10 @@
 use Prim.Native.Nat.{◌≤◌}
 use mathlib.Core.Path.{◌≡◌, sym, ◌∙◌, ap, subst}
 use lib.ListN.{length}
-use Rattle.files.specs.Say.{DeclaredPlaced}
 use Rattle.homes.specs.Homes.{file_of}
 use Rattle.classes.specs.declared.ClassSpot.{ClassSpot}
 use Rattle.classes.proofs.Places.{there_bounds}
-use Rattle.search.specs.Walk.{visit_spot}
+use Rattle.search.specs.Walk.{visit_spot, DeclaresIs}
 use Rattle.search.proofs.Visits as visits
 use Rattle.search.proofs.visited.declares.Goals as goal
 use Rattle.search.proofs.visited.declares.Goals.{After-file_of-g}
@@ -25,12 +24,8 @@ file_of-g-requires c =
 pub find_method-requires : goal.find_method-requires
 find_method-requires c = visits.visit_record _ _ _ c.requires _ (file_is (goal.at.find_method-requires c).After-file_of-g)
 
-pub returns-in-At : goal.returns-in-At
-returns-in-At c =
-    let found = subst (DeclaredPlaced c.file_of-g.result.now c.args.v.place c.args.v.name) c.in-At.is c.find_method.ensures in
-    visits.declares_yes _ _ _ c.requires _ (file_is (goal.at.returns-in-At c).After-file_of-g) _ found
-
-pub returns-in-Nothing : goal.returns-in-Nothing
-returns-in-Nothing c =
-    let found = subst (DeclaredPlaced c.file_of-g.result.now c.args.v.place c.args.v.name) c.in-Nothing.is c.find_method.ensures in
-    visits.declares_no _ _ _ c.requires _ (file_is (goal.at.returns-in-Nothing c).After-file_of-g) found
+pub returns : goal.returns
+returns c =
+    let a = c.args in
+    let there = visits.declares_is _ _ _ c.requires _ (file_is (goal.at.returns c).After-file_of-g) _ c.find_method.ensures in
+    subst (DeclaresIs a.f.now a.s.now (visit_spot a.v) a.v.name) (sym c.is_some.ensures) there

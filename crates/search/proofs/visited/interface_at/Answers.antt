@@ -1,6 +1,6 @@
 -- `search::visited::interface_at` meets its contract: the visit of the class, by its kind. Assumes nothing.
 use native.Mathlib.Omega.{arith}
-use mathlib.Core.Path.{sym, subst}
+use mathlib.Core.Path.{refl, sym, subst}
 use mathlib.Core.Bool.{Bool}
 use Rattle.classes.specs.Say.{Kind0Is}
 use Rattle.classes.specs.declared.ClassSpot.{ClassSpot}
@@ -42,12 +42,12 @@ pub bounds-k-0 : goal.bounds-k-0
 bounds-k-0 c =
     omega (arith, records.record_inside _ _ _ _ _ c.record_of-k.ensures (visits.visit_class _ _ _ c.visit_of-w.ensures.visit_of.placed))
 
-pub returns-then-wide-eq1 : goal.returns-then-wide-eq1
-returns-then-wide-eq1 c =
-    let one = kind (goal.at.returns-then-wide-eq1 c).After-record_of-k _ (records.kind_one _ _ _ _ _ c.record_of-k.ensures _ c.wide.ensures.0 c.if-wide-eq1.true) in
-    record { interface_is = interface_told _ _ c.args.v _ c.visit_of-w.result one (visit_is (goal.at.returns-then-wide-eq1 c).After-visit_of-w); slots_true_2 = c.visit_of-w.ensures.slots_true_2 }
+pub returns-then-k-eq1 : goal.returns-then-k-eq1
+returns-then-k-eq1 c =
+    let one = kind (goal.at.returns-then-k-eq1 c).After-record_of-k _ (records.kind_one _ _ _ _ _ c.record_of-k.ensures _ refl c.if-k-eq1.true) in
+    record { interface_is = interface_told _ _ c.args.v _ c.visit_of-w.result one (visit_is (goal.at.returns-then-k-eq1 c).After-visit_of-w); slots_true_2 = c.visit_of-w.ensures.slots_true_2 }
 
 pub returns : goal.returns
 returns c =
-    let zero = kind (goal.at.returns c).After-record_of-k _ (records.kind_zero _ _ _ _ _ c.record_of-k.ensures _ c.wide.ensures.0 c.if-wide-eq1.false) in
+    let zero = kind (goal.at.returns c).After-record_of-k _ (records.kind_zero _ _ _ _ _ c.record_of-k.ensures _ refl c.if-k-eq1.false) in
     record { interface_is = zero; slots_true_2 = c.visit_of-w.ensures.slots_true_2 }

@@ -34,4 +34,4 @@ bounds-c-i-2 c = omega (arith, (inside (goal.at.bounds-c-i-2 c).After-record_of-
 
 pub returns : goal.returns
 returns c =
-    record { bytes = _; is = c.record_of-c.ensures; pack = c.wide.ensures.0; number = c.wide-2.ensures.0; small = c.wide-2.ensures.1 }
+    record { bytes = _; is = c.record_of-c.ensures; pack = c.from.ensures; number = c.from-2.ensures; small = omega (arith, c.from-2.ensures) }

@@ -35,13 +35,6 @@ returns-then-is_kind0 c =
       slots_true_2 = c.is_kind0.ensures.slots_true_2;
     }
 
-pub overflow_add-i : goal.overflow_add-i
-overflow_add-i c =
-    omega (arith, c.parent_count-count.ensures.count_is.1, c.loop-i-test.true)
-
-pub loop-i-smaller : goal.loop-i-smaller
-loop-i-smaller c = omega (arith, c.loop-i-test.true)
-
 pub loop-i-preserved : goal.loop-i-preserved
 loop-i-preserved c =
     let a = c.args in

@@ -1,5 +1,4 @@
 -- `slots::parents::kind0_parent` meets its contract: the loop goes on while no parent passed is of kind 0. Assumes nothing.
-use Prim.Native.Nat.{◌-◌}
 use mathlib.Core.Path.{◌≡◌}
 use lib.ListN.{length}
 use Rattle.classes.proofs.Parents as parents
@@ -8,6 +7,3 @@ use Rattle.slots.proofs.parents.kind0_parent.Given as goal
 
 abbrev pub invariant-loop-i : goal.invariant-loop-i
 invariant-loop-i l = parents.Kind0From l.f l.s l.x.home l.x.number l.i × SlotsTrue l.f l.s l.slots × (length l.slots ≡ length l.initial.slots)
-
-abbrev pub decreases-loop-i : goal.decreases-loop-i
-decreases-loop-i l = l.count - l.i

@@ -31,15 +31,15 @@ import_in-requires c =
     let small = standing.class_small _ _ _ _ c.requires.parent_there.0.class c.requires.parent_there.1 in
     record { home_there = (records.home_there _ _ _ _ c.requires.parent_there.0.class, c.slot_for-k.ensures); indexed = c.requires.indexed; small_home = (small, c.requires.parent_there.1); slots_true = c.record_of-c.ensures.slots_true_2 }
 
-pub returns-in-At : goal.returns-in-At
-returns-in-At c =
+pub returns-in-Some : goal.returns-in-Some
+returns-in-Some c =
     let a = c.args in
-    let found = subst (NumberedIs a.f.now a.s.now a.x.home c.wide-p.result) c.in-At.is c.import_in.ensures.numbered_is in
+    let found = subst (NumberedIs a.f.now a.s.now a.x.home c.wide-p.result) c.in-Some.is c.import_in.ensures.numbered_is in
     record { parent_is = parents.parent_is _ _ _ _ a.i _ c.record_of-c.ensures.record_is _ _ c.wide-p.ensures.0 c.wide-number.ensures.0 _ c.wide-number.ensures.1 found; slots_true_2 = c.import_in.ensures.slots_true_2 }
 
-pub returns-in-Nothing : goal.returns-in-Nothing
-returns-in-Nothing c =
+pub returns-in-None : goal.returns-in-None
+returns-in-None c =
     let a = c.args in
-    let missing = subst (NumberedIs a.f.now a.s.now a.x.home c.wide-p.result) c.in-Nothing.is c.import_in.ensures.numbered_is in
+    let missing = subst (NumberedIs a.f.now a.s.now a.x.home c.wide-p.result) c.in-None.is c.import_in.ensures.numbered_is in
     absurd
     (parents.parent_none _ _ _ _ a.i _ c.record_of-c.ensures.record_is _ _ c.wide-p.ensures.0 c.wide-number.ensures.0 c.requires.parent_there.0 missing)

@@ -4,8 +4,8 @@ use Rattle.store.proofs.Find as found
 use Prim.Native.Nat.{◌-◌}
 use Rattle.store.proofs.subset.keeps_subset.Given as goal
 
-abbrev pub invariant-loop-from : goal.invariant-loop-from
-invariant-loop-from l = found.Walks (is_without_int l.aid) l.s l.end l.at
+abbrev pub invariant-loop-part : goal.invariant-loop-part
+invariant-loop-part l = found.Walks (is_without_int l.aid) l.s l.end l.at
 
-abbrev pub decreases-loop-from : goal.decreases-loop-from
-decreases-loop-from l = l.end - l.at
+abbrev pub decreases-loop-part : goal.decreases-loop-part
+decreases-loop-part l = l.end - l.at

@@ -1,0 +1,2 @@
+-- What a search by halves ensures.
+pub mod Partition
