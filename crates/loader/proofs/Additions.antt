@@ -20,9 +20,6 @@ use Rattle.writing.specs.Changes.{Room, Appended}
 use Rattle.store.proofs.Asked.{size_is}
 use Rattle.judge.specs.Says.{LoadSays}
 use Rattle.std.specs.Prelude.{Ok}
-use Rattle.refusals.specs.declared.refusal.Refusal.{Refusal}
-use Rattle.refusals.specs.Refusals.{number_of}
-use Rattle.refusals.proofs.Numbers.{some_number}
 use Rattle.loader.specs.Promises.{LoadPromise}
 use Rattle.store.proofs.Sound.{sound_store, laid, small, asked_number, asked_done, refused_after}
 
@@ -49,10 +46,11 @@ fresh_limits_lem s t l true h q e = (rw (h, ← q), e ∙ rw (h, ← q))
 fresh_limits_lem s t l false h q e = (rw (h, ← q), e ∙ rw (h, ← q))
 
 -- a load's refusal
-pub load_refused : (s : Bytes) (d : Aid) (f : Bytes) (g : Refusal) → number_of g ≡ number s (load d f) → LoadPromise s d f (number_of g) × (s ≡ after s (load d f))
-load_refused s d f g e =
-    let z : number_of g ≡ 0 → ⊥ = λ y. omega (arith, some_number g, y) in
-    (omega (arith, e, figure_refused s d f (λ y. z (e ∙ y))), refused_after s (load d f) (number_of g) z e)
+pub refused_promise : (s : Bytes) (d : Aid) (f : Bytes) (n : ℕ) → (n ≡ 0 → ⊥) → n ≡ number s (load d f) → LoadPromise s d f n
+refused_promise s d f n z e = omega (arith, e, figure_refused s d f (λ y. z (e ∙ y)))
+
+pub load_refused : (s : Bytes) (d : Aid) (f : Bytes) (n : ℕ) → (n ≡ 0 → ⊥) × (n ≡ number s (load d f)) → LoadPromise s d f n × (s ≡ after s (load d f))
+load_refused s d f n p = (refused_promise s d f n p.0 p.1, refused_after s (load d f) n p.0 p.1)
 
 module _ (s : Bytes) (u : ℕ) (h : SoundAt s u) where
   -- a creation with all questions yes

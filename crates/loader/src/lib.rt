@@ -147,7 +147,7 @@ pub fn loader_load(store: &mut [u8], domain: &[u8], file: &[u8]) -> u32
     ensures store_after { store.new ≡ after store.old (load domain.now file.now) }
 {
     match sound::judge_load(store, domain, file) {
-        Err(e) => e.number(),
+        Err(refusal) => refusal.number(),
         Ok(x) => load_on(store, x.used, domain, file, x.depth),
     }
 }

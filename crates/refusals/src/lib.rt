@@ -9,18 +9,18 @@ ghost use Rattle.refusals.specs.Order.{rank, first_of, first_said};
 use refusal::Refusal;
 
 // Of two answers the one that stands first in the list: a refusal stands before a yes, and of two refusals the one that is asked first; of
-// two that are yes the greater.
+// two that are yes the greater. The second is looked at first: where it is yes, a refusal stays as it stands.
 pub fn first_said<A: Ord + Drop>(a: Result<A, Refusal>, b: Result<A, Refusal>) -> Result<A, Refusal>
     ensures { result ≡ first_said A.Ord.cmp a b }
 {
-    match a {
-        Ok(x) => match b {
-            Ok(y) => Ok(x.max(y)),
-            Err(f) => Err(f),
+    match b {
+        Ok(y) => match a {
+            Ok(x) => Ok(x.max(y)),
+            Err(e) => Err(e),
         },
-        Err(e) => match b {
-            Ok(_) => Err(e),
-            Err(f) => Err(e.min(f)),
+        Err(f) => match a {
+            Ok(_) => Err(f),
+            Err(e) => Err(e.min(f)),
         },
     }
 }

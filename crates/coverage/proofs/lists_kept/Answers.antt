@@ -19,7 +19,7 @@ pub overflow_add-row : goal.overflow_add-row
 overflow_add-row c = omega (arith, place (goal.at.overflow_add-row c).In-Some)
 
 pub bounds-row-l : goal.bounds-row-l
-bounds-row-l c = place (goal.at.bounds-row-l c).In-Some
+bounds-row-l c = omega (arith, place (goal.at.bounds-row-l c).In-Some)
 
 pub returns-in-Some : goal.returns-in-Some
 returns-in-Some c =

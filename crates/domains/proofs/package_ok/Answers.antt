@@ -19,6 +19,12 @@ file b = part b.args.s.now b.args.file b.args.next
 long : (k : After-find) → aid_length (length (aid (goal.at.After-find k).Start)) ≡ true
 long k = sym k.length_ok.ensures ∙ k.if-not-length_ok.false
 
+-- first, so that rt names it where a package too many is taken
+pub returns-then-s-p-ne3 : goal.returns-then-s-p-ne3
+returns-then-s-p-ne3 c =
+    keys.package_full c.args.s.now c.args.at c.args.table.now c.requires.domains_is (aid (goal.at.returns-then-s-p-ne3 c).Start) (file (goal.at.returns-then-s-p-ne3 c).Start)
+    (long (goal.at.returns-then-s-p-ne3 c).After-find) c.in-Some.p c.in-Some.ensures c.if-s-p-ne3.true
+
 pub returns-then-not-length_ok : goal.returns-then-not-length_ok
 returns-then-not-length_ok c =
     keys.short_package c.args.s.now c.args.at c.args.table.now c.requires.domains_is (aid (goal.at.returns-then-not-length_ok c).Start) (file (goal.at.returns-then-not-length_ok c).Start)
@@ -36,11 +42,6 @@ returns-in_default c =
 pub bounds-s-p : goal.bounds-s-p
 bounds-s-p c =
     keys.found_inside c.args.s.now c.args.at c.args.table.now c.requires.domains_is (aid (goal.at.bounds-s-p c).Start) c.in-Some.p c.in-Some.ensures
-
-pub returns-then-s-p-ne3 : goal.returns-then-s-p-ne3
-returns-then-s-p-ne3 c =
-    keys.package_full c.args.s.now c.args.at c.args.table.now c.requires.domains_is (aid (goal.at.returns-then-s-p-ne3 c).Start) (file (goal.at.returns-then-s-p-ne3 c).Start)
-    (long (goal.at.returns-then-s-p-ne3 c).After-find) c.in-Some.p c.in-Some.ensures c.if-s-p-ne3.true
 
 pub returns : goal.returns
 returns c =

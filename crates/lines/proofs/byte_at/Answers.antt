@@ -14,7 +14,7 @@ returns-in_err-low c =
     rw c.from_residual-in_err-low.ensures (no_low c.args.digits.now c.args.at (omega arith) _ c.in_ok-high.ensures c.in_err-low.ensures)
 
 pub overflow_mul-result : goal.overflow_mul-result
-overflow_mul-result c = omega (arith, digit_small _ _ c.in_ok-high.ensures)
+overflow_mul-result c = omega (arith, digit_small _ _ c.in_ok-high.ensures, digit_small _ _ c.in_ok-low.ensures)
 
 pub overflow_add-result : goal.overflow_add-result
 overflow_add-result c = omega (arith, digit_small _ _ c.in_ok-high.ensures, digit_small _ _ c.in_ok-low.ensures)

@@ -36,6 +36,24 @@ class_passes-returns-clause-class_passes t c =
     steps.methods_yes c.args.f.now c.args.s.now c.args.v c.placed-w.result c.placed-w.ensures.placed_is c.parents_pass.result
     c.if-not-methods_apart.ensures c.parents_pass.ensures.parents_pass
 
+-- first of the parents, so that rt names it where one is passed over
+pub parents_pass-loop-i-preserved : goal.parents_pass-loop-i-preserved
+parents_pass-loop-i-preserved t c =
+    let f = c.args.f.now in
+    let s = c.args.s.now in
+    let v = c.args.v in
+    let n = c.parents_in-count in
+    let i = c.loop-i.i in
+    let z = c.loop-i-test.true in
+    let w = c.parent_apart-p.result in
+    let p = c.parent_apart-p.ensures.parent_visit in
+    let passes = c.if-not-class_passes.ensures.class_passes in
+    let more = steps.parent_yes f s v n.result i n.ensures.0 z w p passes c.loop-i.invariant.0 in
+    let set = steps.seen_more f s v n.result i n.ensures.0 z w p c.args.index.now c.args.names.now c.requires.walk_from.0 passes _ _
+    c.class_passes.ensures.seen_pass_2 (omega arith) _ c.bit_of.ensures c.set.ensures in
+    let seen = steps.seen_parent f s v n.result i n.ensures.0 z w p _ set in
+    (more, seen, c.class_passes.ensures.slots_true_2, omega (arith, c.loop-i.invariant.3))
+
 pub parents_pass-parent_apart-p-requires-clause-parent_placed :
     goal.parents_pass-parent_apart-p-requires-clause-parent_placed
 parents_pass-parent_apart-p-requires-clause-parent_placed t c =
@@ -74,23 +92,6 @@ parents_pass-set-requires t c =
     let inside = steps.bit_inside c.args.f.now c.args.s.now c.args.v n.result c.loop-i.i n.ensures.0 c.loop-i-test.true c.parent_apart-p.result
     c.parent_apart-p.ensures.parent_visit c.args.index.now c.args.names.now c.requires.walk_from.0 _ c.class_passes.ensures.seen_pass_2 in
     omega (arith, inside, c.bit_of.ensures)
-
-pub parents_pass-loop-i-preserved : goal.parents_pass-loop-i-preserved
-parents_pass-loop-i-preserved t c =
-    let f = c.args.f.now in
-    let s = c.args.s.now in
-    let v = c.args.v in
-    let n = c.parents_in-count in
-    let i = c.loop-i.i in
-    let z = c.loop-i-test.true in
-    let w = c.parent_apart-p.result in
-    let p = c.parent_apart-p.ensures.parent_visit in
-    let passes = c.if-not-class_passes.ensures.class_passes in
-    let more = steps.parent_yes f s v n.result i n.ensures.0 z w p passes c.loop-i.invariant.0 in
-    let set = steps.seen_more f s v n.result i n.ensures.0 z w p c.args.index.now c.args.names.now c.requires.walk_from.0 passes _ _
-    c.class_passes.ensures.seen_pass_2 (omega arith) _ c.bit_of.ensures c.set.ensures in
-    let seen = steps.seen_parent f s v n.result i n.ensures.0 z w p _ set in
-    (more, seen, c.class_passes.ensures.slots_true_2, omega (arith, c.loop-i.invariant.3))
 
 pub parents_pass-returns-clause-parents_pass : goal.parents_pass-returns-clause-parents_pass
 parents_pass-returns-clause-parents_pass t c =
